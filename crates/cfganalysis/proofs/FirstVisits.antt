@@ -5,26 +5,26 @@ use Rattle.std.proofs.lemmas.Bool.{cases_eq, or_parts}
 use Rattle.lemmas.proofs.Elements.{get_or-set, get_or-replicate_default}
 use Rattle.lemmas.proofs.Passes.{grown}
 use Rattle.derivation.specs.Grammar.{Sym, Rule, Token, Grammar, Production, HasProduction, IsGrammar}
-use Rattle.derivation.specs.FirstSets.{Vanishes, Begins, Covers, IsClosed}
-use Rattle.derivation.specs.First.{First, Empty}
-use Rattle.derivation.proofs.Firsts.{vanishes_map, begins_map, closed_first, closed_empty, derived_closed, vanishes_parts, vanishes_both, begins_parts}
+use Rattle.derivation.specs.FirstSets.{AreNullable, Begins, Covers, IsClosed}
+use Rattle.derivation.specs.First.{First, Nullable}
+use Rattle.derivation.proofs.Firsts.{nullable_map, begins_map, closed_first, closed_empty, derived_closed, nullable_parts, nullable_both, begins_parts}
 use Rattle.search.proofs.Bits.{bit_put, bits_on-fewer, bits_on-set}
-use Rattle.cfgtables.proofs.Placed.{owner}
+use Rattle.cfgtables.proofs.Located.{owner}
 use Rattle.cfganalysis.specs.Firsts.{FirstSets, AreFirsts, IsAmongFirsts, IsEpsilon, epsilon_bit}
-use Rattle.cfganalysis.specs.Inner.GrowingFirsts.{VanishesBy, is_empty_symbol, SayFirsts, HaveFirstsOf, BeginsBy, no_firsts, with_epsilon, HasNoMoreFirsts, HoldsRule, count_firsts}
+use Rattle.cfganalysis.specs.Inner.GrowingFirsts.{AreNullableBy, is_empty_symbol, SayFirsts, HaveFirstsOf, BeginsBy, no_firsts, with_epsilon, HasNoMoreFirsts, HoldsRule, count_firsts}
 use Rattle.cfganalysis.specs.Table.{IsTable, Joins, bits_on}
-use Rattle.cfganalysis.specs.Inner.Growth.{CoversEach, TakesIn}
+use Rattle.cfganalysis.specs.Inner.Growth.{CoversEach, AddsProduction}
 use Rattle.cfganalysis.proofs.Joins.{bit-no_bits, IsTable-no_bits, count_of-fewer}
 use Rattle.cfganalysis.specs.Inner.Waiting.{Waits, NoneWaits}
 
 module _ (E : ℕ → Type 0) (F : ℕ → ℕ → Type 0) where
-  pub begins_front : (a b : List Sym) (t : ℕ) → Begins E F a t → Begins E F (a ++ b) t
-  begins_front [] b t h = absurd h
-  begins_front (Token u ∷ a) b t h = h
-  begins_front (Rule r ∷ a) b t (inl h) = inl h
-  begins_front (Rule r ∷ a) b t (inr h) = inr (h.0, begins_front a b t h.1)
+  pub begins_prefix : (a b : List Sym) (t : ℕ) → Begins E F a t → Begins E F (a ++ b) t
+  begins_prefix [] b t h = absurd h
+  begins_prefix (Token u ∷ a) b t h = h
+  begins_prefix (Rule r ∷ a) b t (inl h) = inl h
+  begins_prefix (Rule r ∷ a) b t (inr h) = inr (h.0, begins_prefix a b t h.1)
 
-  pub begins_past : (a b : List Sym) (t : ℕ) → Vanishes E a → Begins E F b t → Begins E F (a ++ b) t
+  pub begins_past : (a b : List Sym) (t : ℕ) → AreNullable E a → Begins E F b t → Begins E F (a ++ b) t
   begins_past [] b t v h = h
   begins_past (Token u ∷ a) b t v h = absurd v
   begins_past (Rule r ∷ a) b t v h = inr (v.0, begins_past a b t v.1 h)
@@ -34,10 +34,10 @@ contains_rest : (s : Sym) (a : List Sym) (x : Sym) → Contains a x → Contains
 contains_rest s a x h = (suc h.0, omega (arith, h.1), h.2)
 
 -- what is true of the list's rules is enough
-pub vanishes_among : (E E' : ℕ → Type 0) (a : List Sym) → ((r : ℕ) → Contains a (Rule r) → E r → E' r) → Vanishes E a → Vanishes E' a
-vanishes_among E E' [] f h = tt
-vanishes_among E E' (Token u ∷ a) f h = absurd h
-vanishes_among E E' (Rule r ∷ a) f h = (f r (0, omega arith, refl) h.0, vanishes_among E E' a (λ q k. f q (contains_rest (Rule r) a (Rule q) k)) h.1)
+pub nullable_among : (E E' : ℕ → Type 0) (a : List Sym) → ((r : ℕ) → Contains a (Rule r) → E r → E' r) → AreNullable E a → AreNullable E' a
+nullable_among E E' [] f h = tt
+nullable_among E E' (Token u ∷ a) f h = absurd h
+nullable_among E E' (Rule r ∷ a) f h = (f r (0, omega arith, refl) h.0, nullable_among E E' a (λ q k. f q (contains_rest (Rule r) a (Rule q) k)) h.1)
 
 pub begins_among : (E E' : ℕ → Type 0) (F F' : ℕ → ℕ → Type 0) (a : List Sym) (t : ℕ) → ((r : ℕ) → Contains a (Rule r) → E r → E' r)
     → ((r : ℕ) → Contains a (Rule r) → F r t → F' r t) → Begins E F a t → Begins E' F' a t
@@ -50,24 +50,24 @@ begins_among E E' F F' (Rule r ∷ a) t f k (inr h) = inr (
 )
 
 -- the tests say what is true
-pub vanishes_alone : (x : FirstSets) (s : Sym) → is_empty_symbol x s ≡ true → VanishesBy x (s ∷ [])
-vanishes_alone x (Rule r) e = (e, tt)
-vanishes_alone x (Token u) e = absurd (true≢false (sym e))
+pub nullable_alone : (x : FirstSets) (s : Sym) → is_empty_symbol x s ≡ true → AreNullableBy x (s ∷ [])
+nullable_alone x (Rule r) e = (e, tt)
+nullable_alone x (Token u) e = absurd (true≢false (sym e))
 
-pub stays_alone : (x : FirstSets) (s : Sym) → is_empty_symbol x s ≡ false → VanishesBy x (s ∷ []) → ⊥
+pub stays_alone : (x : FirstSets) (s : Sym) → is_empty_symbol x s ≡ false → AreNullableBy x (s ∷ []) → ⊥
 stays_alone x (Rule r) e h = true≢false (sym h.0 ∙ e)
 stays_alone x (Token u) e h = h
 
 -- sets to which a production adds what it gives
 module _ (g : Grammar) (rule : ℕ) (symbols : List Sym) (has : HasProduction g rule symbols) where
-  closed : Covers (Empty (HasProduction g)) (First (HasProduction g)) rule symbols
+  closed : Covers (Nullable (HasProduction g)) (First (HasProduction g)) rule symbols
   closed = derived_closed (HasProduction g) rule symbols has
 
   -- what the production's symbols begin with is what derivations show
-  pub say_first : (x new : FirstSets) (gives : ℕ → ℕ → Type 0) (changed : Bool) → SayFirsts g x → new.epsilons ≡ x.epsilons
+  pub say_first : (x new : FirstSets) (gives : ℕ → ℕ → Type 0) (changed : Bool) → SayFirsts g x → new.nullable ≡ x.nullable
       → Joins gives x.firsts new.firsts changed → ((r t : ℕ) → gives r t → (r ≡ rule) × BeginsBy x symbols t) → SayFirsts g new
   say_first x new gives changed say same joins given = record {
-    fits = record { table = joins.shape g.rules g.tokens say.fits.table; epsilons = ap length same ∙ say.fits.epsilons };
+    fits = record { table = joins.shape g.rules g.tokens say.fits.table; nullable = ap length same ∙ say.fits.nullable };
     first = λ r t on. elim ((joins.bits r t).0 on) [
       | inl i ↦ say.first r t i
       | inr i ↦ let h = given r t i in
@@ -76,13 +76,13 @@ module _ (g : Grammar) (rule : ℕ) (symbols : List Sym) (has : HasProduction g 
     empty = λ r on. say.empty r (sym (ap (λ l. get_or l r false) same) ∙ on);
   }
 
-  pub say_epsilon : (x : FirstSets) → SayFirsts g x → VanishesBy x symbols → SayFirsts g (with_epsilon x rule)
+  pub say_epsilon : (x : FirstSets) → SayFirsts g x → AreNullableBy x symbols → SayFirsts g (with_epsilon x rule)
   say_epsilon x say h = record {
-    fits = record { table = say.fits.table; epsilons = length-set x.epsilons rule true ∙ say.fits.epsilons };
+    fits = record { table = say.fits.table; nullable = length-set x.nullable rule true ∙ say.fits.nullable };
     first = say.first;
-    empty = λ r on. elim (get_or-set x.epsilons rule r true false) [
+    empty = λ r on. elim (get_or-set x.nullable rule r true false) [
       | inl e ↦ say.empty r (sym e ∙ on)
-      | inr k ↦ subst (λ q. Empty (HasProduction g) q) (sym k.0) (closed.empty (vanishes_map _ _ say.empty symbols h))
+      | inr k ↦ subst (λ q. Nullable (HasProduction g) q) (sym k.0) (closed.empty (nullable_map _ _ say.empty symbols h))
     ];
   }
 
@@ -91,7 +91,7 @@ pub say_none : (g : Grammar) (rules tokens : ℕ) → rules ≡ g.rules → toke
 say_none g rules tokens e h = record {
   fits = record {
     table = subst (λ n. IsTable n g.tokens (no_firsts rules tokens).firsts) e (subst (λ n. IsTable rules n (no_firsts rules tokens).firsts) h (IsTable-no_bits rules tokens));
-    epsilons = length-replicate rules false ∙ e;
+    nullable = length-replicate rules false ∙ e;
   };
   first = λ r t on. absurd (true≢false (sym on ∙ bit-no_bits rules tokens r t));
   empty = λ r on. absurd (true≢false (sym on ∙ get_or-replicate_default rules r false));
@@ -111,7 +111,7 @@ are_firsts g x say covered = record {
 
 -- what the symbol begins with was added to the rule's set
 pub record Puts (rule : ℕ) (s : Sym) (old new : FirstSets) (changed : Bool) : Type 0 where
-  pub epsilons : new.epsilons ≡ old.epsilons
+  pub nullable : new.nullable ≡ old.nullable
   pub joins : Joins (λ r t. (r ≡ rule) × BeginsBy old (s ∷ []) t) old.firsts new.firsts changed
 
 -- no set but the rule's grew, and that only by what its production gives
@@ -124,13 +124,13 @@ pub record Grown (rule : ℕ) (symbols : List Sym) (old new : FirstSets) (change
 
 -- what the first n symbols begin with was added to the rule's set
 pub record Walked (rule : ℕ) (symbols : List Sym) (n : ℕ) (old new : FirstSets) (changed : Bool) : Type 0 where
-  pub epsilons : new.epsilons ≡ old.epsilons
+  pub nullable : new.nullable ≡ old.nullable
   pub growth : Grown rule symbols old new changed
   pub given : (t : ℕ) → BeginsBy old (take n symbols) t → IsAmongFirsts new rule t
 
 -- in addition, these symbols are nullable
 pub record Visits (rule : ℕ) (symbols : List Sym) (n : ℕ) (old new : FirstSets) (changed : Bool) : Type 0 where
-  pub vanished : VanishesBy old (take n symbols)
+  pub became_nullable : AreNullableBy old (take n symbols)
   pub walked : Walked rule symbols n old new changed
 
 -- all that the production gives was added
@@ -139,7 +139,7 @@ record Taken (rule : ℕ) (symbols : List Sym) (old new : FirstSets) (changed : 
   given : (t : ℕ) → BeginsBy old symbols t → IsAmongFirsts new rule t
   others_empty : (r : ℕ) → IsEpsilon new r → IsEpsilon old r ⊎ (r ≡ rule)
   kept_empty : (r : ℕ) → IsEpsilon old r → IsEpsilon new r
-  given_empty : VanishesBy old symbols → IsEpsilon new rule
+  given_empty : AreNullableBy old symbols → IsEpsilon new rule
 
 -- only the rule's set grew, and only if something changed
 abbrev pub GainsRule : ℕ → Bool → ℕ → Type 0
@@ -148,10 +148,10 @@ GainsRule rule changed r = (r ≡ rule) × (changed ≡ true)
 module _ (rule : ℕ) (symbols : List Sym) (old new : FirstSets) (changed : Bool) (w : Taken rule symbols old new changed) where
   -- a production that depends on no set that grew gives no more than the sets had given it before
   covered : (q : Production) → ((r : ℕ) → HoldsRule q r → GainsRule rule changed r → ⊥) → ((t : ℕ) → BeginsBy old q.symbols t → IsAmongFirsts new q.rule t)
-      → (VanishesBy old q.symbols → IsEpsilon new q.rule) → HaveFirstsOf new q
+      → (AreNullableBy old q.symbols → IsEpsilon new q.rule) → HaveFirstsOf new q
   covered q none first empty = record {
     first = λ t h. first t (begins_among _ _ _ _ q.symbols t (λ r among on. back_empty r among on) (λ r among on. back r t among on) h);
-    empty = λ h. empty (vanishes_among _ _ q.symbols (λ r among on. back_empty r among on) h);
+    empty = λ h. empty (nullable_among _ _ q.symbols (λ r among on. back_empty r among on) h);
   }
     where
       unless : (r : ℕ) → HoldsRule q r → r ≡ rule → new ≡ old
@@ -167,7 +167,7 @@ module _ (rule : ℕ) (symbols : List Sym) (old new : FirstSets) (changed : Bool
       back_empty : (r : ℕ) → HoldsRule q r → IsEpsilon new r → IsEpsilon old r
       back_empty r among on = elim (w.others_empty r on) [ inl i ↦ i | inr e ↦ subst (λ x. IsEpsilon x r) (unless r among e) on ]
 
-  takes : TakesIn SayFirsts HaveFirstsOf count_firsts HoldsRule HasNoMoreFirsts (record { rule = rule; symbols = symbols }) old new (GainsRule rule changed)
+  takes : AddsProduction SayFirsts HaveFirstsOf count_firsts HoldsRule HasNoMoreFirsts (record { rule = rule; symbols = symbols }) old new (GainsRule rule changed)
   takes = record {
     sound = w.growth.sound;
     no_less = by changed refl;
@@ -185,7 +185,7 @@ module _ (rule : ℕ) (symbols : List Sym) (old new : FirstSets) (changed : Bool
             | inl i ↦ i
             | inr e ↦ subst (λ k. IsAmongFirsts old k t) (h.0 ∙ sym e) (none.first t (subst (λ k. IsAmongFirsts new k t) (e ∙ sym h.0) on))
           ]) in
-          let empty = bits_on-fewer new.epsilons old.epsilons (λ q on. elim (w.others_empty q on) [
+          let empty = bits_on-fewer new.nullable old.nullable (λ q on. elim (w.others_empty q on) [
             | inl i ↦ i
             | inr e ↦ subst (λ k. IsEpsilon old k) (h.0 ∙ sym e) (none.empty (subst (λ k. IsEpsilon new k) (e ∙ sym h.0) on))
           ]) in
@@ -211,15 +211,15 @@ module _ (rule : ℕ) (symbols : List Sym) (old new : FirstSets) (changed : Bool
       by true e = let h = w.growth.more e in omega (arith, h)
       by false e = let h = ap count_firsts (w.growth.same e) in omega (arith, h)
 
-same_sets : (old new : FirstSets) → new.epsilons ≡ old.epsilons → new.firsts ≡ old.firsts → new ≡ old
-same_sets old new e h = ap (λ l. record { firsts = new.firsts; epsilons = l }) e ∙ ap (λ x. record { firsts = x; epsilons = old.epsilons }) h
+same_sets : (old new : FirstSets) → new.nullable ≡ old.nullable → new.firsts ≡ old.firsts → new ≡ old
+same_sets old new e h = ap (λ l. record { firsts = new.firsts; nullable = l }) e ∙ ap (λ x. record { firsts = x; nullable = old.nullable }) h
 
 module _ (rule : ℕ) (symbols : List Sym) where
   pub visits_none : (x : FirstSets) → Visits rule symbols 0 x x false
   visits_none x = record {
-    vanished = tt;
+    became_nullable = tt;
     walked = record {
-      epsilons = refl;
+      nullable = refl;
       growth = record { sound = λ g is has say. say; more = λ e. absurd (true≢false (sym e)); same = λ e. refl; others = λ r t h. inl h; kept = λ r t h. h };
       given = λ t h. absurd h;
     };
@@ -231,50 +231,50 @@ module _ (rule : ℕ) (symbols : List Sym) where
     longer = take_more symbols n s lt ∙ ap (λ y. take n symbols ++ (y ∷ [])) (sym is)
 
     unchanged : d ≡ false → new ≡ mid
-    unchanged e = same_sets mid new one.epsilons (one.joins.same e)
+    unchanged e = same_sets mid new one.nullable (one.joins.same e)
 
     -- the prefix is still nullable, so what the symbol begins with begins the production
     begins_symbols : (t : ℕ) → BeginsBy mid (s ∷ []) t → BeginsBy mid symbols t
     begins_symbols t h = subst (λ l. BeginsBy mid l t) (take-append-drop (n + 1) symbols)
-        (begins_front _ _ (take (n + 1) symbols) (drop (n + 1) symbols) t (subst (λ l. BeginsBy mid l t) (sym longer)
-        (begins_past _ _ (take n symbols) (s ∷ []) t (subst (λ l. Vanishes (λ r. IsTrue (get_or l r false)) (take n symbols)) (sym w.walked.epsilons) w.vanished) h)))
+        (begins_prefix _ _ (take (n + 1) symbols) (drop (n + 1) symbols) t (subst (λ l. BeginsBy mid l t) (sym longer)
+        (begins_past _ _ (take n symbols) (s ∷ []) t (subst (λ l. AreNullable (λ r. IsTrue (get_or l r false)) (take n symbols)) (sym w.walked.nullable) w.became_nullable) h)))
 
     walked : Walked rule symbols (n + 1) old new (c || d)
     walked = record {
-      epsilons = one.epsilons ∙ w.walked.epsilons;
+      nullable = one.nullable ∙ w.walked.nullable;
       growth = record {
-        sound = λ g isg has say. say_first g rule symbols has mid new _ d (w.walked.growth.sound g isg has say) one.epsilons one.joins
+        sound = λ g isg has say. say_first g rule symbols has mid new _ d (w.walked.growth.sound g isg has say) one.nullable one.joins
             (λ r t h. (h.0, begins_symbols t h.1));
         more = grown count_firsts old mid new c d w.walked.growth.more w.walked.growth.same
-            (λ e. let k = one.joins.more e in let b = ap bits_on one.epsilons in omega (arith, k, b)) unchanged;
+            (λ e. let k = one.joins.more e in let b = ap bits_on one.nullable in omega (arith, k, b)) unchanged;
         same = λ e. let b = or_parts c d e in unchanged b.1 ∙ w.walked.growth.same b.0;
         others = λ r t h. elim ((one.joins.bits r t).0 h) [ inl i ↦ w.walked.growth.others r t i | inr i ↦ inr i.0 ];
         kept = λ r t h. (one.joins.bits r t).1 (inl (w.walked.growth.kept r t h));
       };
       given = λ t h. (one.joins.bits rule t).1 (elim (begins_parts _ _ (take n symbols) (s ∷ []) t (subst (λ l. BeginsBy old l t) longer h)) [
         | inl i ↦ inl (w.walked.given t i)
-        | inr i ↦ inr (refl, begins_map _ _ _ _ (λ r on. subst (λ l. IsTrue (get_or l r false)) (sym w.walked.epsilons) on) w.walked.growth.kept (s ∷ []) t i.1)
+        | inr i ↦ inr (refl, begins_map _ _ _ _ (λ r on. subst (λ l. IsTrue (get_or l r false)) (sym w.walked.nullable) on) w.walked.growth.kept (s ∷ []) t i.1)
       ]);
     }
 
     -- the symbol is a nullable rule, or it isn't
     tested : (b : Bool) → is_empty_symbol new s ≡ b → is_empty_symbol old s ≡ b
-    tested b e = subst (λ l. is_empty_symbol (record { firsts = old.firsts; epsilons = l }) s ≡ b) (one.epsilons ∙ w.walked.epsilons) (test_by s e)
+    tested b e = subst (λ l. is_empty_symbol (record { firsts = old.firsts; nullable = l }) s ≡ b) (one.nullable ∙ w.walked.nullable) (test_by s e)
       where
-        test_by : (s : Sym) → is_empty_symbol new s ≡ b → is_empty_symbol (record { firsts = old.firsts; epsilons = new.epsilons }) s ≡ b
+        test_by : (s : Sym) → is_empty_symbol new s ≡ b → is_empty_symbol (record { firsts = old.firsts; nullable = new.nullable }) s ≡ b
         test_by (Rule r) h = h
         test_by (Token u) h = h
 
     pub visits_one : is_empty_symbol new s ≡ true → Visits rule symbols (n + 1) old new (c || d)
     visits_one e = record {
-      vanished = subst (λ l. VanishesBy old l) (sym longer)
-          (vanishes_both _ (take n symbols) (s ∷ []) w.vanished (vanishes_alone old s (tested true e)));
+      became_nullable = subst (λ l. AreNullableBy old l) (sym longer)
+          (nullable_both _ (take n symbols) (s ∷ []) w.became_nullable (nullable_alone old s (tested true e)));
       walked = walked;
     }
 
     -- the visit ends at a symbol that isn't a nullable rule
     pub visits_end : is_empty_symbol new s ≡ false
-        → TakesIn SayFirsts HaveFirstsOf count_firsts HoldsRule HasNoMoreFirsts (record { rule = rule; symbols = symbols }) old new (GainsRule rule (c || d))
+        → AddsProduction SayFirsts HaveFirstsOf count_firsts HoldsRule HasNoMoreFirsts (record { rule = rule; symbols = symbols }) old new (GainsRule rule (c || d))
     visits_end e = takes rule symbols old new (c || d) (record {
       growth = walked.growth;
       given = λ t h. elim (begins_parts _ _ (take (n + 1) symbols) (drop (n + 1) symbols) t
@@ -282,51 +282,51 @@ module _ (rule : ℕ) (symbols : List Sym) where
             | inl i ↦ walked.given t i
             | inr i ↦ absurd (stays i.0)
           ];
-      others_empty = λ r h. inl (subst (λ l. IsTrue (get_or l r false)) walked.epsilons h);
-      kept_empty = λ r h. subst (λ l. IsTrue (get_or l r false)) (sym walked.epsilons) h;
-      given_empty = λ h. absurd (stays (vanishes_parts _ (take (n + 1) symbols) (drop (n + 1) symbols)
-          (subst (λ l. VanishesBy old l) (sym (take-append-drop (n + 1) symbols)) h)).0);
+      others_empty = λ r h. inl (subst (λ l. IsTrue (get_or l r false)) walked.nullable h);
+      kept_empty = λ r h. subst (λ l. IsTrue (get_or l r false)) (sym walked.nullable) h;
+      given_empty = λ h. absurd (stays (nullable_parts _ (take (n + 1) symbols) (drop (n + 1) symbols)
+          (subst (λ l. AreNullableBy old l) (sym (take-append-drop (n + 1) symbols)) h)).0);
     })
       where
-        stays : VanishesBy old (take (n + 1) symbols) → ⊥
-        stays v = stays_alone old s (tested false e) (vanishes_parts _ (take n symbols) (s ∷ []) (subst (λ l. VanishesBy old l) longer v)).1
+        stays : AreNullableBy old (take (n + 1) symbols) → ⊥
+        stays v = stays_alone old s (tested false e) (nullable_parts _ (take n symbols) (s ∷ []) (subst (λ l. AreNullableBy old l) longer v)).1
 
   -- all symbols are nullable, and the rule was marked as nullable
   pub visits_all : (g : Grammar) (n : ℕ) (old mid new : FirstSets) (c d : Bool) → IsGrammar g → HasProduction g rule symbols → SayFirsts g old
       → length symbols ≤ n → Visits rule symbols n old mid c → new ≡ with_epsilon mid rule
       → MatchBool d (epsilon_bit mid rule ≡ false) (epsilon_bit mid rule ≡ true)
-      → TakesIn SayFirsts HaveFirstsOf count_firsts HoldsRule HasNoMoreFirsts (record { rule = rule; symbols = symbols }) old new (GainsRule rule (c || d))
+      → AddsProduction SayFirsts HaveFirstsOf count_firsts HoldsRule HasNoMoreFirsts (record { rule = rule; symbols = symbols }) old new (GainsRule rule (c || d))
   visits_all g n old mid new c d is has say le w put was = takes rule symbols old new (c || d) (record {
     growth = record {
       sound = λ g' is' has' say'. subst (λ x. SayFirsts g' x) (sym put) (say_epsilon g' rule symbols has' mid (w.walked.growth.sound g' is' has' say')
-          (subst (λ l. Vanishes (λ r. IsTrue (get_or l r false)) symbols) (sym w.walked.epsilons) vanished));
+          (subst (λ l. AreNullable (λ r. IsTrue (get_or l r false)) symbols) (sym w.walked.nullable) became_nullable));
       more = grown count_firsts old mid new c d w.walked.growth.more w.walked.growth.same
           (λ e. subst (λ x. count_firsts mid < count_firsts x) (sym put)
-          (let k = bits_on-set mid.epsilons rule within (at d e was) in omega (arith, k))) unchanged;
+          (let k = bits_on-set mid.nullable rule within (at d e was) in omega (arith, k))) unchanged;
       same = λ e. let b = or_parts c d e in unchanged b.1 ∙ w.walked.growth.same b.0;
       others = λ r t h. w.walked.growth.others r t (subst (λ x. IsAmongFirsts x r t) put h);
       kept = λ r t h. subst (λ x. IsAmongFirsts x r t) (sym put) (w.walked.growth.kept r t h);
     };
     given = λ t h. subst (λ x. IsAmongFirsts x rule t) (sym put) (w.walked.given t (subst (λ l. BeginsBy old l t) (sym all) h));
-    others_empty = λ r h. elim (get_or-set mid.epsilons rule r true false) [
-      | inl e ↦ inl (subst (λ l. IsTrue (get_or l r false)) w.walked.epsilons (sym e ∙ subst (λ x. IsEpsilon x r) put h))
+    others_empty = λ r h. elim (get_or-set mid.nullable rule r true false) [
+      | inl e ↦ inl (subst (λ l. IsTrue (get_or l r false)) w.walked.nullable (sym e ∙ subst (λ x. IsEpsilon x r) put h))
       | inr e ↦ inr e.0
     ];
-    kept_empty = λ r h. subst (λ x. IsEpsilon x r) (sym put) (elim (get_or-set mid.epsilons rule r true false) [
-      | inl e ↦ e ∙ subst (λ l. IsTrue (get_or l r false)) (sym w.walked.epsilons) h
+    kept_empty = λ r h. subst (λ x. IsEpsilon x r) (sym put) (elim (get_or-set mid.nullable rule r true false) [
+      | inl e ↦ e ∙ subst (λ l. IsTrue (get_or l r false)) (sym w.walked.nullable) h
       | inr e ↦ e.1
     ]);
-    given_empty = λ h. subst (λ x. IsEpsilon x rule) (sym put) (get_or-set_same mid.epsilons rule true false within);
+    given_empty = λ h. subst (λ x. IsEpsilon x rule) (sym put) (get_or-set_same mid.nullable rule true false within);
   })
     where
       all : take n symbols ≡ symbols
       all = take_all n symbols le
 
-      vanished : VanishesBy old symbols
-      vanished = subst (λ l. VanishesBy old l) all w.vanished
+      became_nullable : AreNullableBy old symbols
+      became_nullable = subst (λ l. AreNullableBy old l) all w.became_nullable
 
-      within : rule < length mid.epsilons
-      within = subst (λ k. rule < k) (sym (w.walked.growth.sound g is has say).fits.epsilons) (owner g _ is has)
+      within : rule < length mid.nullable
+      within = subst (λ k. rule < k) (sym (w.walked.growth.sound g is has say).fits.nullable) (owner g _ is has)
 
       at : (d : Bool) → d ≡ true → MatchBool d (epsilon_bit mid rule ≡ false) (epsilon_bit mid rule ≡ true) → epsilon_bit mid rule ≡ false
       at true e h = h
@@ -337,13 +337,13 @@ module _ (rule : ℕ) (symbols : List Sym) where
       on false e h = h
 
       unchanged : d ≡ false → new ≡ mid
-      unchanged e = put ∙ ap (λ l. record { firsts = mid.firsts; epsilons = l })
-          (ap (λ b. slice_set mid.epsilons rule b) (sym (on d e was)) ∙ set-get_or mid.epsilons rule false)
+      unchanged e = put ∙ ap (λ l. record { firsts = mid.firsts; nullable = l })
+          (ap (λ b. slice_set mid.nullable rule b) (sym (on d e was)) ∙ set-get_or mid.nullable rule false)
 
 -- the rule waits if its set grew
 gains_rule : (rule : ℕ) (p : Production) (old new : FirstSets) (changed : Bool) (gained : ℕ → Type 0) → ((r : ℕ) → gained r → GainsRule rule changed r)
-    → ((r : ℕ) → GainsRule rule changed r → gained r) → TakesIn SayFirsts HaveFirstsOf count_firsts HoldsRule HasNoMoreFirsts p old new (GainsRule rule changed)
-    → TakesIn SayFirsts HaveFirstsOf count_firsts HoldsRule HasNoMoreFirsts p old new gained
+    → ((r : ℕ) → GainsRule rule changed r → gained r) → AddsProduction SayFirsts HaveFirstsOf count_firsts HoldsRule HasNoMoreFirsts p old new (GainsRule rule changed)
+    → AddsProduction SayFirsts HaveFirstsOf count_firsts HoldsRule HasNoMoreFirsts p old new gained
 gains_rule rule p old new changed gained to from w = record {
   sound = w.sound;
   no_less = w.no_less;
@@ -353,19 +353,19 @@ gains_rule rule p old new changed gained to from w = record {
   stays = λ q none. w.stays q (λ r rests h. none r rests (from r h));
 }
 
-pub gains_put : (rule place : ℕ) (p : Production) (old new : FirstSets) (changed : Bool) (waiting waiting' : List Bool) → NoneWaits waiting
-    → place < length waiting → place ≡ rule → waiting' ≡ slice_set waiting place true → changed ≡ true
-    → TakesIn SayFirsts HaveFirstsOf count_firsts HoldsRule HasNoMoreFirsts p old new (GainsRule rule changed)
-    → TakesIn SayFirsts HaveFirstsOf count_firsts HoldsRule HasNoMoreFirsts p old new (Waits waiting')
-gains_put rule place p old new changed waiting waiting' none lt at put on w = gains_rule rule p old new changed (Waits waiting')
-    (λ r h. elim ((bit_put waiting place lt r).0 (subst (λ l. Waits l r) put h)) [
+pub gains_put : (rule index : ℕ) (p : Production) (old new : FirstSets) (changed : Bool) (waiting waiting' : List Bool) → NoneWaits waiting
+    → index < length waiting → index ≡ rule → waiting' ≡ slice_set waiting index true → changed ≡ true
+    → AddsProduction SayFirsts HaveFirstsOf count_firsts HoldsRule HasNoMoreFirsts p old new (GainsRule rule changed)
+    → AddsProduction SayFirsts HaveFirstsOf count_firsts HoldsRule HasNoMoreFirsts p old new (Waits waiting')
+gains_put rule index p old new changed waiting waiting' none lt at put on w = gains_rule rule p old new changed (Waits waiting')
+    (λ r h. elim ((bit_put waiting index lt r).0 (subst (λ l. Waits l r) put h)) [
       | inl i ↦ absurd (true≢false (sym i ∙ none r))
       | inr e ↦ (e ∙ at, on)
     ])
-    (λ r h. subst (λ l. Waits l r) (sym put) ((bit_put waiting place lt r).1 (inr (h.0 ∙ sym at)))) w
+    (λ r h. subst (λ l. Waits l r) (sym put) ((bit_put waiting index lt r).1 (inr (h.0 ∙ sym at)))) w
 
 pub gains_none : (rule : ℕ) (p : Production) (old new : FirstSets) (changed : Bool) (waiting : List Bool) → NoneWaits waiting → changed ≡ false
-    → TakesIn SayFirsts HaveFirstsOf count_firsts HoldsRule HasNoMoreFirsts p old new (GainsRule rule changed)
-    → TakesIn SayFirsts HaveFirstsOf count_firsts HoldsRule HasNoMoreFirsts p old new (Waits waiting)
+    → AddsProduction SayFirsts HaveFirstsOf count_firsts HoldsRule HasNoMoreFirsts p old new (GainsRule rule changed)
+    → AddsProduction SayFirsts HaveFirstsOf count_firsts HoldsRule HasNoMoreFirsts p old new (Waits waiting)
 gains_none rule p old new changed waiting none off w = gains_rule rule p old new changed (Waits waiting)
     (λ r h. absurd (true≢false (sym h ∙ none r))) (λ r h. absurd (true≢false (sym h.1 ∙ off))) w

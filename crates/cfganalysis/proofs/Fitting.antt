@@ -16,9 +16,9 @@ product_fits n m most h lt k =
     let p : n * m ≤ 4294967295 * 18446744073709551615 = mul-le n m 4294967295 18446744073709551615 (omega arith) (omega arith) in
     omega arith
 
-pub can_visit : (g : Grammar) (places most : ℕ) → IsGrammar g → places ≡ length g.productions → places ≤ most → most < 4294967296
+pub can_visit : (g : Grammar) (positions most : ℕ) → IsGrammar g → positions ≡ length g.productions → positions ≤ most → most < 4294967296
     → most_openings g < 18446744073709551615 → CanVisit most g
-can_visit g places most is e h lt small = record {
+can_visit g positions most is e h lt small = record {
   grammar = is;
   fits = omega arith;
   small = small;

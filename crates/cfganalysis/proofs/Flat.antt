@@ -133,8 +133,8 @@ module _ (rows columns n : ℕ) (words : List ℕ) (is : AreRows rows columns n 
     inside : column / 64 < n
     inside = subst (λ m. column / 64 < m) (long_row r lt) (word_within (words_of n words r) columns column (is.each r lt) lt')
 
-    pub place_within : r * n + column / 64 < length words
-    place_within = let all = row_within r lt in omega (arith, inside, all)
+    pub position_within : r * n + column / 64 < length words
+    position_within = let all = row_within r lt in omega (arith, inside, all)
 
     -- a bit of a row was written
     module _ (word new : ℕ) (read : word ≡ get_or words (r * n + column / 64) word)

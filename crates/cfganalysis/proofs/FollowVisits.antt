@@ -2,24 +2,24 @@
 use Rattle.std.proofs.Common.{◌≡◌, ◌↔◌, ℕ, ◌+◌, ◌<◌, ◌≤◌, ◌⊎◌, inl, inr, Bool, true, false, List, [], ◌∷◌, drop, slice_set, length, arith, refl, sym, ap, ◌∙◌, subst, true≢false, zero, suc, length-set, ◌-◌}
 use Rattle.std.proofs.lemmas.List.{drop_all, get_or_default}
 use Rattle.derivation.specs.Grammar.{Sym, Rule, Token, Grammar, IsGrammar, HasProduction, Production}
-use Rattle.derivation.specs.First.{First, Empty}
+use Rattle.derivation.specs.First.{First, Nullable}
 use Rattle.derivation.specs.Follow.{MayFollow, FollowEnd}
-use Rattle.derivation.specs.FirstSets.{Vanishes, Begins, IsClosed}
+use Rattle.derivation.specs.FirstSets.{AreNullable, Begins, IsClosed}
 use Rattle.derivation.specs.FollowSets.{Flows, IsFollowClosed}
-use Rattle.derivation.proofs.Firsts.{vanishes_map, begins_map, derived_closed}
+use Rattle.derivation.proofs.Firsts.{nullable_map, begins_map, derived_closed}
 use Rattle.derivation.proofs.Follows.{derived_flows, closed_follow, closed_end, end_of_start}
 use Rattle.search.proofs.Bits.{bit_put}
 use Rattle.cfganalysis.specs.Table.{HasBit, count_of, IsTable, Joins, no_bits, with_bit}
 use Rattle.cfganalysis.specs.Firsts.{AreFirsts, IsAmongFirsts, IsEpsilon, FirstSets}
-use Rattle.cfganalysis.specs.Inner.GrowingFollows.{FollowSets, SayFollows, HasNoMoreFollows, HaveFollowsOf, IsOwner, FlowIn, Behind, Puts, PutsBehind, count_follows}
-use Rattle.cfganalysis.specs.Inner.Growth.{TakesIn, CoversEach}
+use Rattle.cfganalysis.specs.Inner.GrowingFollows.{FollowSets, SayFollows, HasNoMoreFollows, HaveFollowsOf, IsOwner, FlowIn, After, Puts, PutsAfter, count_follows}
+use Rattle.cfganalysis.specs.Inner.Growth.{AddsProduction, CoversEach}
 use Rattle.cfganalysis.specs.Inner.Waiting.{waits, Waits, NoneWaits}
 use Rattle.cfganalysis.proofs.Joins.{count_of-fewer, bit-no_bits, IsTable-no_bits, joins_bit}
 use Rattle.cfganalysis.specs.Follows.{AreFollows}
 
 -- nothing is added for a symbol that is no rule
-pub nothing_behind : (u : ℕ) (gives : ℕ → Type 0) (x : FollowSets) (waiting : List Bool) → PutsBehind (λ r t. (Rule r ≡ Token u) × gives t) x x waiting waiting
-nothing_behind u gives x waiting = record {
+pub nothing_after : (u : ℕ) (gives : ℕ → Type 0) (x : FollowSets) (waiting : List Bool) → PutsAfter (λ r t. (Rule r ≡ Token u) × gives t) x x waiting waiting
+nothing_after u gives x waiting = record {
   firsts = refl;
   shape = λ rows columns is. is;
   bits = λ r t. ((λ h. inl h), (λ h. elim h [ inl i ↦ i | inr i ↦ absurd (not_token i.0) ]));
@@ -28,32 +28,32 @@ nothing_behind u gives x waiting = record {
   kept = λ r h. h;
   gained = λ r h. inl h;
   more = λ r h. inl h;
-  told = λ r t h. inl h;
+  reported = λ r t h. inl h;
 }
   where
     not_token : {r : ℕ} → Rule r ≡ Token u → ⊥
     not_token e = cc
 
 module _ (q : ℕ) (gives : ℕ → Type 0) (old new : FollowSets) (changed : Bool) (waiting : List Bool) (w : Puts (λ r t. (r ≡ q) × gives t) old new changed) where
-  bits_behind : (r t : ℕ) → HasBit new.follows r t ↔ (HasBit old.follows r t ⊎ ((Rule r ≡ Rule q) × gives t))
-  bits_behind r t = (
+  bits_after : (r t : ℕ) → HasBit new.follows r t ↔ (HasBit old.follows r t ⊎ ((Rule r ≡ Rule q) × gives t))
+  bits_after r t = (
     (λ h. elim ((w.joins.bits r t).0 h) [ inl i ↦ inl i | inr i ↦ inr (ap Rule i.0, i.1) ]),
     (λ h. (w.joins.bits r t).1 (elim h [ inl i ↦ inl i | inr i ↦ let e : r ≡ q = cc (i.0) in inr (e, i.1) ])),
   )
 
   -- the rule's set grew, and the rule waits
-  pub rule_behind : (n : ℕ) (waiting' : List Bool) → changed ≡ true → n ≡ q → n < length waiting → waiting' ≡ slice_set waiting n true
-      → PutsBehind (λ r t. (Rule r ≡ Rule q) × gives t) old new waiting waiting'
-  rule_behind n waiting' on is lt put = record {
+  pub rule_after : (n : ℕ) (waiting' : List Bool) → changed ≡ true → n ≡ q → n < length waiting → waiting' ≡ slice_set waiting n true
+      → PutsAfter (λ r t. (Rule r ≡ Rule q) × gives t) old new waiting waiting'
+  rule_after n waiting' on is lt put = record {
     firsts = w.firsts;
     shape = w.joins.shape;
-    bits = bits_behind;
+    bits = bits_after;
     no_less = let h = w.joins.more on in omega (arith, h);
     rules = ap length put ∙ length-set waiting n true;
     kept = λ r h. subst (λ l. Waits l r) (sym put) ((bit_put waiting n lt r).1 (inl h));
     gained = λ r h. inr (w.joins.more on);
     more = λ r h. elim ((bit_put waiting n lt r).0 (subst (λ l. Waits l r) put h)) [ inl i ↦ inl i | inr e ↦ inr (λ none. grew r (e ∙ is) none) ];
-    told = λ r t h. elim ((w.joins.bits r t).0 h) [
+    reported = λ r t h. elim ((w.joins.bits r t).0 h) [
       | inl i ↦ inl i
       | inr i ↦ inr (subst (λ l. Waits l r) (sym put) ((bit_put waiting n lt r).1 (inr (i.0 ∙ sym is))))
     ];
@@ -70,17 +70,17 @@ module _ (q : ℕ) (gives : ℕ → Type 0) (old new : FollowSets) (changed : Bo
           omega (arith, more, all)
 
   -- the set contained all of it already
-  pub same_behind : changed ≡ false → PutsBehind (λ r t. (Rule r ≡ Rule q) × gives t) old new waiting waiting
-  same_behind off = record {
+  pub same_after : changed ≡ false → PutsAfter (λ r t. (Rule r ≡ Rule q) × gives t) old new waiting waiting
+  same_after off = record {
     firsts = w.firsts;
     shape = w.joins.shape;
-    bits = bits_behind;
+    bits = bits_after;
     no_less = let h = ap count_of (w.joins.same off) in omega (arith, h);
     rules = refl;
     kept = λ r h. h;
     gained = λ r h. inl h;
     more = λ r h. inl h;
-    told = λ r t h. inl (subst (λ x. HasBit x r t) (w.joins.same off) h);
+    reported = λ r t h. inl (subst (λ x. HasBit x r t) (w.joins.same off) h);
   }
 
 -- What follows the symbols from the n-th on was added. They stay covered later, as long as the rule's set is as it was.
@@ -91,16 +91,16 @@ pub record Flowing (rule : ℕ) (symbols : List Sym) (n : ℕ) (old new : Follow
   pub rules : length waiting ≡ length none
   pub gained : (r : ℕ) → Waits waiting r → Waits none r ⊎ (count_follows old < count_follows new)
   pub more : (r : ℕ) → Waits waiting r → Waits none r ⊎ (HasNoMoreFollows r old new → ⊥)
-  pub told : (r t : ℕ) → HasBit new.follows r t → HasBit old.follows r t ⊎ Waits waiting r
+  pub reported : (r t : ℕ) → HasBit new.follows r t → HasBit old.follows r t ⊎ Waits waiting r
   pub kept : (r t : ℕ) → HasBit old.follows r t → HasBit new.follows r t
   pub closed : (x : FollowSets) → x.firsts ≡ old.firsts → ((r t : ℕ) → HasBit new.follows r t → HasBit x.follows r t)
       → ((t : ℕ) → HasBit x.follows rule t → HasBit old.follows rule t) → FlowIn x rule (drop n symbols)
 
 -- what follows a symbol still follows it after its rule's set grew
-pub behind_grow : (old new : FollowSets) (rule : ℕ) (a : List Sym) (t : ℕ) → new.firsts ≡ old.firsts
-    → (HasBit old.follows rule t → HasBit new.follows rule t) → Behind old rule a t → Behind new rule a t
-behind_grow old new rule a t e grow (inl b) = inl (subst (λ f. Begins (IsEpsilon f) (IsAmongFirsts f) a t) (sym e) b)
-behind_grow old new rule a t e grow (inr b) = inr (subst (λ f. Vanishes (IsEpsilon f) a) (sym e) b.0, grow b.1)
+pub after_grow : (old new : FollowSets) (rule : ℕ) (a : List Sym) (t : ℕ) → new.firsts ≡ old.firsts
+    → (HasBit old.follows rule t → HasBit new.follows rule t) → After old rule a t → After new rule a t
+after_grow old new rule a t e grow (inl b) = inl (subst (λ f. Begins (IsEpsilon f) (IsAmongFirsts f) a t) (sym e) b)
+after_grow old new rule a t e grow (inr b) = inr (subst (λ f. AreNullable (IsEpsilon f) a) (sym e) b.0, grow b.1)
 
 -- the equations hold for a suffix of a list if they hold for the list
 flows_drop : (E : ℕ → Type 0) (F W : ℕ → ℕ → Type 0) (k : ℕ → Type 0) (n : ℕ) (a : List Sym) → Flows E F W a k → Flows E F W (drop n a) k
@@ -111,17 +111,17 @@ flows_drop E F W k (suc n) (Rule q ∷ a) h = flows_drop E F W k n a h.2
 
 -- what follows a rule in a production may follow the rule
 may_follow : (g : Grammar) (rule : ℕ) (rest : List Sym) (x : FollowSets) (s : Sym) (r t : ℕ) → SayFollows g x
-    → Flows (Empty (HasProduction g)) (First (HasProduction g)) (MayFollow g) (s ∷ rest) (MayFollow g rule)
-    → Rule r ≡ s → Behind x rule rest t → MayFollow g r t
+    → Flows (Nullable (HasProduction g)) (First (HasProduction g)) (MayFollow g) (s ∷ rest) (MayFollow g rule)
+    → Rule r ≡ s → After x rule rest t → MayFollow g r t
 may_follow g rule rest x s r t say flows e h =
-    let f = subst (λ y. Flows (Empty (HasProduction g)) (First (HasProduction g)) (MayFollow g) (y ∷ rest) (MayFollow g rule)) (sym e) flows in
+    let f = subst (λ y. Flows (Nullable (HasProduction g)) (First (HasProduction g)) (MayFollow g) (y ∷ rest) (MayFollow g rule)) (sym e) flows in
     elim h [
       | inl b ↦ f.0 t (begins_map _ _ _ _ (λ q i. (say.firsts.empty q).0 i) (λ q u i. (say.firsts.first q u).0 i) rest t b)
-      | inr v ↦ f.1 (vanishes_map _ _ (λ q i. (say.firsts.empty q).0 i) rest v.0) t (say.follow rule t v.1)
+      | inr v ↦ f.1 (nullable_map _ _ (λ q i. (say.firsts.empty q).0 i) rest v.0) t (say.follow rule t v.1)
     ]
 
 say_puts : (g : Grammar) (gives : ℕ → ℕ → Type 0) (old new : FollowSets) (waiting waiting' : List Bool) → SayFollows g old
-    → PutsBehind gives old new waiting waiting' → ((r t : ℕ) → gives r t → MayFollow g r t) → SayFollows g new
+    → PutsAfter gives old new waiting waiting' → ((r t : ℕ) → gives r t → MayFollow g r t) → SayFollows g new
 say_puts g gives old new waiting waiting' say w may = record {
   firsts = subst (λ f. AreFirsts g f) (sym w.firsts) say.firsts;
   fits = w.shape g.rules g.tokens say.fits;
@@ -129,7 +129,7 @@ say_puts g gives old new waiting waiting' say w may = record {
   follow = λ r t h. elim ((w.bits r t).0 h) [ inl i ↦ say.follow r t i | inr i ↦ may r t i ];
 }
 
-flow_at : (x : FollowSets) (rule : ℕ) (s : Sym) (rest : List Sym) → ((r t : ℕ) → Rule r ≡ s → Behind x rule rest t → HasBit x.follows r t)
+flow_at : (x : FollowSets) (rule : ℕ) (s : Sym) (rest : List Sym) → ((r t : ℕ) → Rule r ≡ s → After x rule rest t → HasBit x.follows r t)
     → FlowIn x rule rest → FlowIn x rule (s ∷ rest)
 flow_at x rule (Token u) rest had h = h
 flow_at x rule (Rule q) rest had h = ((λ t b. had q t refl (inl b)), (λ v t b. had q t refl (inr (v, b))), h)
@@ -154,7 +154,7 @@ module _ (rule : ℕ) (symbols : List Sym) where
     rules = refl;
     gained = λ r h. inl h;
     more = λ r h. inl h;
-    told = λ r t h. inl h;
+    reported = λ r t h. inl h;
     kept = λ r t h. h;
     closed = λ y e f back. subst (λ l. FlowIn y rule l) (sym (drop_all n symbols le)) tt;
   }
@@ -162,13 +162,13 @@ module _ (rule : ℕ) (symbols : List Sym) where
   -- What is added for a symbol now follows it; and what followed it at the start is added.
   pub flowing_one : (n : ℕ) (s : Sym) (rest : List Sym) (gives : ℕ → Type 0) (old mid new : FollowSets) (none waiting waiting' : List Bool)
       → drop n symbols ≡ s ∷ rest → rest ≡ drop (n + 1) symbols → Flowing rule symbols (n + 1) old mid none waiting
-      → ((t : ℕ) → Behind old rule rest t → gives t) → ((t : ℕ) → gives t → Behind mid rule rest t)
-      → PutsBehind (λ r t. (Rule r ≡ s) × gives t) mid new waiting waiting'
+      → ((t : ℕ) → After old rule rest t → gives t) → ((t : ℕ) → gives t → After mid rule rest t)
+      → PutsAfter (λ r t. (Rule r ≡ s) × gives t) mid new waiting waiting'
       → Flowing rule symbols n old new none waiting'
-  flowing_one n s rest gives old mid new none waiting waiting' at behind w below above one = record {
+  flowing_one n s rest gives old mid new none waiting waiting' at after w below above one = record {
     sound = λ g is has say. let m = w.sound g is has say in
         say_puts g _ mid new waiting waiting' m one (λ r t h. may_follow g rule rest mid s r t m
-        (subst (λ l. Flows (Empty (HasProduction g)) (First (HasProduction g)) (MayFollow g) l (MayFollow g rule)) at
+        (subst (λ l. Flows (Nullable (HasProduction g)) (First (HasProduction g)) (MayFollow g) l (MayFollow g rule)) at
         (flows_drop _ _ _ _ n symbols (derived_flows g rule symbols has))) h.0 (above t h.1));
     firsts = one.firsts ∙ w.firsts;
     no_less = let a = w.no_less in let b = one.no_less in omega (arith, a, b);
@@ -187,19 +187,19 @@ module _ (rule : ℕ) (symbols : List Sym) where
       ]
       | inr i ↦ inr (λ unless. i (λ t on. w.kept r t (unless t on)))
     ];
-    told = λ r t h. elim (one.told r t h) [
-      | inl i ↦ elim (w.told r t i) [ inl j ↦ inl j | inr j ↦ inr (one.kept r j) ]
+    reported = λ r t h. elim (one.reported r t h) [
+      | inl i ↦ elim (w.reported r t i) [ inl j ↦ inl j | inr j ↦ inr (one.kept r j) ]
       | inr i ↦ inr i
     ];
     kept = λ r t h. (one.bits r t).1 (inl (w.kept r t h));
     closed = λ x e f back. subst (λ l. FlowIn x rule l) (sym at) (flow_at x rule s rest
-        (λ r t is b. f r t ((one.bits r t).1 (inr (is, below t (behind_grow x old rule rest t (sym e) (back t) b)))))
-        (subst (λ l. FlowIn x rule l) (sym behind) (w.closed x e (λ r t on. f r t ((one.bits r t).1 (inl on))) back)));
+        (λ r t is b. f r t ((one.bits r t).1 (inr (is, below t (after_grow x old rule rest t (sym e) (back t) b)))))
+        (subst (λ l. FlowIn x rule l) (sym after) (w.closed x e (λ r t on. f r t ((one.bits r t).1 (inl on))) back)));
   }
 
   pub flowing_all : (n : ℕ) (old new : FollowSets) (none waiting : List Bool) → n ≡ 0 → NoneWaits none
       → Flowing rule symbols n old new none waiting
-      → TakesIn SayFollows HaveFollowsOf count_follows IsOwner HasNoMoreFollows (record { rule = rule; symbols = symbols }) old new (Waits waiting)
+      → AddsProduction SayFollows HaveFollowsOf count_follows IsOwner HasNoMoreFollows (record { rule = rule; symbols = symbols }) old new (Waits waiting)
   flowing_all n old new none waiting start idle w = record {
     sound = w.sound;
     no_less = w.no_less;
@@ -216,7 +216,7 @@ module _ (rule : ℕ) (symbols : List Sym) where
   }
     where
       back : (r : ℕ) → (Waits waiting r → ⊥) → (t : ℕ) → HasBit new.follows r t → HasBit old.follows r t
-      back r unless t h = elim (w.told r t h) [ inl i ↦ i | inr i ↦ absurd (unless i) ]
+      back r unless t h = elim (w.reported r t h) [ inl i ↦ i | inr i ↦ absurd (unless i) ]
 
       waits_by : (r : ℕ) (b : Bool) → waits waiting r ≡ b → (HasNoMoreFollows r old new → ⊥) → Waits waiting r
       waits_by r true on unless = on
@@ -227,7 +227,7 @@ firsts_closed : (g : Grammar) (x : FirstSets) → AreFirsts g x → IsClosed (Ha
 firsts_closed g x are r symbols has =
     let d = derived_closed (HasProduction g) r symbols has in
     record {
-      empty = λ h. (are.empty r).1 (d.empty (vanishes_map _ _ (λ q i. (are.empty q).0 i) symbols h));
+      empty = λ h. (are.empty r).1 (d.empty (nullable_map _ _ (λ q i. (are.empty q).0 i) symbols h));
       first = λ t h. (are.first r t).1 (d.first t (begins_map _ _ _ _ (λ q i. (are.empty q).0 i) (λ q u i. (are.first q u).0 i) symbols t h));
     }
 
@@ -259,7 +259,7 @@ say_start g f rules tokens is are e h =
     (subst (λ n. SayFollows g (record { firsts = f; follows = with_bit (no_bits g.rules n) 0 (n - 1) })) (sym h) (record {
       firsts = are;
       fits = one.shape g.rules g.tokens table;
-      finish = λ t e. let place : t ≡ g.tokens - 1 = omega (arith, e) in (one.bits 0 t).1 (inr (refl, place));
+      finish = λ t e. let index : t ≡ g.tokens - 1 = omega (arith, e) in (one.bits 0 t).1 (inr (refl, index));
       follow = λ r t on. elim ((one.bits r t).0 on) [
         | inl i ↦ absurd (true≢false (sym i ∙ bit-no_bits g.rules g.tokens r t))
         | inr i ↦ inr (last t i.1, subst (λ q. FollowEnd (HasProduction g) q) (sym i.0) (end_of_start g))

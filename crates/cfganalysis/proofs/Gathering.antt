@@ -6,19 +6,19 @@ use Rattle.cfgindex.proofs.Bits.{length-union, union_adds}
 use Rattle.lemmas.proofs.Adding.{adds_as}
 use Rattle.search.proofs.Bits.{bit_put}
 use Rattle.derivation.specs.Grammar.{Sym, Rule, Token, Grammar, IsSymbolOf}
-use Rattle.derivation.specs.FirstSets.{Vanishes, Begins}
-use Rattle.derivation.proofs.Firsts.{vanishes_parts, vanishes_both, begins_parts}
+use Rattle.derivation.specs.FirstSets.{AreNullable, Begins}
+use Rattle.derivation.proofs.Firsts.{nullable_parts, nullable_both, begins_parts}
 use Rattle.cfgindex.specs.declared.idxnewtype.Symbol.{Symbol}
-use Rattle.cfganalysis.specs.declared.follows.Front.{Front}
-use Rattle.cfganalysis.specs.declared.follows.Front.TheVariants as fronts
+use Rattle.cfganalysis.specs.declared.follows.Prefix.{Prefix}
+use Rattle.cfganalysis.specs.declared.follows.Prefix.TheVariants as prefixes
 use Rattle.cfgtables.specs.NumberedSymbols.{sym_of}
 use Rattle.cfganalysis.specs.Table.{HasBit, row_of}
 use Rattle.cfganalysis.specs.Inner.Joined.{joined}
 use Rattle.cfganalysis.specs.Firsts.{IsAmongFirsts, IsEpsilon}
 use Rattle.cfganalysis.specs.Inner.GrowingFirsts.{is_empty_symbol}
-use Rattle.cfganalysis.specs.Inner.GrowingFollows.{FollowSets, BeginsList, VanishesList, Behind, IsGathered, Gathers, FrontGives, IsFrontOf, IsEnd, StepsBack}
-use Rattle.cfganalysis.proofs.FirstVisits.{begins_front, begins_past, vanishes_alone, stays_alone}
-use Rattle.cfganalysis.proofs.FollowVisits.{behind_grow}
+use Rattle.cfganalysis.specs.Inner.GrowingFollows.{FollowSets, BeginsList, NullableList, After, IsGathered, Gathers, PrefixGives, IsPrefixOf, IsEnd, StepsBack}
+use Rattle.cfganalysis.proofs.FirstVisits.{begins_prefix, begins_past, nullable_alone, stays_alone}
+use Rattle.cfganalysis.proofs.FollowVisits.{after_grow}
 
 -- sets that contain all that others contain
 abbrev pub Grows : FollowSets → FollowSets → Type 0
@@ -63,21 +63,21 @@ module _ (gives : ℕ → Type 0) (old none new : List Bool) (bare : none ≡ re
   )
 
 -- The next tokens before the n-th symbol: all that came next at the start, and only what comes next now or later, as sets grow.
-pub record Fronting {S : Type 0} (number : S → ℕ) (rule : ℕ) (symbols : List Sym) (n wide : ℕ) (old new : FollowSets) (front : Front S)
+pub record Fronting {S : Type 0} (number : S → ℕ) (rule : ℕ) (symbols : List Sym) (n wide : ℕ) (old new : FollowSets) (prefix : Prefix S)
     (tokens : List Bool) : Type 0 where
-  pub fits : (g : Grammar) → All (IsSymbolOf g) symbols → IsFrontOf number g front
+  pub fits : (g : Grammar) → All (IsSymbolOf g) symbols → IsPrefixOf number g prefix
   pub long : length tokens ≡ wide
-  pub below : (x : FollowSets) → x.firsts ≡ old.firsts → Grows new x → (t : ℕ) → Behind old rule (drop n symbols) t
-      → FrontGives number x rule tokens front t
-  pub above : (x : FollowSets) → x.firsts ≡ old.firsts → Grows new x → (t : ℕ) → FrontGives number x rule tokens front t
-      → Behind x rule (drop n symbols) t
+  pub below : (x : FollowSets) → x.firsts ≡ old.firsts → Grows new x → (t : ℕ) → After old rule (drop n symbols) t
+      → PrefixGives number x rule tokens prefix t
+  pub above : (x : FollowSets) → x.firsts ≡ old.firsts → Grows new x → (t : ℕ) → PrefixGives number x rule tokens prefix t
+      → After x rule (drop n symbols) t
 
 module _ {S : Type 0} (number : S → ℕ) (rule : ℕ) where
   -- before a symbol that isn't nullable, the next tokens are what it begins with
-  pub steps_over : (x : FollowSets) (symbol : Symbol S) (front : Front S) (tokens : List Bool)
+  pub steps_over : (x : FollowSets) (symbol : Symbol S) (prefix : Prefix S) (tokens : List Bool)
       → is_empty_symbol x.firsts (sym_of number symbol) ≡ false
-      → StepsBack number x rule (sym_of number symbol) front tokens (fronts.Symbol symbol) tokens
-  steps_over x symbol front tokens e = record {
+      → StepsBack number x rule (sym_of number symbol) prefix tokens (prefixes.Symbol symbol) tokens
+  steps_over x symbol prefix tokens e = record {
     past = λ t. ((λ h. inl h), (λ h. elim h [ inl i ↦ i | inr i ↦ absurd (stays_alone x.firsts (sym_of number symbol) e i.0) ]));
     begun = λ h. h;
     fits = λ g is. is;
@@ -85,12 +85,12 @@ module _ {S : Type 0} (number : S → ℕ) (rule : ℕ) where
   }
 
   -- before a nullable symbol, the next tokens after it are gathered too
-  pub steps_through : (x : FollowSets) (s : Sym) (front : Front S) (tokens mid tokens' : List Bool) → is_empty_symbol x.firsts s ≡ true
-      → length mid ≡ length tokens → ((t : ℕ) → (IsGathered mid t ↔ FrontGives number x rule tokens front t))
-      → Gathers (BeginsList x (s ∷ [])) mid tokens' → StepsBack number x rule s front tokens fronts.Gathered tokens'
-  steps_through x s front tokens mid tokens' e long at w = record {
+  pub steps_through : (x : FollowSets) (s : Sym) (prefix : Prefix S) (tokens mid tokens' : List Bool) → is_empty_symbol x.firsts s ≡ true
+      → length mid ≡ length tokens → ((t : ℕ) → (IsGathered mid t ↔ PrefixGives number x rule tokens prefix t))
+      → Gathers (BeginsList x (s ∷ [])) mid tokens' → StepsBack number x rule s prefix tokens prefixes.Gathered tokens'
+  steps_through x s prefix tokens mid tokens' e long at w = record {
     past = λ t. (
-      (λ h. elim ((w.tokens t).0 h) [ inl i ↦ inr (vanishes_alone x.firsts s e, (at t).0 i) | inr i ↦ inl i ]),
+      (λ h. elim ((w.tokens t).0 h) [ inl i ↦ inr (nullable_alone x.firsts s e, (at t).0 i) | inr i ↦ inl i ]),
       (λ h. (w.tokens t).1 (elim h [ inl i ↦ inr i | inr i ↦ inl ((at t).1 i.1) ])),
     );
     begun = λ h. h;
@@ -98,69 +98,69 @@ module _ {S : Type 0} (number : S → ℕ) (rule : ℕ) where
     long = w.long ∙ long;
   }
 
-  gives_grow : (x y : FollowSets) (tokens : List Bool) (front : Front S) (t : ℕ) → y.firsts ≡ x.firsts → Grows x y
-      → FrontGives number x rule tokens front t → FrontGives number y rule tokens front t
-  gives_grow x y tokens fronts.End t e grow h = grow rule t h
-  gives_grow x y tokens (fronts.Symbol symbol) t e grow h =
+  gives_grow : (x y : FollowSets) (tokens : List Bool) (prefix : Prefix S) (t : ℕ) → y.firsts ≡ x.firsts → Grows x y
+      → PrefixGives number x rule tokens prefix t → PrefixGives number y rule tokens prefix t
+  gives_grow x y tokens prefixes.End t e grow h = grow rule t h
+  gives_grow x y tokens (prefixes.Symbol symbol) t e grow h =
       subst (λ f. Begins (IsEpsilon f) (IsAmongFirsts f) (sym_of number symbol ∷ []) t) (sym e) h
-  gives_grow x y tokens fronts.Gathered t e grow h = h
+  gives_grow x y tokens prefixes.Gathered t e grow h = h
 
-  gives_stays : (x y : FollowSets) (tokens : List Bool) (front : Front S) (t : ℕ) → (IsEnd front → ⊥) → y.firsts ≡ x.firsts
-      → FrontGives number y rule tokens front t → FrontGives number x rule tokens front t
-  gives_stays x y tokens fronts.End t begun e h = absurd (begun tt)
-  gives_stays x y tokens (fronts.Symbol symbol) t begun e h =
+  gives_stays : (x y : FollowSets) (tokens : List Bool) (prefix : Prefix S) (t : ℕ) → (IsEnd prefix → ⊥) → y.firsts ≡ x.firsts
+      → PrefixGives number y rule tokens prefix t → PrefixGives number x rule tokens prefix t
+  gives_stays x y tokens prefixes.End t begun e h = absurd (begun tt)
+  gives_stays x y tokens (prefixes.Symbol symbol) t begun e h =
       subst (λ f. Begins (IsEpsilon f) (IsAmongFirsts f) (sym_of number symbol ∷ []) t) e h
-  gives_stays x y tokens fronts.Gathered t begun e h = h
+  gives_stays x y tokens prefixes.Gathered t begun e h = h
 
   module _ (symbols : List Sym) where
     pub fronting_none : (n : ℕ) (x : FollowSets) (tokens : List Bool) → length symbols ≤ n
-        → Fronting number rule symbols n (length tokens) x x fronts.End tokens
+        → Fronting number rule symbols n (length tokens) x x prefixes.End tokens
     fronting_none n x tokens le = record {
       fits = λ g all. tt;
       long = refl;
-      below = λ y e grow t h. elim (subst (λ l. Behind x rule l t) (drop_all n symbols le) h) [ inl i ↦ absurd i | inr i ↦ grow rule t i.1 ];
-      above = λ y e grow t h. subst (λ l. Behind y rule l t) (sym (drop_all n symbols le)) (inr (tt, h));
+      below = λ y e grow t h. elim (subst (λ l. After x rule l t) (drop_all n symbols le) h) [ inl i ↦ absurd i | inr i ↦ grow rule t i.1 ];
+      above = λ y e grow t h. subst (λ l. After y rule l t) (sym (drop_all n symbols le)) (inr (tt, h));
     }
 
     -- one symbol back
-    pub fronting_one : (n wide : ℕ) (s : Sym) (rest : List Sym) (old mid new : FollowSets) (front front' : Front S) (tokens tokens' : List Bool)
+    pub fronting_one : (n wide : ℕ) (s : Sym) (rest : List Sym) (old mid new : FollowSets) (prefix prefix' : Prefix S) (tokens tokens' : List Bool)
         → drop n symbols ≡ s ∷ rest → rest ≡ drop (n + 1) symbols → ((g : Grammar) → All (IsSymbolOf g) symbols → IsSymbolOf g s)
-        → Fronting number rule symbols (n + 1) wide old mid front tokens → new.firsts ≡ old.firsts → Grows mid new
-        → StepsBack number new rule s front tokens front' tokens' → Fronting number rule symbols n wide old new front' tokens'
-    fronting_one n wide s rest old mid new front front' tokens tokens' at behind of w same grew step = record {
+        → Fronting number rule symbols (n + 1) wide old mid prefix tokens → new.firsts ≡ old.firsts → Grows mid new
+        → StepsBack number new rule s prefix tokens prefix' tokens' → Fronting number rule symbols n wide old new prefix' tokens'
+    fronting_one n wide s rest old mid new prefix prefix' tokens tokens' at after of w same grew step = record {
       fits = λ g all. step.fits g (of g all);
       long = step.long ∙ w.long;
-      below = λ x e grow t h. gives_grow new x tokens' front' t (e ∙ sym same) grow
-          ((step.past t).1 (back t (subst (λ l. Behind old rule l t) at h)));
-      above = λ x e grow t h. subst (λ l. Behind x rule l t) (sym at)
-          (behind_grow new x rule (s ∷ rest) t (e ∙ sym same) (grow rule t)
-          (on t ((step.past t).0 (gives_stays new x tokens' front' t step.begun (e ∙ sym same) h))));
+      below = λ x e grow t h. gives_grow new x tokens' prefix' t (e ∙ sym same) grow
+          ((step.past t).1 (back t (subst (λ l. After old rule l t) at h)));
+      above = λ x e grow t h. subst (λ l. After x rule l t) (sym at)
+          (after_grow new x rule (s ∷ rest) t (e ∙ sym same) (grow rule t)
+          (on t ((step.past t).0 (gives_stays new x tokens' prefix' t step.begun (e ∙ sym same) h))));
     }
       where
-        fronts_below : (t : ℕ) → Behind old rule rest t → FrontGives number new rule tokens front t
-        fronts_below t h = w.below new same grew t (subst (λ l. Behind old rule l t) behind h)
+        prefixes_below : (t : ℕ) → After old rule rest t → PrefixGives number new rule tokens prefix t
+        prefixes_below t h = w.below new same grew t (subst (λ l. After old rule l t) after h)
 
-        fronts_above : (t : ℕ) → FrontGives number new rule tokens front t → Behind new rule rest t
-        fronts_above t h = subst (λ l. Behind new rule l t) (sym behind) (w.above new same grew t h)
+        prefixes_above : (t : ℕ) → PrefixGives number new rule tokens prefix t → After new rule rest t
+        prefixes_above t h = subst (λ l. After new rule l t) (sym after) (w.above new same grew t h)
 
         begins_now : (t : ℕ) → BeginsList old (s ∷ []) t → BeginsList new (s ∷ []) t
         begins_now t h = subst (λ f. Begins (IsEpsilon f) (IsAmongFirsts f) (s ∷ []) t) (sym same) h
 
-        vanishes_now : VanishesList old (s ∷ []) → VanishesList new (s ∷ [])
-        vanishes_now h = subst (λ f. Vanishes (IsEpsilon f) (s ∷ [])) (sym same) h
+        nullable_now : NullableList old (s ∷ []) → NullableList new (s ∷ [])
+        nullable_now h = subst (λ f. AreNullable (IsEpsilon f) (s ∷ [])) (sym same) h
 
-        back : (t : ℕ) → Behind old rule (s ∷ rest) t
-            → BeginsList new (s ∷ []) t ⊎ (VanishesList new (s ∷ []) × FrontGives number new rule tokens front t)
+        back : (t : ℕ) → After old rule (s ∷ rest) t
+            → BeginsList new (s ∷ []) t ⊎ (NullableList new (s ∷ []) × PrefixGives number new rule tokens prefix t)
         back t (inl h) = elim (begins_parts _ _ (s ∷ []) rest t h) [
           | inl i ↦ inl (begins_now t i)
-          | inr i ↦ inr (vanishes_now i.0, fronts_below t (inl i.1))
+          | inr i ↦ inr (nullable_now i.0, prefixes_below t (inl i.1))
         ]
-        back t (inr h) = let v = vanishes_parts _ (s ∷ []) rest h.0 in inr (vanishes_now v.0, fronts_below t (inr (v.1, h.1)))
+        back t (inr h) = let v = nullable_parts _ (s ∷ []) rest h.0 in inr (nullable_now v.0, prefixes_below t (inr (v.1, h.1)))
 
-        on : (t : ℕ) → BeginsList new (s ∷ []) t ⊎ (VanishesList new (s ∷ []) × FrontGives number new rule tokens front t)
-            → Behind new rule (s ∷ rest) t
-        on t (inl h) = inl (begins_front _ _ (s ∷ []) rest t h)
-        on t (inr h) = elim (fronts_above t h.1) [
+        on : (t : ℕ) → BeginsList new (s ∷ []) t ⊎ (NullableList new (s ∷ []) × PrefixGives number new rule tokens prefix t)
+            → After new rule (s ∷ rest) t
+        on t (inl h) = inl (begins_prefix _ _ (s ∷ []) rest t h)
+        on t (inr h) = elim (prefixes_above t h.1) [
           | inl i ↦ inl (begins_past _ _ (s ∷ []) rest t h.0 i)
-          | inr i ↦ inr (vanishes_both _ (s ∷ []) rest h.0 i.0, i.1)
+          | inr i ↦ inr (nullable_both _ (s ∷ []) rest h.0 i.0, i.1)
         ]

@@ -69,17 +69,17 @@ notes_then p rests rests' old mid new w v = record {
 }
 
 -- the first n productions of a list were queued
-pub record LetsWaitFront (list : List ℕ) (n : ℕ) (old new : List Bool) : Type 0 where
+pub record LetsWaitPrefix (list : List ℕ) (n : ℕ) (old new : List Bool) : Type 0 where
   pub shape : length new ≡ length old
   pub waits : (q : ℕ) → (Waits new q ↔ (Waits old q ⊎ Contains (take n list) q))
 
 module _ (list : List ℕ) where
-  pub lets_wait_none : (x : List Bool) → LetsWaitFront list 0 x x
+  pub lets_wait_none : (x : List Bool) → LetsWaitPrefix list 0 x x
   lets_wait_none x = record { shape = refl; waits = λ q. ((λ h. inl h), (λ h. elim h [ inl i ↦ i | inr i ↦ absurd (contains_none q i) ])) }
 
-  pub lets_wait_one : (n p : ℕ) (old mid new : List Bool) → n < length list → p ≡ get_or list n p → p < length mid → LetsWaitFront list n old mid
-      → new ≡ slice_set mid p true → LetsWaitFront list (n + 1) old new
-  lets_wait_one n p old mid new lt is within w put = subst (λ l. LetsWaitFront list (n + 1) old l) (sym put) (record {
+  pub lets_wait_one : (n p : ℕ) (old mid new : List Bool) → n < length list → p ≡ get_or list n p → p < length mid → LetsWaitPrefix list n old mid
+      → new ≡ slice_set mid p true → LetsWaitPrefix list (n + 1) old new
+  lets_wait_one n p old mid new lt is within w put = subst (λ l. LetsWaitPrefix list (n + 1) old l) (sym put) (record {
     shape = length-set mid p true ∙ w.shape;
     waits = adds_as (Contains (take (n + 1) list)) (λ q h. inr ((taken q).1 h)) (λ q h. inr ((taken q).0 h)) (adds_then w.waits (bit_put mid p within));
   })
@@ -87,7 +87,7 @@ module _ (list : List ℕ) where
       taken : (q : ℕ) → Contains (take (n + 1) list) q ↔ (Contains (take n list) q ⊎ (q ≡ p))
       taken = contains_taken list n p lt is
 
-  pub lets_wait_all : (users : List (List ℕ)) (rule n : ℕ) (old new : List Bool) → length list ≤ n → list ≡ users_of users rule → LetsWaitFront list n old new
+  pub lets_wait_all : (users : List (List ℕ)) (rule n : ℕ) (old new : List Bool) → length list ≤ n → list ≡ users_of users rule → LetsWaitPrefix list n old new
       → LetsWait users (λ r. r ≡ rule) old new
   lets_wait_all users rule n old new le is w = record {
     shape = w.shape;
@@ -161,20 +161,20 @@ pub notes_rule : (p q : ℕ) (old new : List (List ℕ)) → Notes p (λ r. r �
 notes_rule p q old new w = notes_as p _ _ old new (λ r e. ap Rule e) (λ r e. cc) w
 
 -- the production was noted for the rules among the first n symbols
-abbrev pub NotesFront : ℕ → List Sym → ℕ → List (List ℕ) → List (List ℕ) → Type 0
-NotesFront p a n old new = Notes p (λ r. Contains (take n a) (Rule r)) old new
+abbrev pub NotesPrefix : ℕ → List Sym → ℕ → List (List ℕ) → List (List ℕ) → Type 0
+NotesPrefix p a n old new = Notes p (λ r. Contains (take n a) (Rule r)) old new
 
 module _ (p : ℕ) (a : List Sym) where
-  pub front_none : (x : List (List ℕ)) → NotesFront p a 0 x x
-  front_none x = notes_none p _ x (λ r h. omega (arith, h.1))
+  pub prefix_none : (x : List (List ℕ)) → NotesPrefix p a 0 x x
+  prefix_none x = notes_none p _ x (λ r h. omega (arith, h.1))
 
-  pub front_more : (n : ℕ) (s : Sym) (old mid new : List (List ℕ)) → n < length a → s ≡ get_or a n s → NotesFront p a n old mid
-      → Notes p (λ r. Rule r ≡ s) mid new → NotesFront p a (n + 1) old new
-  front_more n s old mid new lt is w v = notes_as p _ _ old new
+  pub prefix_more : (n : ℕ) (s : Sym) (old mid new : List (List ℕ)) → n < length a → s ≡ get_or a n s → NotesPrefix p a n old mid
+      → Notes p (λ r. Rule r ≡ s) mid new → NotesPrefix p a (n + 1) old new
+  prefix_more n s old mid new lt is w v = notes_as p _ _ old new
       (λ r h. (contains_taken a n s lt is (Rule r)).1 h) (λ r h. (contains_taken a n s lt is (Rule r)).0 h) (notes_then p _ _ old mid new w v)
 
-  pub front_all : (n : ℕ) (old new : List (List ℕ)) → length a ≤ n → NotesFront p a n old new → Notes p (λ r. Contains a (Rule r)) old new
-  front_all n old new le w = subst (λ l. Notes p (λ r. Contains l (Rule r)) old new) (take_all n a le) w
+  pub prefix_all : (n : ℕ) (old new : List (List ℕ)) → length a ≤ n → NotesPrefix p a n old new → Notes p (λ r. Contains a (Rule r)) old new
+  prefix_all n old new le w = subst (λ l. Notes p (λ r. Contains l (Rule r)) old new) (take_all n a le) w
 
 -- a call that may fail noted the production for a rule
 pub rule_noted : {T E : Type 0} (result : Result T E) (p n q : ℕ) (s : Sym) (old new : List (List ℕ)) → n ≡ q → s ≡ Rule q

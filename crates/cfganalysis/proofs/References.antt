@@ -4,9 +4,9 @@ use Rattle.std.proofs.lemmas.List.{get_or_default}
 use Rattle.std.proofs.lemmas.List.Elements.{All-get_or, Contains-get_or}
 use Rattle.derivation.specs.Grammar.{Sym, Rule, Token, Grammar, Production, IsGrammar, IsSymbolOf, HasProduction}
 use Rattle.derivation.specs.Path.{Holds, Path, one, more}
-use Rattle.search.specs.Reached.{FoundBy, Reached, Reaches, SearchState, led, seed}
+use Rattle.search.specs.Reachable.{FoundBy, Reachable, Reaches, SearchState, led, seed}
 use Rattle.search.proofs.Reaching.{reaches_as, reaches_known}
-use Rattle.cfgtables.specs.Openings.{nth_production, ArePlacesOf}
+use Rattle.cfgtables.specs.Openings.{nth_production, ArePositionsOf}
 use Rattle.cfganalysis.specs.Paths.{HeldIn}
 
 pub reaches_no_token : (u : ℕ) (x : SearchState) → Reaches (λ r. Rule r ≡ Token u) x x
@@ -31,13 +31,13 @@ found_rules symbols old new w = reaches_as _ _ old new
     (λ r h. record { thing = Rule r; among = h; finds = refl })
     w
 
-module _ (g : Grammar) (rule : ℕ) (places : List ℕ) (are : ArePlacesOf g rule places) where
+module _ (g : Grammar) (rule : ℕ) (positions : List ℕ) (are : ArePositionsOf g rule positions) where
   -- the rules that a rule's productions contain are those that the rule leads to in one reference
-  pub held_by_rule : (old new : SearchState) → Reaches (FoundBy (HeldIn g) places) old new → Reaches (Holds (HasProduction g) rule) old new
+  pub held_by_rule : (old new : SearchState) → Reaches (FoundBy (HeldIn g) positions) old new → Reaches (Holds (HasProduction g) rule) old new
   held_by_rule old new w = reaches_as _ _ old new (λ r h. to r h) (λ r h. from r h) w
     where
-      to : (r : ℕ) → FoundBy (HeldIn g) places r → Holds (HasProduction g) rule r
-      to r h = let lt = All-get_or (λ p. p < length g.productions) places h.among.0 h.thing h.among.1 are.within in
+      to : (r : ℕ) → FoundBy (HeldIn g) positions r → Holds (HasProduction g) rule r
+      to r h = let lt = All-get_or (λ p. p < length g.productions) positions h.among.0 h.thing h.among.1 are.within in
           let within = subst (λ p. p < length g.productions) h.among.2 lt in
           record {
             symbols = (nth_production g h.thing).symbols;
@@ -46,7 +46,7 @@ module _ (g : Grammar) (rule : ℕ) (places : List ℕ) (are : ArePlacesOf g rul
             holds = h.finds;
           }
 
-      from : (r : ℕ) → Holds (HasProduction g) rule r → FoundBy (HeldIn g) places r
+      from : (r : ℕ) → Holds (HasProduction g) rule r → FoundBy (HeldIn g) positions r
       from r h =
           let at : nth_production g h.has.0 ≡ record { rule = rule; symbols = h.symbols } = get_or_default g.productions h.has.0 _ _ h.has.1 ∙ h.has.2 in
           record {
@@ -56,18 +56,18 @@ module _ (g : Grammar) (rule : ℕ) (places : List ℕ) (are : ArePlacesOf g rul
           }
 
 module _ (P : ℕ → List Sym → Type 0) (a : ℕ) (Seed : ℕ → Type 0) where
-  pub path_to_reached : ((b : ℕ) → Seed b → Holds P a b) → {b : ℕ} → Reached Seed (Holds P) b → Path P a b
-  path_to_reached holds (seed {a = b} h) = one (holds b h)
-  path_to_reached holds (led r h) = path_more (path_to_reached holds r) h
+  pub path_to_reachable : ((b : ℕ) → Seed b → Holds P a b) → {b : ℕ} → Reachable Seed (Holds P) b → Path P a b
+  path_to_reachable holds (seed {a = b} h) = one (holds b h)
+  path_to_reachable holds (led r h) = path_more (path_to_reachable holds r) h
     where
       path_more : {a b c : ℕ} → Path P a b → Holds P b c → Path P a c
       path_more (one h) k = more h (one k)
       path_more (more h p) k = more h (path_more p k)
 
-  pub reached_by_path : ((b : ℕ) → Holds P a b → Seed b) → {b : ℕ} → Path P a b → Reached Seed (Holds P) b
-  reached_by_path seeds (one {b = b} h) = seed (seeds b h)
-  reached_by_path seeds (more {b = b} h p) = along (seed (seeds b h)) p
+  pub reachable_by_path : ((b : ℕ) → Holds P a b → Seed b) → {b : ℕ} → Path P a b → Reachable Seed (Holds P) b
+  reachable_by_path seeds (one {b = b} h) = seed (seeds b h)
+  reachable_by_path seeds (more {b = b} h p) = along (seed (seeds b h)) p
     where
-      along : {b c : ℕ} → Reached Seed (Holds P) b → Path P b c → Reached Seed (Holds P) c
+      along : {b c : ℕ} → Reachable Seed (Holds P) b → Path P b c → Reachable Seed (Holds P) c
       along r (one h) = led r h
       along r (more h p) = along (led r h) p

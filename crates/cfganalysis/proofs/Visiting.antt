@@ -7,11 +7,11 @@ use Rattle.std.proofs.lemmas.List.Sums.{count_by-le-length}
 use Rattle.lemmas.proofs.Elements.{get_or-replicate_default, within_from_get_or}
 use Rattle.derivation.specs.Grammar.{Grammar, Production, IsGrammar}
 use Rattle.cfgtables.specs.Openings.{AreOpenedAtMost, nth_production, OpensOne}
-use Rattle.cfganalysis.specs.Inner.Growth.{CoversEach, TakesIn, TakesInto, Visited, left_to_do}
+use Rattle.cfganalysis.specs.Inner.Growth.{CoversEach, AddsProduction, AddsInto, Visited, left_to_do}
 use Rattle.cfganalysis.specs.Table.{bits_on}
 use Rattle.cfganalysis.specs.Inner.Waiting.{waits, Waits, NoneWaits, WaitsNoMore}
 use Rattle.cfganalysis.specs.Inner.Work.{users_of, Notes, LetsWait}
-use Rattle.cfgtables.proofs.Placed.{same_production, at_place}
+use Rattle.cfgtables.proofs.Located.{same_production, at_position}
 use Rattle.lemmas.proofs.Contained.{contains_none}
 use Rattle.cfganalysis.proofs.Stacking.{bits_on-clear, bits_on-none}
 
@@ -45,28 +45,28 @@ one_more : (n m : ℕ) → n * (m + 1) ≡ n * m + n
 one_more n m = mul-add n m 1 ∙ ap (λ k. n * m + k) (mul-one n)
 
 -- at most all productions wait, and more of them than before only if bits were turned on
-together_after : (all n m m' w w' places : ℕ) → all + w ≤ n + places * m → m ≤ m' → w' ≤ places → (m < m') ⊎ (w' ≡ w) → all + w' ≤ n + places * m'
-together_after all n m m' w w' places h le most (inl lt) =
-    let product : places * (m + 1) ≤ places * m' = mul-le-mul_left places (omega (arith, lt)) in
-    omega (arith, h, most, product, one_more places m)
-together_after all n m m' w w' places h le most (inr e) =
-    let product : places * m ≤ places * m' = mul-le-mul_left places le in
+together_after : (all n m m' w w' positions : ℕ) → all + w ≤ n + positions * m → m ≤ m' → w' ≤ positions → (m < m') ⊎ (w' ≡ w) → all + w' ≤ n + positions * m'
+together_after all n m m' w w' positions h le most (inl lt) =
+    let product : positions * (m + 1) ≤ positions * m' = mul-le-mul_left positions (omega (arith, lt)) in
+    omega (arith, h, most, product, one_more positions m)
+together_after all n m m' w w' positions h le most (inr e) =
+    let product : positions * m ≤ positions * m' = mul-le-mul_left positions le in
     omega (arith, h, e, product)
 
 -- less is left to do if bits were turned on, or else if fewer productions wait
 abbrev left : ℕ → ℕ → ℕ → ℕ → ℕ
-left most places bits waiting = (most - bits) * (places + 1) + waiting
+left most positions bits waiting = (most - bits) * (positions + 1) + waiting
 
-left_less : (most places m m' w w' : ℕ) → m' ≤ most → w' ≤ places → (m < m') ⊎ ((m ≡ m') × (w' < w)) → left most places m' w' < left most places m w
-left_less most places m m' w w' top le (inl lt) =
-    let product : (places + 1) * ((most - m') + 1) ≤ (places + 1) * (most - m) = mul-le-mul_left (places + 1) (omega (arith, lt, top)) in
-    omega (arith, one_more (places + 1) (most - m'), product, le, mul_comm (places + 1) (most - m'), mul_comm (places + 1) (most - m))
-left_less most places m m' w w' top le (inr h) = subst (λ k. left most places k w' < left most places m w) h.0 (omega (arith, h.1))
+left_less : (most positions m m' w w' : ℕ) → m' ≤ most → w' ≤ positions → (m < m') ⊎ ((m ≡ m') × (w' < w)) → left most positions m' w' < left most positions m w
+left_less most positions m m' w w' top le (inl lt) =
+    let product : (positions + 1) * ((most - m') + 1) ≤ (positions + 1) * (most - m) = mul-le-mul_left (positions + 1) (omega (arith, lt, top)) in
+    omega (arith, one_more (positions + 1) (most - m'), product, le, mul_comm (positions + 1) (most - m'), mul_comm (positions + 1) (most - m))
+left_less most positions m m' w w' top le (inr h) = subst (λ k. left most positions k w' < left most positions m w) h.0 (omega (arith, h.1))
 
 module _ {X : Type 0} (holds : Grammar → X → Type 0) (covers : X → Production → Type 0) (bits : X → ℕ) (rests_on : Production → ℕ → Type 0) where
   pub takes_into : (no_more : ℕ → X → X → Type 0) (p : Production) (users : List (List ℕ)) (old new : X) (gained waiting waiting' : List Bool)
-      → TakesIn holds covers bits rests_on no_more p old new (Waits gained) → LetsWait users (Waits gained) waiting waiting'
-      → TakesInto holds covers bits rests_on no_more p users old new waiting waiting'
+      → AddsProduction holds covers bits rests_on no_more p old new (Waits gained) → LetsWait users (Waits gained) waiting waiting'
+      → AddsInto holds covers bits rests_on no_more p users old new waiting waiting'
   takes_into no_more p users old new gained waiting waiting' w v = record {
     sound = w.sound;
     no_less = w.no_less;
@@ -93,7 +93,7 @@ module _ {X : Type 0} (holds : Grammar → X → Type 0) (covers : X → Product
   record Open (g : Grammar) (n p : ℕ) (x : X) (users : List (List ℕ)) (waiting : List Bool) (opened : ℕ → ℕ) (all : ℕ) : Type 0 where
     sound : holds g x
     rules : length users ≡ g.rules
-    places : length waiting ≡ length g.productions
+    positions : length waiting ≡ length g.productions
     here : p < n
     noted : (q r : ℕ) → q < n → rests_on (nth_production g q) r → Contains (users_of users r) q
     within : (q r : ℕ) → Contains (users_of users r) q → q < n
@@ -109,7 +109,7 @@ module _ {X : Type 0} (holds : Grammar → X → Type 0) (covers : X → Product
   opened_first g g' n x users users' waiting gained o o' a a' lt w one notes = record {
     sound = w.sound;
     rules = notes.shape ∙ w.rules;
-    places = w.places;
+    positions = w.positions;
     here = omega arith;
     noted = λ q r h rests. below_more (λ k. rests_on (nth_production g k) r → Contains (users_of users' r) k) n
         (λ k i j. (notes.users r k).1 (inl (w.noted k r i j))) (λ j. (notes.users r n).1 (inr (refl, j))) q h rests;
@@ -141,7 +141,7 @@ module _ {X : Type 0} (holds : Grammar → X → Type 0) (covers : X → Product
   opened_next g g' n p x users waiting rest gained o o' a a' w leaves one = record {
     sound = w.sound;
     rules = w.rules;
-    places = ap length leaves.rest ∙ length-set waiting p false ∙ w.places;
+    positions = ap length leaves.rest ∙ length-set waiting p false ∙ w.positions;
     here = w.known p leaves.waited;
     noted = w.noted;
     within = w.within;
@@ -159,18 +159,18 @@ module _ {X : Type 0} (holds : Grammar → X → Type 0) (covers : X → Product
     together =
         let e = one.together in
         let h = w.together in
-        let less : bits_on rest + 1 ≡ bits_on waiting = ap (λ l. bits_on l + 1) leaves.rest ∙ bits_on-clear waiting p place leaves.waited in
+        let less : bits_on rest + 1 ≡ bits_on waiting = ap (λ l. bits_on l + 1) leaves.rest ∙ bits_on-clear waiting p index leaves.waited in
         omega (arith, e, h, less);
   }
     where
-      place : p < length waiting
-      place = within_from_get_or waiting p false (λ e. both leaves.waited e)
+      index : p < length waiting
+      index = within_from_get_or waiting p false (λ e. both leaves.waited e)
 
       other : (q : ℕ) → q ≢ p → waits rest q ≡ waits waiting q
       other q ne = ap (λ l. get_or l q false) leaves.rest ∙ get_or-set_other waiting p q false false ne
 
       gone : waits rest p ≡ false
-      gone = ap (λ l. get_or l p false) leaves.rest ∙ get_or-set_same waiting p false false place
+      gone = ap (λ l. get_or l p false) leaves.rest ∙ get_or-set_same waiting p false false index
 
       waited : (q : ℕ) → Waits rest q → Waits waiting q
       waited q h = elim (cases_eq q p) [
@@ -188,7 +188,7 @@ module _ {X : Type 0} (holds : Grammar → X → Type 0) (covers : X → Product
 
   module _ (no_more : ℕ → X → X → Type 0) (g : Grammar) (n p : ℕ) (old new : X) (users : List (List ℕ)) (waiting waiting' gained : List Bool) (o : ℕ → ℕ) (a : ℕ) (is : IsGrammar g)
       (top : n ≤ length g.productions) (w : Open g n p old users waiting o a)
-      (takes : TakesInto holds covers bits rests_on no_more (nth_production g p) users old new waiting waiting')
+      (takes : AddsInto holds covers bits rests_on no_more (nth_production g p) users old new waiting waiting')
       (idle : NoneWaits gained) (gains : length gained ≡ g.rules) where
     grew : (bits old < bits new) ⊎ (waiting' ≡ waiting)
     grew = elim (cases_lt (bits old) (bits new)) [
@@ -199,15 +199,15 @@ module _ {X : Type 0} (holds : Grammar → X → Type 0) (covers : X → Product
       ]))
     ]
 
-    place : p < length g.productions
-    place = let h = w.here in omega (arith, h, top)
+    index : p < length g.productions
+    index = let h = w.here in omega (arith, h, top)
 
     opened_taken : Visited holds covers bits rests_on g n new users waiting' gained o a
     opened_taken = record {
-      sound = takes.sound g is (at_place g p (nth_production g p) place refl refl) w.sound;
+      sound = takes.sound g is (at_position g p (nth_production g p) index refl refl) w.sound;
       rules = w.rules;
       gains = gains;
-      places = takes.shape ∙ w.places;
+      positions = takes.shape ∙ w.positions;
       idle = idle;
       noted = w.noted;
       within = w.within;
@@ -222,7 +222,7 @@ module _ {X : Type 0} (holds : Grammar → X → Type 0) (covers : X → Product
           (λ on. elim ((takes.again q).0 on) [ inl i ↦ inl i | inr i ↦ inr (takes.more i.rule i.gains) ]);
       fresh = w.fresh;
       together = together_after a n (bits old) (bits new) (bits_on waiting) (bits_on waiting') (length g.productions) w.together takes.no_less
-          (let most = count_by-le-length (λ (b : Bool). b) waiting' in let e = takes.shape in let h = w.places in omega (arith, most, e, h))
+          (let most = count_by-le-length (λ (b : Bool). b) waiting' in let e = takes.shape in let h = w.positions in omega (arith, most, e, h))
           (elim grew [ inl lt ↦ inl lt | inr e ↦ inr (ap bits_on e) ]);
     }
 
@@ -247,43 +247,43 @@ module _ {X : Type 0} (holds : Grammar → X → Type 0) (covers : X → Product
     -- what is noted is a number below the bound of those that can wait
     pub noted_within : (rests : ℕ → Type 0) (users' : List (List ℕ)) → n < length g.productions → Notes n rests users users'
         → (r q : ℕ) → Contains (users_of users' r) q → q < length waiting
-    noted_within rests users' lt notes r q h = let e = w.places in elim ((notes.users r q).0 h) [
+    noted_within rests users' lt notes r q h = let e = w.positions in elim ((notes.users r q).0 h) [
       | inl i ↦ let k = w.within q r i in omega (arith, k, lt, e)
       | inr i ↦ let k = i.0 in omega (arith, k, lt, e)
     ]
 
     -- a production was opened for the first time
-    pub visited_first : (no_more : ℕ → X → X → Type 0) (g' : Grammar) (place : ℕ) (p : Production) (new : X) (users' users'' : List (List ℕ)) (waiting' gained' : List Bool) (o' : ℕ → ℕ) (a' : ℕ)
-        → IsGrammar g → n < length g.productions → place ≡ n → p.rule ≡ (nth_production g place).rule → p.symbols ≡ (nth_production g place).symbols
-        → OpensOne place g g' o o' a a' → Notes n (rests_on p) users users' → TakesInto holds covers bits rests_on no_more p users' x new waiting waiting'
+    pub visited_first : (no_more : ℕ → X → X → Type 0) (g' : Grammar) (index : ℕ) (p : Production) (new : X) (users' users'' : List (List ℕ)) (waiting' gained' : List Bool) (o' : ℕ → ℕ) (a' : ℕ)
+        → IsGrammar g → n < length g.productions → index ≡ n → p.rule ≡ (nth_production g index).rule → p.symbols ≡ (nth_production g index).symbols
+        → OpensOne index g g' o o' a a' → Notes n (rests_on p) users users' → AddsInto holds covers bits rests_on no_more p users' x new waiting waiting'
         → users'' ≡ users' → NoneWaits gained' → length gained' ≡ length gained
         → Visited holds covers bits rests_on g' (n + 1) new users'' waiting' gained' o' a'
-    visited_first no_more g' place p new users' users'' waiting' gained' o' a' is lt at rule symbols one notes takes same idle gains =
-        let e = same_production p (nth_production g place) rule symbols ∙ ap (nth_production g) at in
+    visited_first no_more g' index p new users' users'' waiting' gained' o' a' is lt at rule symbols one notes takes same idle gains =
+        let e = same_production p (nth_production g index) rule symbols ∙ ap (nth_production g) at in
         let state = opened_first g g' n x users users' waiting gained o o' a a' lt w (subst (λ k. OpensOne k g g' o o' a a') at one) (subst (λ q. Notes n (rests_on q) users users') e notes) in
         subst (λ h. Visited holds covers bits rests_on h (n + 1) new users'' waiting' gained' o' a') (sym one.stays)
         (subst (λ l. Visited holds covers bits rests_on g (n + 1) new l waiting' gained' o' a') (sym same)
         (opened_taken no_more g (n + 1) n x new users' waiting waiting' gained' o' a' is (omega (arith, lt)) state
-        (subst (λ q. TakesInto holds covers bits rests_on no_more q users' x new waiting waiting') e takes) idle (gains ∙ w.gains)))
+        (subst (λ q. AddsInto holds covers bits rests_on no_more q users' x new waiting waiting') e takes) idle (gains ∙ w.gains)))
 
     -- a production that waited was opened again
-    pub visited_next : (no_more : ℕ → X → X → Type 0) (g' : Grammar) (place m : ℕ) (p : Production) (new : X) (users' : List (List ℕ)) (rest waiting' gained' : List Bool) (o' : ℕ → ℕ) (a' : ℕ)
-        → IsGrammar g → n ≡ length g.productions → place ≡ m → p.rule ≡ (nth_production g place).rule → p.symbols ≡ (nth_production g place).symbols
-        → WaitsNoMore m waiting rest → OpensOne place g g' o o' a a' → TakesInto holds covers bits rests_on no_more p users x new rest waiting'
+    pub visited_next : (no_more : ℕ → X → X → Type 0) (g' : Grammar) (index m : ℕ) (p : Production) (new : X) (users' : List (List ℕ)) (rest waiting' gained' : List Bool) (o' : ℕ → ℕ) (a' : ℕ)
+        → IsGrammar g → n ≡ length g.productions → index ≡ m → p.rule ≡ (nth_production g index).rule → p.symbols ≡ (nth_production g index).symbols
+        → WaitsNoMore m waiting rest → OpensOne index g g' o o' a a' → AddsInto holds covers bits rests_on no_more p users x new rest waiting'
         → users' ≡ users → NoneWaits gained' → length gained' ≡ length gained
         → Visited holds covers bits rests_on g' (length g'.productions) new users' waiting' gained' o' a'
-    visited_next no_more g' place m p new users' rest waiting' gained' o' a' is top at rule symbols leaves one takes same idle gains =
-        let e = same_production p (nth_production g place) rule symbols ∙ ap (nth_production g) at in
+    visited_next no_more g' index m p new users' rest waiting' gained' o' a' is top at rule symbols leaves one takes same idle gains =
+        let e = same_production p (nth_production g index) rule symbols ∙ ap (nth_production g) at in
         let state = opened_next g g' n m x users waiting rest gained o o' a a' w leaves (subst (λ k. OpensOne k g g' o o' a a') at one) in
         subst (λ h. Visited holds covers bits rests_on h (length h.productions) new users' waiting' gained' o' a') (sym one.stays)
         (subst (λ k. Visited holds covers bits rests_on g k new users' waiting' gained' o' a') top
         (subst (λ l. Visited holds covers bits rests_on g n new l waiting' gained' o' a') (sym same)
         (opened_taken no_more g n m x new users rest waiting' gained' o' a' is (omega (arith, top)) state
-        (subst (λ q. TakesInto holds covers bits rests_on no_more q users x new rest waiting') e takes) idle (gains ∙ w.gains))))
+        (subst (λ q. AddsInto holds covers bits rests_on no_more q users x new rest waiting') e takes) idle (gains ∙ w.gains))))
 
     -- and less is left to do
     pub visited_less : (no_more : ℕ → X → X → Type 0) (m : ℕ) (p : Production) (new : X) (rest waiting' : List Bool) → bits new ≤ g.rules * (g.tokens + 1) → WaitsNoMore m waiting rest
-        → TakesInto holds covers bits rests_on no_more p users x new rest waiting'
+        → AddsInto holds covers bits rests_on no_more p users x new rest waiting'
         → left_to_do g (bits new) waiting' < left_to_do g (bits x) waiting
     visited_less no_more m p new rest waiting' bound leaves takes =
         subst (λ k. left (g.rules * (g.tokens + 1)) k (bits new) (bits_on waiting') < left_to_do g (bits x) waiting) (sym longer)
@@ -344,23 +344,23 @@ module _ {X : Type 0} (holds : Grammar → X → Type 0) (covers : X → Product
     visited_all e none q lt = w.covered q (omega (arith, e, lt)) (none q)
 
   -- before the first visit
-  pub visited_none : (g : Grammar) (x : X) (o : ℕ → ℕ) (a rules places : ℕ) (users : List (List ℕ)) (waiting gained : List Bool) → holds g x
-      → rules ≡ g.rules → places ≡ length g.productions → users ≡ replicate rules [] → waiting ≡ replicate places false → gained ≡ replicate rules false
+  pub visited_none : (g : Grammar) (x : X) (o : ℕ → ℕ) (a rules positions : ℕ) (users : List (List ℕ)) (waiting gained : List Bool) → holds g x
+      → rules ≡ g.rules → positions ≡ length g.productions → users ≡ replicate rules [] → waiting ≡ replicate positions false → gained ≡ replicate rules false
       → ((q : ℕ) → q < length g.productions → o q ≡ 0) → a ≡ 0
       → Visited holds covers bits rests_on g 0 x users waiting gained o a
-  visited_none g x o a rules places users waiting gained sound rs ps us ws gs fresh none = record {
+  visited_none g x o a rules positions users waiting gained sound rs ps us ws gs fresh none = record {
     sound = sound;
     rules = ap length us ∙ length-replicate rules [] ∙ rs;
     gains = ap length gs ∙ length-replicate rules false ∙ rs;
-    places = ap length ws ∙ length-replicate places false ∙ ps;
+    positions = ap length ws ∙ length-replicate positions false ∙ ps;
     idle = λ r. ap (waits_at r) gs ∙ get_or-replicate_default rules r false;
     noted = λ q r h. absurd (omega (arith, h));
     within = λ q r h. absurd (contains_none q (subst (λ l. Contains l q) (ap (λ l. get_or l r []) us ∙ get_or-replicate_default rules r []) h));
-    known = λ q h. absurd (both h (ap (waits_at q) ws ∙ get_or-replicate_default places q false));
+    known = λ q h. absurd (both h (ap (waits_at q) ws ∙ get_or-replicate_default positions q false));
     covered = λ q h. absurd (omega (arith, h));
     few = λ q h. absurd (omega (arith, h));
     fresh = λ q h lt. fresh q lt;
-    together = let e : bits_on waiting ≡ 0 = ap bits_on ws ∙ bits_on-none places in omega (arith, e, none);
+    together = let e : bits_on waiting ≡ 0 = ap bits_on ws ∙ bits_on-none positions in omega (arith, e, none);
   }
     where
       waits_at : ℕ → List Bool → Bool

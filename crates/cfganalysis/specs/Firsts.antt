@@ -1,19 +1,19 @@
 -- FIRST sets: the tokens that rules begin with, and the rules that are nullable.
 use Rattle.std.specs.Prelude.{◌≡◌, ◌↔◌, ℕ, Bool, false, List, length, IsTrue, slice_index_or}
 use Rattle.derivation.specs.Grammar.{Grammar, HasProduction}
-use Rattle.derivation.specs.First.{First, Empty}
+use Rattle.derivation.specs.First.{First, Nullable}
 use Rattle.cfganalysis.specs.Table.{Table, IsTable, HasBit, with_bit}
 
 -- a row of tokens for each rule, and a bit for each nullable rule
 pub record FirstSets : Type 0 where
   pub firsts : Table
-  pub epsilons : List Bool
+  pub nullable : List Bool
 
 abbrev pub IsAmongFirsts : FirstSets → ℕ → ℕ → Type 0
 IsAmongFirsts x r t = HasBit x.firsts r t
 
 abbrev pub epsilon_bit : FirstSets → ℕ → Bool
-epsilon_bit x r = slice_index_or x.epsilons r false
+epsilon_bit x r = slice_index_or x.nullable r false
 
 abbrev pub IsEpsilon : FirstSets → ℕ → Type 0
 IsEpsilon x r = IsTrue (epsilon_bit x r)
@@ -21,14 +21,14 @@ IsEpsilon x r = IsTrue (epsilon_bit x r)
 -- the table has a row for each rule and a column for each token, and the list a bit for each rule
 pub record FitsGrammar (g : Grammar) (x : FirstSets) : Type 0 where
   pub table : IsTable g.rules g.tokens x.firsts
-  pub epsilons : length x.epsilons ≡ g.rules
+  pub nullable : length x.nullable ≡ g.rules
 
 -- the sets contain exactly what derivations show
 pub record AreFirsts (g : Grammar) (x : FirstSets) : Type 0 where
   pub fits : FitsGrammar g x
   pub first : (r t : ℕ) → (IsAmongFirsts x r t ↔ First (HasProduction g) r t)
-  pub empty : (r : ℕ) → (IsEpsilon x r ↔ Empty (HasProduction g) r)
+  pub empty : (r : ℕ) → (IsEpsilon x r ↔ Nullable (HasProduction g) r)
 
 -- the sets with this token added to the rule's set
 abbrev pub with_first : FirstSets → ℕ → ℕ → FirstSets
-with_first x r t = record { firsts = with_bit x.firsts r t; epsilons = x.epsilons }
+with_first x r t = record { firsts = with_bit x.firsts r t; nullable = x.nullable }

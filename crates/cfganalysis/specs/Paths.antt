@@ -5,4 +5,4 @@ use Rattle.cfgtables.specs.Openings.{nth_production}
 
 -- the production with this number contains the rule
 abbrev pub HeldIn : Grammar → ℕ → ℕ → Type 0
-HeldIn g place r = Contains (nth_production g place).symbols (Rule r)
+HeldIn g index r = Contains (nth_production g index).symbols (Rule r)

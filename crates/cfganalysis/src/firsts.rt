@@ -7,7 +7,7 @@ ghost use Rattle.cfganalysis.specs.Firsts.{AreFirsts, FitsGrammar, IsAmongFirsts
 ghost use Rattle.cfganalysis.specs.Inner.GrowingFirsts.{BeginsBy, HasNoMoreFirsts, HaveFirstsOf, HoldsRule, SayFirsts};
 ghost use Rattle.cfganalysis.specs.Inner.GrowingFirsts.{count_firsts, is_empty_symbol, no_firsts, with_epsilon};
 ghost use Rattle.cfgtables.specs.Openings.{AreOpenedAtMost, most_openings};
-ghost use Rattle.cfganalysis.specs.Inner.Growth.{CanNote, CanTakeIn, TakesIn, shown};
+ghost use Rattle.cfganalysis.specs.Inner.Growth.{CanNote, CanAddProduction, AddsProduction, shown};
 ghost use Rattle.cfgtables.specs.NumberedSymbols.{sym_of};
 ghost use Rattle.cfganalysis.specs.Table.{Joins, row_of};
 ghost use Rattle.cfganalysis.specs.Inner.Bounds.{firsts_bounded};
@@ -29,7 +29,7 @@ use std::marker::{Model, PhantomData};
 #[derive(Debug, Drop)]
 pub struct YaccFirsts<S: Storage> {
     firsts: BitTable,
-    epsilons: Vob,
+    nullable: Vob,
     storage: PhantomData<S>,
 }
 
@@ -38,7 +38,7 @@ impl<S: Storage> Model for YaccFirsts<S> {
 
     ghost Value = { FirstSets };
 
-    ghost view = { λ x. record { firsts = x.firsts; epsilons = x.epsilons } };
+    ghost view = { λ x. record { firsts = x.firsts; nullable = x.nullable } };
 }
 
 impl<S: Storage> YaccFirsts<S> {
@@ -90,7 +90,7 @@ impl<S: Storage> YaccFirsts<S> {
     fn is_empty(&self, rule: usize) -> bool
         ensures { result ≡ epsilon_bit self.now rule }
     {
-        self.epsilons.get(rule).unwrap_or(false)
+        self.nullable.get(rule).unwrap_or(false)
     }
 
     /// Whether the symbol is a nullable rule.
@@ -144,7 +144,7 @@ pub fn note_rules<S: Storage>(
 #[derive(Drop)]
 struct GrowingFirsts<S: Storage> {
     firsts: WordTable,
-    epsilons: Vob,
+    nullable: Vob,
     storage: PhantomData<S>,
 }
 
@@ -153,7 +153,7 @@ impl<S: Storage> Model for GrowingFirsts<S> {
 
     ghost Value = { FirstSets };
 
-    ghost view = { λ x. record { firsts = x.firsts; epsilons = x.epsilons } };
+    ghost view = { λ x. record { firsts = x.firsts; nullable = x.nullable } };
 }
 
 impl<S: Storage> GrowingFirsts<S> {
@@ -165,7 +165,7 @@ impl<S: Storage> GrowingFirsts<S> {
     {
         Ok(GrowingFirsts {
             firsts: WordTable::new(alloc, rules, tokens)?,
-            epsilons: Vob::from_elem(alloc, false, rules)?,
+            nullable: Vob::from_elem(alloc, false, rules)?,
             storage: PhantomData,
         })
     }
@@ -176,7 +176,7 @@ impl<S: Storage> GrowingFirsts<S> {
     {
         Ok(YaccFirsts {
             firsts: BitTable::from_words(alloc, &self.firsts)?,
-            epsilons: self.epsilons,
+            nullable: self.nullable,
             storage: PhantomData,
         })
     }
@@ -186,7 +186,7 @@ impl<S: Storage> GrowingFirsts<S> {
         ensures { result ≡ is_empty_symbol self.now (sym_of S.number symbol) }
     {
         match symbol {
-            Symbol::Rule(rule) => self.epsilons.get(usize::from(rule)).unwrap_or(false),
+            Symbol::Rule(rule) => self.nullable.get(usize::from(rule)).unwrap_or(false),
             Symbol::Token(_) => false,
         }
     }
@@ -195,7 +195,7 @@ impl<S: Storage> GrowingFirsts<S> {
     fn put_first(&mut self, rule: RIdx<S>, symbol: Symbol<S>) -> bool
         requires { (g : Grammar) × FitsGrammar g self.old × (S.number rule.0 < g.rules)
             × IsSymbolOf g (sym_of S.number symbol) }
-        ensures epsilons { self.new.epsilons ≡ self.old.epsilons }
+        ensures nullable { self.new.nullable ≡ self.old.nullable }
         ensures joins { Joins (λ r t. (r ≡ S.number rule.0) × BeginsBy self.old (sym_of S.number symbol ∷ []) t)
             self.old.firsts self.new.firsts result }
     {
@@ -207,19 +207,19 @@ impl<S: Storage> GrowingFirsts<S> {
 
     /// Marks the rule as nullable. Returns whether it wasn't marked before.
     fn put_epsilon(&mut self, rule: RIdx<S>) -> bool
-        requires { S.number rule.0 < length self.old.epsilons }
+        requires { S.number rule.0 < length self.old.nullable }
         ensures bits { self.new ≡ with_epsilon self.old (S.number rule.0) }
         ensures was { MatchBool result (epsilon_bit self.old (S.number rule.0) ≡ false)
             (epsilon_bit self.old (S.number rule.0) ≡ true) }
     {
-        self.epsilons.set(usize::from(rule), true)
+        self.nullable.set(usize::from(rule), true)
     }
 
     /// Adds what a production gives. Returns whether the rule's set grew.
-    fn take_in(&mut self, rule: RIdx<S>, symbols: &[Symbol<S>]) -> bool
+    fn add_production(&mut self, rule: RIdx<S>, symbols: &[Symbol<S>]) -> bool
         requires { (g : Grammar) × IsGrammar g × SayFirsts g self.old
             × Contains g.productions (shown S.number rule symbols.now) }
-        ensures { TakesIn SayFirsts HaveFirstsOf count_firsts HoldsRule HasNoMoreFirsts
+        ensures { AddsProduction SayFirsts HaveFirstsOf count_firsts HoldsRule HasNoMoreFirsts
             (shown S.number rule symbols.now)
             self.old self.new (λ r. (r ≡ S.number rule.0) × IsTrue result) }
     {
@@ -261,12 +261,12 @@ impl<S: Storage> Analysis<S> for GrowingFirsts<S> {
     }
 
     fn visit(&mut self, rule: RIdx<S>, symbols: &[Symbol<S>], gained: &mut Waiting)
-        requires { CanTakeIn SayFirsts self.old gained.old (shown S.number rule symbols.now) }
-        ensures takes { TakesIn SayFirsts HaveFirstsOf count_firsts HoldsRule HasNoMoreFirsts
+        requires { CanAddProduction SayFirsts self.old gained.old (shown S.number rule symbols.now) }
+        ensures takes { AddsProduction SayFirsts HaveFirstsOf count_firsts HoldsRule HasNoMoreFirsts
             (shown S.number rule symbols.now) self.old self.new (Waits gained.new) }
         ensures rules { length gained.new ≡ length gained.old }
     {
-        if self.take_in(rule, symbols) {
+        if self.add_production(rule, symbols) {
             gained.put(usize::from(rule));
         }
     }

@@ -4,11 +4,11 @@ ghost use Rattle.std.specs.Prelude.{◌≡◌, ◌-◌, ◌^◌, ◌<◌, ◌≤
 ghost use Rattle.derivation.specs.Grammar.{Grammar, IsGrammar, IsSymbolOf, Rule};
 ghost use Rattle.cfganalysis.specs.Firsts.{AreFirsts};
 ghost use Rattle.cfganalysis.specs.Follows.{AreFollows};
-ghost use Rattle.cfganalysis.specs.Inner.GrowingFollows.{BeginsList, FitFollows, FrontGives, Gathers, HasNoMoreFollows};
-ghost use Rattle.cfganalysis.specs.Inner.GrowingFollows.{HaveFollowsOf, IsFrontOf, IsGathered, IsOwner, Puts};
-ghost use Rattle.cfganalysis.specs.Inner.GrowingFollows.{PutsBehind, SayFollows, StepsBack, count_follows};
+ghost use Rattle.cfganalysis.specs.Inner.GrowingFollows.{BeginsList, FitFollows, PrefixGives, Gathers, HasNoMoreFollows};
+ghost use Rattle.cfganalysis.specs.Inner.GrowingFollows.{HaveFollowsOf, IsPrefixOf, IsGathered, IsOwner, Puts};
+ghost use Rattle.cfganalysis.specs.Inner.GrowingFollows.{PutsAfter, SayFollows, StepsBack, count_follows};
 ghost use Rattle.cfgtables.specs.Openings.{AreOpenedAtMost, most_openings};
-ghost use Rattle.cfganalysis.specs.Inner.Growth.{CanNote, CanTakeIn, TakesIn, shown};
+ghost use Rattle.cfganalysis.specs.Inner.Growth.{CanNote, CanAddProduction, AddsProduction, shown};
 ghost use Rattle.cfgtables.specs.NumberedSymbols.{sym_of};
 ghost use Rattle.cfganalysis.specs.Table.{HasBit, no_bits, row_of, with_bit};
 ghost use Rattle.cfganalysis.specs.Inner.Bounds.{follows_bounded};
@@ -75,7 +75,7 @@ impl<S: Storage> YaccFollows<S> {
 
 /// The next tokens at a position of a production.
 #[derive(Drop)]
-enum Front<S: Storage> {
+enum Prefix<S: Storage> {
     /// What follows the production's rule: the position is the end of the production.
     End,
     /// What the next symbol begins with, which isn't nullable.
@@ -127,47 +127,47 @@ impl<'a, S: Storage> GrowingFollows<'a, S> {
     }
 
     /// Adds the next tokens to the FOLLOW set of the rule before them. Returns whether the set grew.
-    fn put_front(
+    fn put_prefix(
         &mut self,
         rule: RIdx<S>,
         before: RIdx<S>,
-        front: &Front<S>,
+        prefix: &Prefix<S>,
         gathered: &Vob,
     ) -> bool
         requires { (g : Grammar) × FitFollows g self.old × (S.number rule.0 < g.rules)
             × (S.number before.0 < g.rules)
-            × IsFrontOf S.number g front.now × (length gathered.now ≡ g.tokens) }
+            × IsPrefixOf S.number g prefix.now × (length gathered.now ≡ g.tokens) }
         ensures { Puts (λ r t. (r ≡ S.number before.0)
-            × FrontGives S.number self.old (S.number rule.0) gathered.now front.now t)
+            × PrefixGives S.number self.old (S.number rule.0) gathered.now prefix.now t)
             self.old self.new result }
     {
-        match front {
-            Front::End => self.put_follows(before, rule),
-            Front::Symbol(symbol) => self.put_first(before, *symbol),
-            Front::Gathered => self.follows.join(usize::from(before), gathered),
+        match prefix {
+            Prefix::End => self.put_follows(before, rule),
+            Prefix::Symbol(symbol) => self.put_first(before, *symbol),
+            Prefix::Gathered => self.follows.join(usize::from(before), gathered),
         }
     }
 
     /// If the symbol is a rule, adds the next tokens to its FOLLOW set, and queues the rule if the set grew.
-    fn put_behind(
+    fn put_after(
         &mut self,
         rule: RIdx<S>,
         symbol: Symbol<S>,
-        front: &Front<S>,
+        prefix: &Prefix<S>,
         gathered: &Vob,
         gained: &mut Waiting,
     )
         requires { (g : Grammar) × FitFollows g self.old × (length gained.old ≡ g.rules)
             × (S.number rule.0 < g.rules)
             × IsSymbolOf g (sym_of S.number symbol)
-            × IsFrontOf S.number g front.now × (length gathered.now ≡ g.tokens) }
-        ensures { PutsBehind (λ r t. (Rule r ≡ sym_of S.number symbol)
-            × FrontGives S.number self.old (S.number rule.0) gathered.now front.now t)
+            × IsPrefixOf S.number g prefix.now × (length gathered.now ≡ g.tokens) }
+        ensures { PutsAfter (λ r t. (Rule r ≡ sym_of S.number symbol)
+            × PrefixGives S.number self.old (S.number rule.0) gathered.now prefix.now t)
             self.old self.new gained.old gained.new }
     {
         match symbol {
             Symbol::Rule(before) => {
-                if self.put_front(rule, before, front, gathered) {
+                if self.put_prefix(rule, before, prefix, gathered) {
                     gained.put(usize::from(before));
                 }
             }
@@ -188,51 +188,51 @@ impl<'a, S: Storage> GrowingFollows<'a, S> {
     }
 
     /// Replaces what was gathered by the next tokens.
-    fn gather_front(&self, rule: RIdx<S>, front: &Front<S>, gathered: &mut Vob)
+    fn gather_prefix(&self, rule: RIdx<S>, prefix: &Prefix<S>, gathered: &mut Vob)
         requires { (g : Grammar) × FitFollows g self.now × (S.number rule.0 < g.rules)
-            × IsFrontOf S.number g front.now × (length gathered.old ≡ g.tokens) }
+            × IsPrefixOf S.number g prefix.now × (length gathered.old ≡ g.tokens) }
         ensures length { length gathered.new ≡ length gathered.old }
         ensures tokens { (t : ℕ) → (IsGathered gathered.new t
-            ↔ FrontGives S.number self.now (S.number rule.0) gathered.old front.now t) }
+            ↔ PrefixGives S.number self.now (S.number rule.0) gathered.old prefix.now t) }
     {
-        match front {
-            Front::End => {
+        match prefix {
+            Prefix::End => {
                 gathered.set_all(false);
                 gathered.or_words(self.follows.row(usize::from(rule)));
             }
-            Front::Symbol(symbol) => {
+            Prefix::Symbol(symbol) => {
                 gathered.set_all(false);
                 self.gather_first(*symbol, gathered);
             }
-            Front::Gathered => {}
+            Prefix::Gathered => {}
         }
     }
 
     /// The next tokens before the symbol, given those after it. If the symbol is nullable, they are gathered.
-    fn front_before(
+    fn prefix_before(
         &self,
         rule: RIdx<S>,
         symbol: Symbol<S>,
-        front: &Front<S>,
+        prefix: &Prefix<S>,
         gathered: &mut Vob,
-    ) -> Front<S>
+    ) -> Prefix<S>
         requires { (g : Grammar) × FitFollows g self.now × (S.number rule.0 < g.rules)
             × IsSymbolOf g (sym_of S.number symbol)
-            × IsFrontOf S.number g front.now × (length gathered.old ≡ g.tokens) }
-        ensures { StepsBack S.number self.now (S.number rule.0) (sym_of S.number symbol) front.now gathered.old
+            × IsPrefixOf S.number g prefix.now × (length gathered.old ≡ g.tokens) }
+        ensures { StepsBack S.number self.now (S.number rule.0) (sym_of S.number symbol) prefix.now gathered.old
             result gathered.new }
     {
         if !self.firsts.is_empty_symbol(symbol) {
-            return Front::Symbol(symbol);
+            return Prefix::Symbol(symbol);
         }
-        self.gather_front(rule, front, gathered);
+        self.gather_prefix(rule, prefix, gathered);
         self.gather_first(symbol, gathered);
-        Front::Gathered
+        Prefix::Gathered
     }
 
     /// Propagates FOLLOW through a production from right to left, and queues the rules whose sets grew. Each symbol is
     /// visited once, however many of them are nullable.
-    fn take_in(
+    fn add_production(
         &mut self,
         rule: RIdx<S>,
         symbols: &[Symbol<S>],
@@ -243,17 +243,17 @@ impl<'a, S: Storage> GrowingFollows<'a, S> {
             × (length gained.old ≡ g.rules)
             × (length gathered.old ≡ g.tokens)
             × Contains g.productions (shown S.number rule symbols.now) }
-        ensures takes { TakesIn SayFollows HaveFollowsOf count_follows IsOwner HasNoMoreFollows
+        ensures takes { AddsProduction SayFollows HaveFollowsOf count_follows IsOwner HasNoMoreFollows
             (shown S.number rule symbols.now) self.old self.new (Waits gained.new) }
         ensures rules { length gained.new ≡ length gained.old }
         ensures columns { self.new.follows.columns ≡ self.old.follows.columns }
         ensures gathered { length gathered.new ≡ length gathered.old }
     {
-        let mut front = Front::End;
-        for place in (0..symbols.len()).rev() {
-            let symbol = symbols[place];
-            self.put_behind(rule, symbol, &front, gathered, gained);
-            front = self.front_before(rule, symbol, &front, gathered);
+        let mut prefix = Prefix::End;
+        for index in (0..symbols.len()).rev() {
+            let symbol = symbols[index];
+            self.put_after(rule, symbol, &prefix, gathered, gained);
+            prefix = self.prefix_before(rule, symbol, &prefix, gathered);
         }
     }
 }
@@ -327,12 +327,13 @@ impl<'a, S: Storage> Analysis<S> for FollowAnalysis<'a, S> {
     }
 
     fn visit(&mut self, rule: RIdx<S>, symbols: &[Symbol<S>], gained: &mut Waiting)
-        requires { CanTakeIn SayFollows self.old gained.old (shown S.number rule symbols.now) }
-        ensures takes { TakesIn SayFollows HaveFollowsOf count_follows IsOwner HasNoMoreFollows
+        requires { CanAddProduction SayFollows self.old gained.old (shown S.number rule symbols.now) }
+        ensures takes { AddsProduction SayFollows HaveFollowsOf count_follows IsOwner HasNoMoreFollows
             (shown S.number rule symbols.now) self.old self.new (Waits gained.new) }
         ensures rules { length gained.new ≡ length gained.old }
     {
-        self.sets.take_in(rule, symbols, &mut self.gathered, gained);
+        self.sets
+            .add_production(rule, symbols, &mut self.gathered, gained);
     }
 }
 

@@ -2,7 +2,7 @@
 
 ghost use Rattle.std.specs.Prelude.{◌≡◌, ℕ, ◌+◌, ◌*◌, ◌<◌, ◌≤◌, length, Contains, IfOk};
 ghost use Rattle.derivation.specs.Grammar.{Grammar, Production, IsGrammar};
-ghost use Rattle.cfganalysis.specs.Inner.Growth.{CanNote, CanTakeIn, TakesIn, TakesInto, shown};
+ghost use Rattle.cfganalysis.specs.Inner.Growth.{CanNote, CanAddProduction, AddsProduction, AddsInto, shown};
 ghost use Rattle.cfganalysis.specs.Inner.Waiting.{NoneWaits, Waits};
 ghost use Rattle.cfganalysis.specs.Inner.Work.{Notes, users_of};
 
@@ -45,8 +45,8 @@ pub trait Analysis<S: Storage> {
 
     /// Adds what a production gives, and queues the rules whose sets grew.
     fn visit(&mut self, rule: RIdx<S>, symbols: &[Symbol<S>], gained: &mut Waiting)
-        requires { CanTakeIn holds self.old gained.old (shown S.number rule symbols.now) }
-        ensures takes { TakesIn holds covers bits rests_on no_more
+        requires { CanAddProduction holds self.old gained.old (shown S.number rule symbols.now) }
+        ensures takes { AddsProduction holds covers bits rests_on no_more
             (shown S.number rule symbols.now) self.old self.new (Waits gained.new) }
         ensures rules { length gained.new ≡ length gained.old };
 
@@ -55,7 +55,7 @@ pub trait Analysis<S: Storage> {
 }
 
 /// Adds what a production gives, and queues the productions that depend on a rule whose set grew.
-pub(crate) fn take_in<S: Storage, A: Analysis<S>>(
+pub(crate) fn add_production<S: Storage, A: Analysis<S>>(
     analysis: &mut A,
     work: &mut Work,
     rule: RIdx<S>,
@@ -65,7 +65,7 @@ pub(crate) fn take_in<S: Storage, A: Analysis<S>>(
         × NoneWaits work.old.gained × (length work.old.gained ≡ g.rules) × (length work.old.users ≡ g.rules)
         × Contains g.productions (shown S.number rule symbols.now) }
     requires within { (r p : ℕ) → Contains (users_of work.old.users r) p → p < length work.old.waiting }
-    ensures takes { TakesInto A.holds A.covers A.bits A.rests_on A.no_more
+    ensures takes { AddsInto A.holds A.covers A.bits A.rests_on A.no_more
         (shown S.number rule symbols.now)
         work.old.users analysis.old analysis.new work.old.waiting work.new.waiting }
     ensures users { work.new.users ≡ work.old.users }

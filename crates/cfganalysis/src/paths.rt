@@ -3,7 +3,7 @@
 ghost use Rattle.std.specs.Prelude.{◌≡◌, ◌<◌, ◌↔◌, All, Contains, length, map, IfOk, IsTrue, OnOk};
 ghost use Rattle.derivation.specs.Grammar.{Grammar, HasProduction, IsSymbolOf, Rule};
 ghost use Rattle.derivation.specs.Path.{Holds, Path};
-ghost use Rattle.search.specs.Reached.{FoundBy, Reaches};
+ghost use Rattle.search.specs.Reachable.{FoundBy, Reaches};
 ghost use Rattle.cfganalysis.specs.Paths.{HeldIn};
 ghost use Rattle.cfgtables.specs.NumberedSymbols.{sym_of};
 
@@ -18,7 +18,7 @@ fn reach_symbol<S: Storage, M: Marks>(
     search: &mut Search<M>,
     symbol: Symbol<S>,
 ) -> Result<(), AllocError>
-    requires { (g : Grammar) × (length search.old.reached ≡ g.rules) × IsSymbolOf g (sym_of S.number symbol) }
+    requires { (g : Grammar) × (length search.old.reachable ≡ g.rules) × IsSymbolOf g (sym_of S.number symbol) }
     ensures { OnOk result (Reaches (λ r. Rule r ≡ sym_of S.number symbol) search.old search.new) }
 {
     match symbol {
@@ -36,7 +36,7 @@ fn reach_symbols<S: Storage, M: Marks>(
     search: &mut Search<M>,
     symbols: &[Symbol<S>],
 ) -> Result<(), AllocError>
-    requires { (g : Grammar) × (length search.old.reached ≡ g.rules)
+    requires { (g : Grammar) × (length search.old.reachable ≡ g.rules)
         × All (IsSymbolOf g) (map (sym_of S.number) symbols.now) }
     ensures { OnOk result (Reaches (λ r. Contains (map (sym_of S.number) symbols.now) (Rule r))
         search.old search.new) }
@@ -57,7 +57,7 @@ pub fn reach_held<S: Storage, T: Tables<S>, M: Marks>(
     tables: &T,
     productions: &[PIdx<S>],
 ) -> Result<(), AllocError>
-    requires rules { length search.old.reached ≡ (T.grammar tables.now).rules }
+    requires rules { length search.old.reachable ≡ (T.grammar tables.now).rules }
     requires productions { All (λ p. p < length (T.grammar tables.now).productions)
         (map (λ p. S.number p.0) productions.now) }
     ensures { OnOk result (Reaches (FoundBy (HeldIn (T.grammar tables.now)) (map (λ p. S.number p.0) productions.now))
@@ -112,5 +112,5 @@ pub fn has_path<S: Storage, T: Tables<S>>(
     let mut search = Search::through(alloc, usize::from(tables.rules_len()))?;
     references.reach_from(usize::from(from), &mut search)?;
     search.go_on(&references)?;
-    Ok(search.is_reached(usize::from(to)))
+    Ok(search.is_reachable(usize::from(to)))
 }

@@ -7,7 +7,7 @@ ghost use Rattle.cfganalysis.specs.Inner.Growth.{CanVisit, CoversEach, Visited, 
 ghost use Rattle.cfgtables.specs.Openings.{AreOpenedAtMost, OpensOne, most_openings};
 ghost use Rattle.cfganalysis.specs.Inner.Waiting.{NoneWaits};
 
-use crate::growth::{Analysis, take_in};
+use crate::growth::{Analysis, add_production};
 use crate::work::Work;
 use cfgindex::{PIdx, Storage, to_storage};
 use cfgtables::Productions;
@@ -40,7 +40,7 @@ fn visit_first<S: Storage, P: Productions<S>, A: Analysis<S>>(
     let rule = productions.rule_of(p);
     let symbols = productions.open(p);
     analysis.note(number, rule, symbols, &mut work.users)?;
-    take_in(analysis, work, rule, symbols);
+    add_production(analysis, work, rule, symbols);
     Ok(())
 }
 
@@ -97,7 +97,7 @@ fn visit_next<S: Storage, P: Productions<S>, A: Analysis<S>>(
     };
     let p = PIdx(to_storage(number));
     let rule = productions.rule_of(p);
-    take_in(analysis, work, rule, productions.open(p));
+    add_production(analysis, work, rule, productions.open(p));
     true
 }
 

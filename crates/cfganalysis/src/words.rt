@@ -84,9 +84,9 @@ impl WordTable {
         ensures bits { self.new ≡ with_bit self.old row column }
         ensures changed { MatchBool result (bit self.old row column ≡ false) (bit self.old row column ≡ true) }
     {
-        let place = row * self.row_words + column / 64;
-        let word = self.words[place];
-        self.words[place] = vob::with_bit(word, column % 64, true);
+        let index = row * self.row_words + column / 64;
+        let word = self.words[index];
+        self.words[index] = vob::with_bit(word, column % 64, true);
         !vob::has_bit(word, column % 64)
     }
 
@@ -139,10 +139,10 @@ fn join_words(words: &mut [u64], to: usize, from: usize, many: usize) -> bool
     ensures { JoinsWords to many (between from (from + many) words.old) words.old words.new result }
 {
     let mut changed = false;
-    for place in 0..many {
-        let word = words[to + place];
-        let joined = word | words[from + place];
-        words[to + place] = joined;
+    for index in 0..many {
+        let word = words[to + index];
+        let joined = word | words[from + index];
+        words[to + index] = joined;
         changed |= joined != word;
     }
     changed

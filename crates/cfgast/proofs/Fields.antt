@@ -8,10 +8,10 @@ use Rattle.std.proofs.lemmas.List.{map-append, length-map}
 use Rattle.std.proofs.lemmas.Option.{slice_get-get_or}
 use Rattle.std.proofs.lemmas.Simd.{map-map}
 use Rattle.std.proofs.Math.Seq.{get_or-append_seam}
-use Rattle.lemmas.specs.Lists.{with_fronts, places, pushed, pushed_unless}
+use Rattle.lemmas.specs.Lists.{with_prefixes, positions, pushed, pushed_unless}
 use Rattle.lemmas.proofs.Pushed.{filter_map-pushed, slice_get-push, map-pushed, map-pushed_unless}
-use Rattle.lemmas.proofs.Passing.{places-none, places-push}
-use Rattle.lemmas.proofs.Fronts.{with_fronts-push}
+use Rattle.lemmas.proofs.Passing.{positions-none, positions-push}
+use Rattle.lemmas.proofs.Prefixes.{with_prefixes-push}
 use Rattle.lemmas.proofs.Tests.{list_any-map, list_any-filter_map, list_any_weaker}
 use Rattle.cfgwords.specs.FileWords.{Word}
 use Rattle.cfgast.specs.Items.{Item, RuleHead, TokenDeclared, Alternative}
@@ -53,10 +53,10 @@ declared_token items name h =
 pub alternative_named : (items : List Item) → AreAmong (production_names items) (rule_names items)
 unfolding rule_heads alternatives
 alternative_named items name h =
-    has_name-names head_name name (rule_heads items) ∙ is_named-firsts head_name name (filter_map typed_rule (with_fronts items))
-    ∙ list_any-filter_map has typed_rule (with_fronts items)
-    ∙ list_any_weaker (λ x. option_map_or of_rule (alternative x) false) (λ x. option_map_or has (typed_rule x) false) go (with_fronts items)
-    (sym (list_any-filter_map of_rule alternative (with_fronts items)) ∙ sym (list_any-map (bytes_eq name) (λ a. a.0) (alternatives items)) ∙ h)
+    has_name-names head_name name (rule_heads items) ∙ is_named-firsts head_name name (filter_map typed_rule (with_prefixes items))
+    ∙ list_any-filter_map has typed_rule (with_prefixes items)
+    ∙ list_any_weaker (λ x. option_map_or of_rule (alternative x) false) (λ x. option_map_or has (typed_rule x) false) go (with_prefixes items)
+    (sym (list_any-filter_map of_rule alternative (with_prefixes items)) ∙ sym (list_any-map (bytes_eq name) (λ a. a.0) (alternatives items)) ∙ h)
   where
     of_rule : List ℕ × Production → Bool
     of_rule a = bytes_eq name a.0
@@ -65,8 +65,8 @@ alternative_named items name h =
     has head = bytes_eq name (head_name head)
 
     go : (x : List Item × Item) → option_map_or of_rule (alternative x) false ≡ true → option_map_or has (typed_rule x) false ≡ true
-    go (front, Alternative head body) e = e
-    go (front, _) e = absurd (false≢true e)
+    go (prefix, Alternative head body) e = e
+    go (prefix, _) e = absurd (false≢true e)
 
 -- a production is listed with each rule of its name
 rules-listed : (done : List (List ℕ × Production)) (o : Option (List ℕ × Production)) (heads : List RuleHead)
@@ -84,7 +84,7 @@ rules-listed done (Some (name, production)) heads = (λ i. map (λ head. same he
     rule_with head ps = (head_name head, record { name = head.name; productions = ps; action_type = head.action_type })
 
     at : RuleHead → List ℕ
-    at head = places (λ a. bytes_eq (head_name head) a.0) done
+    at head = positions (λ a. bytes_eq (head_name head) a.0) done
 
     branch : (head : RuleHead) (b : Bool) → rule_with head (if b then at head ++ next ∷ [] else at head) ≡ (if b then rule_with head (at head ++ next ∷ []) else rule_with head (at head))
     branch head true = refl
@@ -92,7 +92,7 @@ rules-listed done (Some (name, production)) heads = (λ i. map (λ head. same he
 
     same : (head : RuleHead) → rule_of (done ++ (name, production) ∷ []) head ≡ listed name next (rule_of done head)
     same head =
-        ap (rule_with head) (places-push (λ a. bytes_eq (head_name head) a.0) done (name, production)
+        ap (rule_with head) (positions-push (λ a. bytes_eq (head_name head) a.0) done (name, production)
         ∙ (λ i. if nat_list_eq_equiv.symm (head_name head) name i then at head ++ next_is i ∷ [] else at head))
         ∙ branch head (bytes_eq name (head_name head))
 
@@ -130,20 +130,20 @@ module _ (items : List Item) (item : Item) where
           ap (slice_get (xs ++ x ∷ [])) at ∙ slice_get-get_or (xs ++ x ∷ []) (length xs) x (omega (arith, longer)) ∙ ap Some (get_or-append_seam xs x [] x)
 
   -- of what an item says after those before it: all of it, and the first for each name
-  fronts-push : {A : Type 0} (said : List Item × Item → Option A) → filter_map said (with_fronts (items ++ item ∷ [])) ≡ pushed (filter_map said (with_fronts items)) (said (items, item))
-  fronts-push said = ap (filter_map said) (with_fronts-push items item) ∙ filter_map-pushed said (with_fronts items) (items, item)
+  prefixes-push : {A : Type 0} (said : List Item × Item → Option A) → filter_map said (with_prefixes (items ++ item ∷ [])) ≡ pushed (filter_map said (with_prefixes items)) (said (items, item))
+  prefixes-push said = ap (filter_map said) (with_prefixes-push items item) ∙ filter_map-pushed said (with_prefixes items) (items, item)
 
   firsts-push : {A : Type 0} (name_of : A → List ℕ) (said : List Item × Item → Option A)
-      → firsts name_of (filter_map said (with_fronts (items ++ item ∷ []))) ≡ put_first name_of (firsts name_of (filter_map said (with_fronts items))) (said (items, item))
-  firsts-push name_of said = ap (λ xs. firsts name_of (filter_map said xs)) (with_fronts-push items item) ∙ firsts-filter_map-push name_of said (with_fronts items) (items, item)
+      → firsts name_of (filter_map said (with_prefixes (items ++ item ∷ []))) ≡ put_first name_of (firsts name_of (filter_map said (with_prefixes items))) (said (items, item))
+  firsts-push name_of said = ap (λ xs. firsts name_of (filter_map said xs)) (with_prefixes-push items item) ∙ firsts-filter_map-push name_of said (with_prefixes items) (items, item)
 
   -- of entries, if the first of each name counts
   pub entries-push : {V : Type 0} (said : Item → Option (List ℕ × V)) → firsts entry_name (filter_map said (items ++ item ∷ [])) ≡ with_entry (said item) (firsts entry_name (filter_map said items))
   entries-push said = firsts-filter_map-push entry_name said items item ∙ put_first-entry (firsts entry_name (filter_map said items)) (said item)
 
-  pub entries_behind-push : {V : Type 0} (said : List Item × Item → Option (List ℕ × V))
-      → firsts entry_name (filter_map said (with_fronts (items ++ item ∷ []))) ≡ with_entry (said (items, item)) (firsts entry_name (filter_map said (with_fronts items)))
-  entries_behind-push said = firsts-push entry_name said ∙ put_first-entry (firsts entry_name (filter_map said (with_fronts items))) (said (items, item))
+  pub entries_after-push : {V : Type 0} (said : List Item × Item → Option (List ℕ × V))
+      → firsts entry_name (filter_map said (with_prefixes (items ++ item ∷ []))) ≡ with_entry (said (items, item)) (firsts entry_name (filter_map said (with_prefixes items)))
+  entries_after-push said = firsts-push entry_name said ∙ put_first-entry (firsts entry_name (filter_map said (with_prefixes items))) (said (items, item))
 
   -- of a table of marked tokens
   pub marked-push : (said : Item → Option (Option Word)) → marked (filter_map said (items ++ item ∷ [])) ≡ with_marked (said item) (marked (filter_map said items))
@@ -167,7 +167,7 @@ module _ (items : List Item) (item : Item) where
 
   alternatives-push : alternatives (items ++ item ∷ []) ≡ pushed (alternatives items) (alternative (items, item))
   unfolding alternatives
-  alternatives-push = fronts-push alternative
+  alternatives-push = prefixes-push alternative
 
   pub tokens-push : tokens (items ++ item ∷ []) ≡ with_name (option_map word_name (token_named item)) (tokens items)
   tokens-push = ap (map word_name) token_words-push ∙ names-put word_name (token_words items) (token_named item)
@@ -208,7 +208,7 @@ module _ (items : List Item) (item : Item) where
   unlisted : (head : RuleHead) → is_named head_name (head_name head) (rule_heads items) ≡ false → rule_of (alternatives items) head ≡ new_rule head
   unlisted head unknown =
       ap (λ (ps : List ℕ). (head_name head, record { name = head.name; productions = ps; action_type = head.action_type }))
-      (places-none (λ a. bytes_eq name a.0) (alternatives items) (false_from_ne_true _ (λ h. true≢false
+      (positions-none (λ a. bytes_eq name a.0) (alternatives items) (false_from_ne_true _ (λ h. true≢false
       (sym (alternative_named items name (list_any-map (bytes_eq name) (λ (a : List ℕ × Production). a.0) (alternatives items) ∙ h)) ∙ has_name-names head_name name (rule_heads items) ∙ unknown))))
     where
       name : List ℕ

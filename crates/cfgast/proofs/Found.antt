@@ -11,7 +11,7 @@ pub none_declared : (s : Syntax) (name : List ℕ) → length s.token_directives
 unfolding is_declared
 none_declared s name empty = go s.token_directives (position (bytes_eq name) s.tokens) empty
   where
-    go : (directives : List ℕ) (place : Option ℕ) → length directives ≡ 0 → false ≡ option_map_or (λ i. list_any (λ j. i == j) directives) place false
+    go : (directives : List ℕ) (index : Option ℕ) → length directives ≡ 0 → false ≡ option_map_or (λ i. list_any (λ j. i == j) directives) index false
     go [] None e = refl
     go [] (Some i) e = refl
-    go (directive ∷ directives) place e = absurd (omega arith)
+    go (directive ∷ directives) index e = absurd (omega arith)

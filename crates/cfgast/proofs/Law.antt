@@ -6,14 +6,14 @@ use Rattle.std.specs.Str.{bytes_eq}
 use Rattle.std.proofs.lemmas.Bool.{false_from_ne_true}
 use Rattle.std.proofs.lemmas.List.Sums.{fold_push}
 use Rattle.lemmas.proofs.Growing.{from_pushes}
-use Rattle.lemmas.proofs.Places.{found-position}
+use Rattle.lemmas.proofs.Positions.{found-position}
 use Rattle.lemmas.proofs.Pushed.{filter_map-pushed}
 use Rattle.cfgast.specs.Items.{Item}
 use Rattle.cfgast.specs.Occurrences.{declared_once}
 use Rattle.cfgast.specs.Syntax.{word_name, is_named, token_declared, start_named, declared_words, index_of, indices_of, finished, action_type_declared, printed_form_declared, expected, expected_reduce_reduce, expected_unused, parse_param_declared, generics_declared, avoid_insert_said, implicit_tokens_said, precedence_at, level_ended, programs_given, settings_of, tables_of, syntax_of}
 use Rattle.cfgast.specs.Building.{has_name, is_declared, grown, add, adds}
 use Rattle.cfgast.proofs.Names.{is_named-firsts, has_name-names, noted}
-use Rattle.cfgast.proofs.Fields.{tokens, declared, declared_token, first-push, last-push, entries-push, entries_behind-push, marked-push, rules-push, productions-push, production_rules-push, tokens-push, spans-push, directives-push}
+use Rattle.cfgast.proofs.Fields.{tokens, declared, declared_token, first-push, last-push, entries-push, entries_after-push, marked-push, rules-push, productions-push, production_rules-push, tokens-push, spans-push, directives-push}
 
 -- a name is declared so far if a `%token` list has it
 is_declared-syntax_of : (items : List Item) (name : List ℕ) → is_named word_name name (filter_map token_declared items) ≡ is_declared (syntax_of items) name
@@ -24,11 +24,11 @@ is_declared-syntax_of items name =
     at : Option ℕ → Bool
     at o = option_map_or (λ i. list_any (λ j. i == j) (indices_of (declared items) (tokens items))) o false
 
-    place : ℕ
-    place = index_of name (tokens items)
+    index : ℕ
+    index = index_of name (tokens items)
 
-    found : (b : Bool) → has_name name (tokens items) ≡ b → position (bytes_eq name) (tokens items) ≡ cond b (Some place) None
-    found b e = ap (λ t. cond t (Some place) None) (found-position (bytes_eq name) (tokens items) ∙ e)
+    found : (b : Bool) → has_name name (tokens items) ≡ b → position (bytes_eq name) (tokens items) ≡ cond b (Some index) None
+    found b e = ap (λ t. cond t (Some index) None) (found-position (bytes_eq name) (tokens items) ∙ e)
 
     go : (b : Bool) → has_name name (tokens items) ≡ b → at (position (bytes_eq name) (tokens items)) ≡ has_name name (declared items)
     go true e = ap at (found true e) ∙ noted (declared items) (tokens items) (declared_token items) name e
@@ -46,7 +46,7 @@ syntax_of-push items item = (λ i. record {
   spans = spans-push items item i;
   token_directives = directives-push items item i;
   tables = record {
-    precedences = entries_behind-push items item precedence_at i;
+    precedences = entries_after-push items item precedence_at i;
     printed_forms = entries-push items item printed_form_declared i;
     avoid_insert = marked-push items item avoid_insert_said i;
     implicit_tokens = marked-push items item implicit_tokens_said i;

@@ -12,7 +12,7 @@ use Rattle.std.proofs.lemmas.Map.Keys.{IsDistinct-push}
 use Rattle.lemmas.specs.Lists.{pushed, pushed_unless}
 use Rattle.lemmas.proofs.Pushed.{filter_map-pushed, map-pushed_unless}
 use Rattle.lemmas.proofs.Growing.{from_pushes}
-use Rattle.lemmas.proofs.Places.{found-position, position_or_len-append, position_or_len-distinct}
+use Rattle.lemmas.proofs.Positions.{found-position, position_or_len-append, position_or_len-distinct}
 use Rattle.lemmas.proofs.Tests.{list_any-map}
 use Rattle.cfgast.specs.Syntax.{is_named, firsts, entry_name, index_of, indices_of}
 use Rattle.cfgast.specs.Building.{with_name, with_directive, with_entry, has_name}
@@ -107,9 +107,9 @@ same_index name other names here there =
     (bytes_decides name other)
 
 -- among names that differ from each other, a name has only one index
-pub same_place : (name : List ℕ) (all : List (List ℕ)) → IsDistinct bytes_eq all → has_name name all ≡ true
+pub same_offset : (name : List ℕ) (all : List (List ℕ)) → IsDistinct bytes_eq all → has_name name all ≡ true
     → (k : ℕ) → k < length all → bytes_eq (get_or all k []) name ≡ (k == index_of name all)
-same_place name all distinct there k within =
+same_offset name all distinct there k within =
     let here : has_name (get_or all k []) all ≡ true = list_any_at (bytes_eq (get_or all k [])) all k [] within (nat_list_eq_equiv.refl (get_or all k [])) in
     sym (same_index (get_or all k []) name all here there) ∙ ap (λ n. n == index_of name all) (position_or_len-distinct nat_list_eq_equiv all k [] distinct within)
 
@@ -140,12 +140,12 @@ indices-stay some all among (Some name) = go (has_name name all)
 -- the index of a name is among the indices of names exactly if the name is among the names
 pub noted : (some all : List (List ℕ)) → AreAmong some all → (name : List ℕ) → has_name name all ≡ true → list_any (λ j. index_of name all == j) (indices_of some all) ≡ has_name name some
 noted some all among name there =
-    list_any-map (λ j. index_of name all == j) (λ n. index_of n all) some ∙ sym (list_any-map (λ b. b) at_place some)
-    ∙ ap (list_any (λ b. b)) (map-there at_place (bytes_eq name) some (λ other h. same_index name other all there (among other h)))
+    list_any-map (λ j. index_of name all == j) (λ n. index_of n all) some ∙ sym (list_any-map (λ b. b) at_offset some)
+    ∙ ap (list_any (λ b. b)) (map-there at_offset (bytes_eq name) some (λ other h. same_index name other all there (among other h)))
     ∙ list_any-map (λ b. b) (bytes_eq name) some
   where
-    at_place : List ℕ → Bool
-    at_place other = index_of name all == index_of other all
+    at_offset : List ℕ → Bool
+    at_offset other = index_of name all == index_of other all
 
 -- the indices of names, with that of one more
 pub indices-put : (some all : List (List ℕ)) → AreAmong some all → (o : Option (List ℕ)) → ((name : List ℕ) → o ≡ Some name → has_name name all ≡ true)

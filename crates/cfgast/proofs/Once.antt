@@ -5,8 +5,8 @@ use Rattle.std.specs.List.{list_any}
 use Rattle.std.proofs.lemmas.List.{map-append}
 use Rattle.std.proofs.lemmas.List.Elements.{filter-append}
 use Rattle.std.proofs.lemmas.List.Folds.{list_any-append}
-use Rattle.lemmas.specs.Lists.{with_fronts, pushed_unless}
-use Rattle.lemmas.proofs.Fronts.{with_fronts-push}
+use Rattle.lemmas.specs.Lists.{with_prefixes, pushed_unless}
+use Rattle.lemmas.proofs.Prefixes.{with_prefixes-push}
 use Rattle.lemmas.proofs.Growing.{from_pushes}
 use Rattle.lemmas.proofs.Pushed.{map-pushed_unless}
 use Rattle.lemmas.proofs.Tests.{list_any_weaker}
@@ -25,7 +25,7 @@ filtered-push f p xs x = ap (map f) (filter-append p xs (x ∷ [])) ∙ map-appe
 module _ {A : Type 0} (same : A → A → Bool) where
   pub each_once-push : (xs : List A) (x : A) → each_once same (xs ++ x ∷ []) ≡ pushed_unless (list_any (same x) xs) (each_once same xs) x
   each_once-push xs x =
-      ap (λ t. map second (filter is_new t)) (with_fronts-push xs x) ∙ filtered-push second is_new (with_fronts xs) (xs, x)
+      ap (λ t. map second (filter is_new t)) (with_prefixes-push xs x) ∙ filtered-push second is_new (with_prefixes xs) (xs, x)
       ∙ go (list_any (same x) xs)
     where
       second : List A × A → A

@@ -23,10 +23,10 @@ module _ (s : Syntax) (word : Word) where
       (λ i. record s { tokens = names_are i; spans = spans_are i })
       ∙ (λ i. record s { tokens = pushed_unless (sym new i) s.tokens word.name; spans = pushed_unless (sym new i) s.spans word.span })
 
-  pub declared-noted : (quoted : Syntax) (i : ℕ) (places : List ℕ) → quoted ≡ add s (TokenQuoted word) → i ≡ index_of word.name quoted.tokens
-      → places ≡ insert_key nat_eq quoted.token_directives i → record quoted { token_directives = places } ≡ add s (TokenDeclared word)
+  pub declared-noted : (quoted : Syntax) (i : ℕ) (offsets : List ℕ) → quoted ≡ add s (TokenQuoted word) → i ≡ index_of word.name quoted.tokens
+      → offsets ≡ insert_key nat_eq quoted.token_directives i → record quoted { token_directives = offsets } ≡ add s (TokenDeclared word)
   unfolding add
-  declared-noted quoted i places same is are =
+  declared-noted quoted i offsets same is are =
       (λ j. record quoted { token_directives = (are ∙ ap (insert_key nat_eq quoted.token_directives) is) j })
       ∙ ap {A = Syntax} {B = Syntax} (λ q. record q { token_directives = insert_key nat_eq q.token_directives (index_of word.name q.tokens) }) same
 

@@ -11,7 +11,7 @@ use Rattle.lemmas.specs.Lists.{pushed_unless}
 use Rattle.lemmas.proofs.Copies.{AreCopies, map-copies, option_map-copies}
 use Rattle.lemmas.proofs.Options.{None-from_is_some}
 use Rattle.lemmas.proofs.Pushed.{map-pushed_unless}
-use Rattle.lemmas.proofs.Places.{position_or_len-map, position_or_len-push}
+use Rattle.lemmas.proofs.Positions.{position_or_len-map, position_or_len-push}
 use Rattle.lemmas.proofs.Tests.{list_any-map}
 use Rattle.indexmap.specs.IndexMap.{IndexMap, insert_entry}
 use Rattle.indexmap.specs.IndexSet.{insert_key}

@@ -3,7 +3,7 @@ use Rattle.std.specs.Prelude.{ℕ, ◌-◌, Bool, List, All, length, map, filter
 use Rattle.std.specs.List.{list_any, filter_map, position_or_len}
 use Rattle.std.specs.Option.{option_or}
 use Rattle.std.specs.Str.{bytes_eq}
-use Rattle.lemmas.specs.Lists.{with_fronts, places}
+use Rattle.lemmas.specs.Lists.{with_prefixes, positions}
 use Rattle.cfgbase.specs.declared.span.Span.{Span}
 use Rattle.cfgwords.specs.FileWords.{Word, Token, word_of}
 pub use Rattle.cfgast.specs.Items.{Symbol, RuleSymbol, TokenSymbol}
@@ -100,7 +100,7 @@ is_named name_of name xs = list_any (λ x. bytes_eq name (name_of x)) xs
 
 -- each element once, at its first occurrence; and so for each name
 abbrev pub each_once : {A : Type 0} → (A → A → Bool) → List A → List A
-each_once same xs = map (λ x. x.1) (filter (λ x. not (list_any (same x.1) x.0)) (with_fronts xs))
+each_once same xs = map (λ x. x.1) (filter (λ x. not (list_any (same x.1) x.0)) (with_prefixes xs))
 
 unfoldable pub firsts : {A : Type 0} → (A → List ℕ) → List A → List A
 firsts name_of xs = each_once (λ x y. bytes_eq (name_of x) (name_of y)) xs
@@ -207,10 +207,10 @@ finished is_declared (Alternative head body) = Some (head_name head, production_
 finished is_declared _ = None
 
 abbrev pub alternative : List Item × Item → Option (List ℕ × Production)
-alternative (front, item) = finished (λ name. is_named word_name name (filter_map token_declared front)) item
+alternative (prefix, item) = finished (λ name. is_named word_name name (filter_map token_declared prefix)) item
 
 unfoldable pub alternatives : List Item → List (List ℕ × Production)
-alternatives items = filter_map alternative (with_fronts items)
+alternatives items = filter_map alternative (with_prefixes items)
 
 unfoldable pub token_words : List Item → List Word
 token_words items = firsts word_name (filter_map token_named items)
@@ -223,14 +223,14 @@ abbrev pub typed : Option (List ℕ) → RuleHead → RuleHead
 typed of_all head = record head { action_type = option_or head.action_type of_all }
 
 abbrev pub typed_rule : List Item × Item → Option RuleHead
-typed_rule (front, item) = option_map (typed (slice_get (filter_map action_type_declared front) 0)) (rule_named item)
+typed_rule (prefix, item) = option_map (typed (slice_get (filter_map action_type_declared prefix) 0)) (rule_named item)
 
 unfoldable pub rule_heads : List Item → List RuleHead
-rule_heads items = firsts head_name (filter_map typed_rule (with_fronts items))
+rule_heads items = firsts head_name (filter_map typed_rule (with_prefixes items))
 
 -- a token's precedence, whose level is the number of earlier precedence declarations
 abbrev pub precedence_at : List Item × Item → Option (List ℕ × (Precedence × Span))
-precedence_at (front, item) = precedence_declared (length (filter_map level_ended front)) item
+precedence_at (prefix, item) = precedence_declared (length (filter_map level_ended prefix)) item
 
 abbrev pub entry_name : {A : Type 0} → List ℕ × A → List ℕ
 entry_name entry = entry.0
@@ -248,7 +248,7 @@ rule_of alternatives head = (
   head_name head,
   record {
     name = head.name;
-    productions = places (λ a. bytes_eq (head_name head) a.0) alternatives;
+    productions = positions (λ a. bytes_eq (head_name head) a.0) alternatives;
     action_type = head.action_type;
   },
 )
@@ -271,7 +271,7 @@ settings_of items = record {
 -- Of what is said about a token, the first counts.
 unfoldable pub tables_of : List Item → Tables
 tables_of items = record {
-  precedences = firsts entry_name (filter_map precedence_at (with_fronts items));
+  precedences = firsts entry_name (filter_map precedence_at (with_prefixes items));
   printed_forms = firsts entry_name (filter_map printed_form_declared items);
   avoid_insert = marked (filter_map avoid_insert_said items);
   implicit_tokens = marked (filter_map implicit_tokens_said items);

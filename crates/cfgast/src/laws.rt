@@ -58,7 +58,7 @@ pub fn unique_are_what_they_show()
 
 /// Kinds of such declarations are equal exactly if they are the same, and feed a hash the same exactly then. A clone
 /// equals its source and allocates nothing.
-pub fn unique_kinds_are_told_apart()
+pub fn unique_kinds_are_distinct()
     ensures equal { (a b : UniqueKind) → IsTrue (⟦<UniqueKind as PartialEq>⟧.eq a b) ↔ (a ≡ b) }
     ensures clone { (a b : UniqueKind) → ⟦<UniqueKind as Clone>⟧.is_clone a b → b ≡ a }
     ensures cloned { (a : UniqueKind) → ⟦<UniqueKind as Clone>⟧.is_infallible a }

@@ -1,7 +1,7 @@
 ghost use Rattle.std.specs.Prelude.{◌≡◌, []};
 
 use cfgbase::Span;
-use lending::{Refill, refilled};
+use scoped::{Refill, refilled};
 use std::alloc::AllocError;
 
 /// What a file says about its grammar as a whole.

@@ -8,7 +8,7 @@ use crate::precedence::{AssocKind, Precedence};
 use cfgbase::Span;
 use cfgwords::words::Word;
 use indexmap::IndexMap;
-use lending::{Refill, refilled};
+use scoped::{Refill, refilled};
 use std::alloc::{AllocError, Global};
 
 /// What a file says about single tokens, each under its name, in the order of their first occurrences.

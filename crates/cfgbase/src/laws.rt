@@ -33,7 +33,7 @@ pub fn locations_are_what_they_show()
 {}
 
 /// The two kinds of spans differ, and each is equal to itself. A clone equals its source and allocates nothing.
-pub fn spans_kinds_are_told_apart()
+pub fn spans_kinds_are_distinct()
     ensures equal { (a b : SpansKind) → IsTrue (⟦<SpansKind as PartialEq>⟧.eq a b) ↔ (a ≡ b) }
     ensures clone { (a b : SpansKind) → ⟦<SpansKind as Clone>⟧.is_clone a b → b ≡ a }
     ensures cloned { (a : SpansKind) → ⟦<SpansKind as Clone>⟧.is_infallible a }

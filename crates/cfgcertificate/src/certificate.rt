@@ -145,7 +145,7 @@ fn are_chosen_below<S: Storage>(
 
 /// Whether `p` is a production of the rule.
 fn is_production_of<S: Storage, T: Tables<S>>(grm: &T, rule: usize, p: PIdx<S>) -> bool
-    ensures place { IsTrue result → S.number p.0 < length (T.grammar grm.now).productions }
+    ensures index { IsTrue result → S.number p.0 < length (T.grammar grm.now).productions }
     ensures owner { IsTrue result → (nth_production (T.grammar grm.now) (S.number p.0)).rule ≡ rule }
     ensures found { S.number p.0 < length (T.grammar grm.now).productions
         → (nth_production (T.grammar grm.now) (S.number p.0)).rule ≡ rule → IsTrue result }

@@ -10,16 +10,16 @@ use Rattle.cfgchoices.specs.Inner.Choices.{ChoicesGive, empty, token, free, chos
 module _ (x : CostTables) where
   -- what they give for the first rule, and for the other symbols
   pub record Given (r : ℕ) (a : List Sym) (w : List ℕ) : Type 0 where
-    pub front : List ℕ
+    pub prefix : List ℕ
     pub back : List ℕ
-    pub whole : w ≡ front ++ back
-    pub first : ChoicesGive x (Rule r ∷ []) front
+    pub whole : w ≡ prefix ++ back
+    pub first : ChoicesGive x (Rule r ∷ []) prefix
     pub second : ChoicesGive x a back
 
   pub choices_split : (r : ℕ) (a : List Sym) (w : List ℕ) → ChoicesGive x (Rule r ∷ a) w → Given r a w
-  choices_split r a w (free nothing h) = record { front = []; back = w; whole = refl; first = free nothing empty; second = h }
+  choices_split r a w (free nothing h) = record { prefix = []; back = w; whole = refl; first = free nothing empty; second = h }
   choices_split r a _ (chosen {u = u} {w = w} costly choice h k e) =
-      record { front = u; back = w; whole = e; first = chosen costly choice h empty (sym (append-nil u)); second = k }
+      record { prefix = u; back = w; whole = e; first = chosen costly choice h empty (sym (append-nil u)); second = k }
 
   pub choices_join : {a b : List Sym} {u v : List ℕ} → ChoicesGive x a u → ChoicesGive x b v → ChoicesGive x (a ++ b) (u ++ v)
   choices_join empty k = k
@@ -28,12 +28,12 @@ module _ (x : CostTables) where
   choices_join {v = v} (chosen {u = u} {w = w} costly choice h i e) k = chosen costly choice h (choices_join i k) (ap (λ l. l ++ v) e ∙ append_assoc u w v)
 
   -- they give something for a list, if they do for each rule in it
-  pub choices_row : (a : List Sym) → ((r : ℕ) → Contains a (Rule r) → (w : List ℕ) × ChoicesGive x (Rule r ∷ []) w) → (w : List ℕ) × ChoicesGive x a w
-  choices_row [] one = ([], empty)
-  choices_row (Token t ∷ a) one = let (w, h) = choices_row a (λ r h. one r (contains_later (Token t) (Rule r) a h)) in (t ∷ w, token h)
-  choices_row (Rule q ∷ a) one =
+  pub choices_sequence : (a : List Sym) → ((r : ℕ) → Contains a (Rule r) → (w : List ℕ) × ChoicesGive x (Rule r ∷ []) w) → (w : List ℕ) × ChoicesGive x a w
+  choices_sequence [] one = ([], empty)
+  choices_sequence (Token t ∷ a) one = let (w, h) = choices_sequence a (λ r h. one r (contains_later (Token t) (Rule r) a h)) in (t ∷ w, token h)
+  choices_sequence (Rule q ∷ a) one =
       let (u, h) = one q (contains_first (Rule q) a) in
-      let (w, k) = choices_row a (λ r h. one r (contains_later (Rule q) (Rule r) a h)) in
+      let (w, k) = choices_sequence a (λ r h. one r (contains_later (Rule q) (Rule r) a h)) in
       (u ++ w, choices_join h k)
 
   pub choices_once : {a : List Sym} {v w : List ℕ} → ChoicesGive x a v → ChoicesGive x a w → v ≡ w
@@ -45,5 +45,5 @@ module _ (x : CostTables) where
   choices_once (chosen {p = p} {m = m} {u = u} {w = w} costly choice h i e) (chosen {p = q} {m = n} {u = u'} {w = w'} also other k l f) =
       let pairs : ◌≡◌ {A = ℕ × ℕ} (p, m) (q, n) = same_Some _ _ (sym choice ∙ other) in
       let same : p ≡ q = ap (λ (c : ℕ × ℕ). c.0) pairs in
-      let front : u ≡ u' = choices_once (subst (λ (p : ℕ). ChoicesGive x (nth_production x.grammar p).symbols u) same h) k in
-      e ∙ ap (λ l. l ++ w) front ∙ ap (λ l. u' ++ l) (choices_once i l) ∙ sym f
+      let prefix : u ≡ u' = choices_once (subst (λ (p : ℕ). ChoicesGive x (nth_production x.grammar p).symbols u) same h) k in
+      e ∙ ap (λ l. l ++ w) prefix ∙ ap (λ l. u' ++ l) (choices_once i l) ∙ sym f

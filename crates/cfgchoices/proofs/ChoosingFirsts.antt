@@ -13,14 +13,14 @@ use Rattle.cfgleast.specs.Certificate.{rule_choice}
 use Rattle.cfgchoices.specs.Inner.Choices.{ChoicesGive}
 use Rattle.cfgchoices.specs.Inner.Choices as gives
 use Rattle.cfgchoices.specs.Inner.FirstChoices.{IsNotAbove}
-use Rattle.cfgchoices.specs.Inner.Offers.{Choices, Choosing, IsChoice, IsReady, by}
+use Rattle.cfgchoices.specs.Inner.Candidates.{Choices, Choosing, IsChoice, IsReady, by}
 use Rattle.cfgleast.specs.Generator.{CostTables, cost_answer, choice_answer, token_cost, where_some}
-use Rattle.cfgchoices.specs.Inner.Kinds.{IsHeir, IsTight}
-use Rattle.cfgchoices.proofs.Choices.{choices_row, choices_split}
+use Rattle.cfgchoices.specs.Inner.Kinds.{IsTarget, IsOptimal}
+use Rattle.cfgchoices.proofs.Choices.{choices_sequence, choices_split}
 use Rattle.cfgleast.proofs.Generated.{some_answered}
 use Rattle.cfgchoices.proofs.GrowingChoices.{Keeps, keeps_one}
 use Rattle.cfgchoices.proofs.Lengths.{IsPaid}
-use Rattle.cfgchoices.proofs.Tight.{CostsNothing, HandsTo, further, hands_heir, in_front, others_free}
+use Rattle.cfgchoices.proofs.Optimal.{CostsNothing, LinksTo, further, chains_target, in_prefix, others_free}
 
 module _ (x : CostTables) where
   pub few : (l : Choices) (n : ℕ) → Choosing x l n → n ≤ x.grammar.rules
@@ -38,7 +38,7 @@ module _ (x : CostTables) where
   ready_kept l l' keeps q m n le (inr some) = inr (some_kept l l' keeps q m n le some)
 
   -- one more rule has a choice
-  module _ (l : Choices) (n r p : ℕ) (state : Choosing x l n) (unset : rule_choice l r ≡ None) (within : r < x.grammar.rules) (tight : IsTight x p)
+  module _ (l : Choices) (n r p : ℕ) (state : Choosing x l n) (unset : rule_choice l r ≡ None) (within : r < x.grammar.rules) (optimal : IsOptimal x p)
       (owner : (nth_production x.grammar p).rule ≡ r) (ready : (q : ℕ) → Contains (nth_production x.grammar p).symbols (Rule q) → IsReady x l n q) where
     abbrev pub later : Choices
     later = slice_set l r (Some (p, n))
@@ -59,13 +59,13 @@ module _ (x : CostTables) where
       each = λ q p' m e. elim (get_or-set l r q (Some (p, n)) None) [
         | inl same ↦
             let old = state.each q p' m (sym same ∙ e) in (
-              record { tight = old.0.tight; owner = old.0.owner; ready = λ s h. ready_kept l later keeps s m m (omega arith) (old.0.ready s h) },
+              record { optimal = old.0.optimal; owner = old.0.owner; ready = λ s h. ready_kept l later keeps s m m (omega arith) (old.0.ready s h) },
               omega (arith, old.1),
             )
         | inr now ↦
             let pairs : ◌≡◌ {A = ℕ × ℕ} (p, n) (p', m) = same_Some _ _ (sym now.1 ∙ e) in
             subst (λ (c : ℕ × ℕ). IsChoice x later q c.0 c.1 × (c.1 < n + 1)) pairs (
-              record { tight = tight; owner = owner ∙ sym now.0; ready = λ s h. ready_kept l later keeps s n n (omega arith) (ready s h) },
+              record { optimal = optimal; owner = owner ∙ sym now.0; ready = λ s h. ready_kept l later keeps s n n (omega arith) (ready s h) },
               omega arith,
             )
       ];
@@ -74,12 +74,12 @@ module _ (x : CostTables) where
   -- the choices give something for symbols that are ready
   module _ (l : Choices) (n : ℕ) (state : Choosing x l n) where
     pub answer_chosen : (r p m : ℕ) → rule_choice l r ≡ Some (p, m) → IsChoice x l r p m → choice_answer (by x l) r ≡ Some (p, m)
-    answer_chosen r p m e c = ap (λ o. where_some o (rule_choice l r)) (subst (λ q. cost_answer x q ≡ Some c.tight.cost) c.owner c.tight.rule) ∙ e
+    answer_chosen r p m e c = ap (λ o. where_some o (rule_choice l r)) (subst (λ q. cost_answer x q ≡ Some c.optimal.cost) c.owner c.optimal.rule) ∙ e
 
     pub paid_chosen : (r p m : ℕ) → IsChoice x l r p m → cost_answer x r ≡ Some 0 → ⊥
     paid_chosen r p m c none =
-        let is : c.tight.cost ≡ 0 = same_Some _ _ (sym (subst (λ q. cost_answer x q ≡ Some c.tight.cost) c.owner c.tight.rule) ∙ none) in
-        omega (arith, is, c.tight.positive)
+        let is : c.optimal.cost ≡ 0 = same_Some _ _ (sym (subst (λ q. cost_answer x q ≡ Some c.optimal.cost) c.owner c.optimal.rule) ∙ none) in
+        omega (arith, is, c.optimal.positive)
 
     -- what is ready has no choice, or one with a lesser number
     not_above : (m q : ℕ) → IsReady x l m q → IsNotAbove l m (Rule q)
@@ -94,8 +94,8 @@ module _ (x : CostTables) where
         go None h = tt
         go (Some choice) h = h
 
-    pub row_not_above : (m : ℕ) (a : List Sym) → ((q : ℕ) → Contains a (Rule q) → IsReady x l m q) → All (IsNotAbove l m) a
-    row_not_above m a ready = All-weaker (Contains a) (IsNotAbove l m) one a (All-contains_itself a)
+    pub sequence_not_above : (m : ℕ) (a : List Sym) → ((q : ℕ) → Contains a (Rule q) → IsReady x l m q) → All (IsNotAbove l m) a
+    sequence_not_above m a ready = All-weaker (Contains a) (IsNotAbove l m) one a (All-contains_itself a)
       where
         one : (s : Sym) → Contains a s → IsNotAbove l m s
         one (Token t) h = tt
@@ -111,16 +111,16 @@ module _ (x : CostTables) where
         go one None e h = absurd h
         go one (Some (p, j)) e h =
             let c = (state.each q p j e).0 in
-            let (w, made) = choices_row (by x l) (nth_production x.grammar p).symbols (λ s k. one j (omega (arith, h, lt)) s (c.ready s k)) in
+            let (w, made) = choices_sequence (by x l) (nth_production x.grammar p).symbols (λ s k. one j (omega (arith, h, lt)) s (c.ready s k)) in
             (w, gives.chosen (paid_chosen q p j c) (answer_chosen q p j e c) made gives.empty (sym (append-nil w)))
 
     pub gives_ready : (m : ℕ) (a : List Sym) → ((q : ℕ) → Contains a (Rule q) → IsReady x l m q) → (w : List ℕ) × ChoicesGive (by x l) a w
-    gives_ready m a all = choices_row (by x l) a (λ q h. ready_rule (suc m) m (omega arith) q (all q h))
+    gives_ready m a all = choices_sequence (by x l) a (λ q h. ready_rule (suc m) m (omega arith) q (all q h))
 
   -- a chain production is ready when the rule that it leads to has a choice
-  pub heir_ready : (l : Choices) (p q m : ℕ) → IsHeir x p q → IsSomeAnd (rule_choice l q) (λ choice. choice.1 < m)
+  pub target_ready : (l : Choices) (p q m : ℕ) → IsTarget x p q → IsSomeAnd (rule_choice l q) (λ choice. choice.1 < m)
       → (s : ℕ) → Contains (nth_production x.grammar p).symbols (Rule s) → IsReady x l m s
-  heir_ready l p q m heir some s h = elim (others_free x (hands_heir x p q heir) s h) [
+  target_ready l p q m target some s h = elim (others_free x (chains_target x p q target) s h) [
     | inl same ↦ inr (subst (λ r. IsSomeAnd (rule_choice l r) (λ choice. choice.1 < m)) same some)
     | inr free ↦ inl (some_answered (rule_cost x.least s) 0 free (omega arith))
   ]
@@ -137,10 +137,10 @@ module _ (x : CostTables) where
     free_gives (s ∷ a) w free all given = free_gives a w (All-tail (CostsNothing x) s a free) (All-tail (IsPaid (token_cost x)) s a all)
         (free_first s a w (All-head (CostsNothing x) s a free) (All-head (IsPaid (token_cost x)) s a all) given)
 
-    pub heir_gives : (q : ℕ) {a : List Sym} (w : List ℕ) → HandsTo x q a → All (IsPaid (token_cost x)) a → ChoicesGive (by x l) a w → ChoicesGive (by x l) (Rule q ∷ []) w
-    heir_gives q w (in_front {a = a} free) all given =
+    pub target_gives : (q : ℕ) {a : List Sym} (w : List ℕ) → LinksTo x q a → All (IsPaid (token_cost x)) a → ChoicesGive (by x l) a w → ChoicesGive (by x l) (Rule q ∷ []) w
+    target_gives q w (in_prefix {a = a} free) all given =
         let parts = choices_split (by x l) q a w given in
         let none = free_gives a parts.back free (All-tail (IsPaid (token_cost x)) (Rule q) a all) parts.second in
-        subst (ChoicesGive (by x l) (Rule q ∷ [])) (sym (parts.whole ∙ ap (λ b. parts.front ++ b) none ∙ append-nil parts.front)) parts.first
-    heir_gives q w (further {s = s} {a = a} free hands) all given = heir_gives q w hands (All-tail (IsPaid (token_cost x)) s a all)
+        subst (ChoicesGive (by x l) (Rule q ∷ [])) (sym (parts.whole ∙ ap (λ b. parts.prefix ++ b) none ∙ append-nil parts.prefix)) parts.first
+    target_gives q w (further {s = s} {a = a} free chains) all given = target_gives q w chains (All-tail (IsPaid (token_cost x)) s a all)
         (free_first s a w free (All-head (IsPaid (token_cost x)) s a all) given)

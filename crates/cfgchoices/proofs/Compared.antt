@@ -7,10 +7,10 @@ use Rattle.std.specs.declared.cmp.Ordering.{Ordering}
 use Rattle.std.specs.declared.cmp.Ordering.TheVariants.{Less, Equal, Greater}
 use Rattle.derivation.specs.Grammar.{Sym}
 use Rattle.cfgleast.specs.Generator.{CostTables}
-use Rattle.cfgchoices.specs.FirstSentence.{dictionary}
+use Rattle.cfgchoices.specs.FirstSentence.{lexicographic}
 use Rattle.cfgchoices.specs.Inner.Choices.{ChoicesGive}
-use Rattle.cfgchoices.specs.Inner.Offers.{FirstTokensAre}
-use Rattle.cfgchoices.proofs.Pending.{token_front}
+use Rattle.cfgchoices.specs.Inner.Candidates.{FirstTokensAre}
+use Rattle.cfgchoices.proofs.Pending.{token_prefix}
 
 -- the word ends, or continues after its first token
 abbrev pub Begins : {X : Type 0} → (X → ℕ) → (List ℕ → Type 0) → List ℕ → Option X → Type 0
@@ -22,11 +22,11 @@ pub record Rests (One Other : List ℕ → Type 0) (u v : List ℕ) : Type 0 whe
   pub other : List ℕ
   pub first : One one
   pub second : Other other
-  pub same : dictionary u v ≡ dictionary one other
+  pub same : lexicographic u v ≡ lexicographic one other
 
 -- the words differ here, or these suffixes are left to compare
 pub record Next (One Other : List ℕ → Type 0) (u v : List ℕ) (o : Ordering) : Type 0 where
-  pub differs : is_ne o ≡ true → o ≡ dictionary u v
+  pub differs : is_ne o ≡ true → o ≡ lexicographic u v
   pub goes_on : is_ne o ≡ false → Rests One Other u v
 
 -- some words are left to compare
@@ -48,36 +48,36 @@ then_other Equal r e = absurd (true≢false (sym e))
 then_other Greater r e = refl
 
 module _ {X : Type 0} (number : X → ℕ) (cmp : X → X → Ordering) (shown : (a b : X) → cmp a b ≡ nat_cmp (number a) (number b)) (One Other One' Other' : List ℕ → Type 0) where
-  both : (t s : X) (u v u' v' : List ℕ) → u ≡ number t ∷ u' → v ≡ number s ∷ v' → dictionary u v ≡ ordering_then (cmp t s) (dictionary u' v')
+  both : (t s : X) (u v u' v' : List ℕ) → u ≡ number t ∷ u' → v ≡ number s ∷ v' → lexicographic u v ≡ ordering_then (cmp t s) (lexicographic u' v')
   both t s u v u' v' h k =
-      let whole : dictionary u v ≡ ordering_then (nat_cmp (number t) (number s)) (dictionary u' v') = ap (λ w. dictionary w v) h ∙ ap (dictionary (number t ∷ u')) k in
-      whole ∙ ap (λ o. ordering_then o (dictionary u' v')) (sym (shown t s))
+      let whole : lexicographic u v ≡ ordering_then (nat_cmp (number t) (number s)) (lexicographic u' v') = ap (λ w. lexicographic w v) h ∙ ap (lexicographic (number t ∷ u')) k in
+      whole ∙ ap (λ o. ordering_then o (lexicographic u' v')) (sym (shown t s))
 
   -- one token of each
   pub next : (t : X) (other : Option X) (u v : List ℕ) (r : Rests One Other u v) → Begins number One' r.one (Some t) → Begins number Other' r.other other → Next One' Other' u v (option_cmp cmp (Some t) other)
   next t None u v r h k = record {
     differs = λ e.
-        let whole : dictionary r.one r.other ≡ dictionary (number t ∷ h.0) [] = ap (λ w. dictionary w r.other) h.1 ∙ ap (dictionary (number t ∷ h.0)) k in
+        let whole : lexicographic r.one r.other ≡ lexicographic (number t ∷ h.0) [] = ap (λ w. lexicographic w r.other) h.1 ∙ ap (lexicographic (number t ∷ h.0)) k in
         sym (r.same ∙ whole);
     goes_on = λ e. absurd (true≢false e);
   }
   next t (Some s) u v r h k =
       let whole = r.same ∙ both t s r.one r.other h.0 k.0 h.1 k.1 in
       record {
-        differs = λ e. sym (whole ∙ then_other (cmp t s) (dictionary h.0 k.0) e);
-        goes_on = λ e. record { one = h.0; other = k.0; first = h.2; second = k.2; same = whole ∙ then_equal (cmp t s) (dictionary h.0 k.0) e };
+        differs = λ e. sym (whole ∙ then_other (cmp t s) (lexicographic h.0 k.0) e);
+        goes_on = λ e. record { one = h.0; other = k.0; first = h.2; second = k.2; same = whole ∙ then_equal (cmp t s) (lexicographic h.0 k.0) e };
       }
 
   -- the first one ends
-  pub ended : (other : Option X) (u v : List ℕ) (r : Rests One Other u v) → r.one ≡ [] → Begins number Other' r.other other → option_cmp cmp None other ≡ dictionary u v
-  ended None u v r h k = let whole : dictionary r.one r.other ≡ dictionary [] [] = ap (λ w. dictionary w r.other) h ∙ ap (dictionary []) k in sym (r.same ∙ whole)
-  ended (Some s) u v r h k = let whole : dictionary r.one r.other ≡ dictionary [] (number s ∷ k.0) = ap (λ w. dictionary w r.other) h ∙ ap (dictionary []) k.1 in sym (r.same ∙ whole)
+  pub ended : (other : Option X) (u v : List ℕ) (r : Rests One Other u v) → r.one ≡ [] → Begins number Other' r.other other → option_cmp cmp None other ≡ lexicographic u v
+  ended None u v r h k = let whole : lexicographic r.one r.other ≡ lexicographic [] [] = ap (λ w. lexicographic w r.other) h ∙ ap (lexicographic []) k in sym (r.same ∙ whole)
+  ended (Some s) u v r h k = let whole : lexicographic r.one r.other ≡ lexicographic [] (number s ∷ k.0) = ap (λ w. lexicographic w r.other) h ∙ ap (lexicographic []) k.1 in sym (r.same ∙ whole)
 
 -- lists that begin with different tokens
 pub first_differ : (x : CostTables) (a b : List Sym) (ordering : Ordering) (f : FirstTokensAre a b ordering) → is_ne ordering ≡ true → (u v : List ℕ) → ChoicesGive x a u → ChoicesGive x b v
-    → ordering ≡ dictionary u v
+    → ordering ≡ lexicographic u v
 first_differ x a b ordering f ne u v h k =
-    let (u', begins, _) = token_front x f.one f.ones u (subst (λ l. ChoicesGive x l u) f.first h) in
-    let (v', also, _) = token_front x f.other f.others v (subst (λ l. ChoicesGive x l v) f.second k) in
-    let whole : dictionary u v ≡ ordering_then (nat_cmp f.one f.other) (dictionary u' v') = ap (λ w. dictionary w v) begins ∙ ap (dictionary (f.one ∷ u')) also in
-    sym (whole ∙ ap (λ o. ordering_then o (dictionary u' v')) (sym f.is) ∙ then_other ordering (dictionary u' v') ne)
+    let (u', begins, _) = token_prefix x f.one f.ones u (subst (λ l. ChoicesGive x l u) f.first h) in
+    let (v', also, _) = token_prefix x f.other f.others v (subst (λ l. ChoicesGive x l v) f.second k) in
+    let whole : lexicographic u v ≡ ordering_then (nat_cmp f.one f.other) (lexicographic u' v') = ap (λ w. lexicographic w v) begins ∙ ap (lexicographic (f.one ∷ u')) also in
+    sym (whole ∙ ap (λ o. ordering_then o (lexicographic u' v')) (sym f.is) ∙ then_other ordering (lexicographic u' v') ne)

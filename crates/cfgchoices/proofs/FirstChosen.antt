@@ -23,30 +23,30 @@ use Rattle.cfgchoices.specs.Inner.Choices.{ChoicesGive}
 use Rattle.cfgchoices.specs.Inner.Choices as gives
 use Rattle.cfgchoices.specs.Inner.FirstChoices.{AreFirst, IsNotAbove, Opens, Walks}
 use Rattle.cfgleast.specs.Generator.{CostTables, cost_answer, choice_answer, token_cost, where_some}
-use Rattle.cfgchoices.specs.FirstSentence.{FirstMinimal, dictionary}
+use Rattle.cfgchoices.specs.FirstSentence.{FirstMinimal, lexicographic}
 use Rattle.cfgchoices.specs.Splits.{Split, done, itself, part}
-use Rattle.cfgchoices.proofs.Choices.{choices_row}
-use Rattle.cfgchoices.proofs.Firsts.{by_order, row_before, begins_none}
+use Rattle.cfgchoices.proofs.Choices.{choices_sequence}
+use Rattle.cfgchoices.proofs.Firsts.{by_order, sequence_before, begins_none}
 use Rattle.cfgleast.proofs.Gains.{part_at}
 use Rattle.cfgleast.proofs.Generated.{answered_some, some_answered}
 use Rattle.cfgchoices.proofs.Lengths.{IsPaid}
 use Rattle.cfgchoices.proofs.Levels.{made_minimal, minimal_parts}
 use Rattle.cfgchoices.proofs.Splits.{Split-map, IsYieldedAnd, by_rules, split_one}
-use Rattle.cfgchoices.proofs.Tight.{cut_of_sum, free_minimal, least_of, minimal_free, paid, sum_of_cut, tight_placed, tight_whatever}
+use Rattle.cfgchoices.proofs.Optimal.{cut_of_sum, free_minimal, least_of, minimal_free, paid, sum_of_cut, optimal_located, optimal_whatever}
 
 -- nothing comes before the empty word
-none_first : (v : List ℕ) → dictionary [] v ≡ Greater → ⊥
+none_first : (v : List ℕ) → lexicographic [] v ≡ Greater → ⊥
 none_first [] g = let no : ◌≡◌ {A = Ordering} Equal Greater = g in cc
 none_first (t ∷ v) g = let no : ◌≡◌ {A = Ordering} Less Greater = g in cc
 
 -- `not after` is transitive
-pub not_after : (u v w : List ℕ) → (dictionary u v ≡ Greater → ⊥) → (dictionary v w ≡ Greater → ⊥) → dictionary u w ≡ Greater → ⊥
-not_after u v w h k g = by_order (dictionary u v)
-    (λ less. by_order (dictionary v w)
+pub not_after : (u v w : List ℕ) → (lexicographic u v ≡ Greater → ⊥) → (lexicographic v w ≡ Greater → ⊥) → lexicographic u w ≡ Greater → ⊥
+not_after u v w h k g = by_order (lexicographic u v)
+    (λ less. by_order (lexicographic v w)
     (λ less'. let no : ◌≡◌ {A = Ordering} Less Greater = sym (nat_list_cmp_total.trans u v w less less') ∙ g in cc)
-    (λ equal. let no : ◌≡◌ {A = Ordering} Less Greater = sym less ∙ ap (dictionary u) (exact_bytes v w equal) ∙ g in cc)
+    (λ equal. let no : ◌≡◌ {A = Ordering} Less Greater = sym less ∙ ap (lexicographic u) (exact_bytes v w equal) ∙ g in cc)
     k)
-    (λ equal. k (sym (ap (λ l. dictionary l w) (exact_bytes u v equal)) ∙ g))
+    (λ equal. k (sym (ap (λ l. lexicographic l w) (exact_bytes u v equal)) ∙ g))
     h
 
 module _ (x : CostTables) (walks : Walks x) (grammar : IsGrammar x.grammar) where
@@ -72,9 +72,9 @@ module _ (x : CostTables) (walks : Walks x) (grammar : IsGrammar x.grammar) wher
   costly q d e some none = let is : d ≡ 0 = same_Some _ _ (sym e ∙ (answered_some (rule_cost x.least q) 0 none).0) in omega (arith, is, some)
 
   -- the choices give something for a list that has a cost, if they do for its rules
-  gives_row : (a : List Sym) (s : ℕ) → sum_of sums a ≡ Some s → s ≤ 65535
+  gives_sequence : (a : List Sym) (s : ℕ) → sum_of sums a ≡ Some s → s ≤ 65535
       → ((q d : ℕ) → Contains a (Rule q) → rule_cost x.least q ≡ Some d → d ≤ 65535 → (w : List ℕ) × ChoicesGive x (Rule q ∷ []) w) → (w : List ℕ) × ChoicesGive x a w
-  gives_row a s e small one = choices_row x a (λ q h. let part = part_at sums a h.0 (Rule q) s h.1 h.2 e in one q part.value h part.is (omega (arith, part.within, small)))
+  gives_sequence a s e small one = choices_sequence x a (λ q h. let part = part_at sums a h.0 (Rule q) s h.1 h.2 e in one q part.value h part.is (omega (arith, part.within, small)))
 
   gives_free : (q d : ℕ) → rule_cost x.least q ≡ Some d → d ≤ 0 → (w : List ℕ) × ChoicesGive x (Rule q ∷ []) w
   gives_free q d e none = ([], gives.free (some_answered (rule_cost x.least q) 0 (e ∙ ap Some (omega (arith, none))) (omega arith)) gives.empty)
@@ -82,7 +82,7 @@ module _ (x : CostTables) (walks : Walks x) (grammar : IsGrammar x.grammar) wher
   gives_below : (k q d p m : ℕ) → m < k → rule_cost x.least q ≡ Some d → 0 < d → d ≤ 65535 → Opens x q d p m → (w : List ℕ) × ChoicesGive x (Rule q ∷ []) w
   gives_below zero q d p m lt e some small o = absurd (omega (arith, lt))
   gives_below (suc k) q d p m lt e some small o =
-      let (u, h) = gives_row (nth_production x.grammar p).symbols d o.sum small
+      let (u, h) = gives_sequence (nth_production x.grammar p).symbols d o.sum small
       (λ r c among f low. elim (cases_lt 0 c) [
         | inl paid ↦
             let (p', m', o') = walks.chosen r c f paid low in
@@ -93,7 +93,7 @@ module _ (x : CostTables) (walks : Walks x) (grammar : IsGrammar x.grammar) wher
       (u, gives.chosen (costly q d e some) (answer_is q p m d o e small) h gives.empty (sym (append-nil u)))
 
   pub gives_some : (a : List Sym) (s : ℕ) → sum_of sums a ≡ Some s → s ≤ 65535 → (w : List ℕ) × ChoicesGive x a w
-  gives_some a s e small = gives_row a s e small (λ q d _ f low. elim (cases_lt 0 d) [
+  gives_some a s e small = gives_sequence a s e small (λ q d _ f low. elim (cases_lt 0 d) [
     | inl paid ↦ let (p, m, o) = walks.chosen q d f paid low in gives_below (suc m) q d p m (omega arith) f paid low o
     | inr free ↦ gives_free q d f free
   ])
@@ -147,7 +147,7 @@ module _ (x : CostTables) (walks : Walks x) (grammar : IsGrammar x.grammar) wher
 
   module _ (first : AreFirst x) where
     abbrev Follows : ℕ → List ℕ → Type 0
-    Follows r v = Minimal P cost r v → (w : List ℕ) → ChoicesGive x (Rule r ∷ []) w → dictionary w v ≡ Greater → ⊥
+    Follows r v = Minimal P cost r v → (w : List ℕ) → ChoicesGive x (Rule r ∷ []) w → lexicographic w v ≡ Greater → ⊥
 
     follows_up : (r : ℕ) (symbols : List Sym) (v : List ℕ) → P r symbols → Yields P symbols v → Split (IsYieldedAnd P Follows) symbols v → Follows r v
     follows_up r symbols v has tree s m w given =
@@ -158,22 +158,22 @@ module _ (x : CostTables) (walks : Walks x) (grammar : IsGrammar x.grammar) wher
         let parts = minimal_parts P cost pays Follows s up in
         let cut = Split-map (λ q u. Minimal P cost q u × Follows q u) (Minimal P cost) (λ q u k. k.0) parts in
         let sum = sum_of_cut known walks.number walks.generator grammar cut (omega (arith, same, small)) in
-        let (row, made) = gives_some symbols (cost_of cost v) sum (omega (arith, same, small)) in
-        let before = row_before P cost pays IsGiven (λ q u. Minimal P cost q u × Follows q u)
+        let (sequence, made) = gives_some symbols (cost_of cost v) sum (omega (arith, same, small)) in
+        let before = sequence_before P cost pays IsGiven (λ q u. Minimal P cost q u × Follows q u)
         (λ q u u' h k. (k.1 k.0 u h.1, λ z e. begins_none P cost pays q u z h.0 (subst (Minimal P cost q) e k.0)))
         (cut_given made (cost_of cost v) sum (omega (arith, same, small))) parts in
         elim (cases_lt 0 c) [
           | inl some ↦
-              let tight = tight_placed known walks.number walks.generator grammar r symbols (cost_of cost v)
+              let optimal = optimal_located known walks.number walks.generator grammar r symbols (cost_of cost v)
               (record { has = has; least = minimal_costs_least P cost r v m; word = v; parts = cut; is = refl }) (omega (arith, same, some)) (omega (arith, same, small)) in
-              not_after w row v
-              (first tight.place (tight_whatever known x.choices tight.place tight.tight) w row
-              (subst (λ (y : Production). ChoicesGive x (Rule y.rule ∷ []) w) (sym tight.production) given)
-              (subst (λ (y : Production). ChoicesGive x y.symbols row) (sym tight.production) made))
+              not_after w sequence v
+              (first optimal.index (optimal_whatever known x.choices optimal.index optimal.optimal) w sequence
+              (subst (λ (y : Production). ChoicesGive x (Rule y.rule ∷ []) w) (sym optimal.production) given)
+              (subst (λ (y : Production). ChoicesGive x y.symbols sequence) (sym optimal.production) made))
               before
           | inr none ↦
               let mine = minimal_free known walks.number walks.generator grammar r w (answer ∙ ap Some (omega (arith, none))) (minimal_given r c w answer given) in
-              λ g. none_first v (sym (ap (λ l. dictionary l v) mine) ∙ g)
+              λ g. none_first v (sym (ap (λ l. lexicographic l v) mine) ∙ g)
         ]
 
     pub first_given : (r : ℕ) (w : List ℕ) → ChoicesGive x (Rule r ∷ []) w → FirstMinimal P cost r w

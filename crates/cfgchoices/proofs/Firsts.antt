@@ -9,28 +9,28 @@ use Rattle.std.proofs.lemmas.List.Sums.{sum_by-append}
 use Rattle.derivation.specs.Grammar.{Sym}
 use Rattle.derivation.specs.Costs.{Minimal}
 use Rattle.cfgchoices.specs.Splits.{Split, done, itself, part}
-use Rattle.cfgchoices.specs.FirstSentence.{FirstMinimal, dictionary}
-use Rattle.cfgchoices.proofs.Lengths.{IsPaid, dear_back, dear_empty, sentence_dear}
+use Rattle.cfgchoices.specs.FirstSentence.{FirstMinimal, lexicographic}
+use Rattle.cfgchoices.proofs.Lengths.{IsPaid, positive_back, positive_empty, sentence_positive}
 use Rattle.std.proofs.lemmas.Map.Lookups.{exact_bytes}
 
 -- what is less by a difference is still less with anything appended
-less_front : (u u' w w' : List ℕ) → dictionary u u' ≡ Less → ((z : List ℕ) → u' ≡ u ++ z → z ≡ []) → dictionary (u ++ w) (u' ++ w') ≡ Less
-less_front [] [] w w' e h = absurd (let no : ◌≡◌ {A = Ordering} Equal Less = e in cc)
-less_front [] (y ∷ u') w w' e h = absurd (let no : y ∷ u' ≡ [] = h (y ∷ u') refl in cc)
-less_front (x ∷ u) [] w w' e h = absurd (let no : ◌≡◌ {A = Ordering} Greater Less = e in cc)
-less_front (x ∷ u) (y ∷ u') w w' e h = by_ranked (x < y) (x ≡ y) (y < x) (nat_cmp x y) (ranked x y (nat_cmp x y) refl)
-    (λ o lt. ap (λ r. ordering_then r (dictionary (u ++ w) (u' ++ w'))) o)
-    (λ o same. ap (λ r. ordering_then r (dictionary (u ++ w) (u' ++ w'))) o
-    ∙ less_front u u' w w' (sym (ap (λ r. ordering_then r (dictionary u u')) o) ∙ e)
+less_prefix : (u u' w w' : List ℕ) → lexicographic u u' ≡ Less → ((z : List ℕ) → u' ≡ u ++ z → z ≡ []) → lexicographic (u ++ w) (u' ++ w') ≡ Less
+less_prefix [] [] w w' e h = absurd (let no : ◌≡◌ {A = Ordering} Equal Less = e in cc)
+less_prefix [] (y ∷ u') w w' e h = absurd (let no : y ∷ u' ≡ [] = h (y ∷ u') refl in cc)
+less_prefix (x ∷ u) [] w w' e h = absurd (let no : ◌≡◌ {A = Ordering} Greater Less = e in cc)
+less_prefix (x ∷ u) (y ∷ u') w w' e h = by_ranked (x < y) (x ≡ y) (y < x) (nat_cmp x y) (ranked x y (nat_cmp x y) refl)
+    (λ o lt. ap (λ r. ordering_then r (lexicographic (u ++ w) (u' ++ w'))) o)
+    (λ o same. ap (λ r. ordering_then r (lexicographic (u ++ w) (u' ++ w'))) o
+    ∙ less_prefix u u' w w' (sym (ap (λ r. ordering_then r (lexicographic u u')) o) ∙ e)
     (λ z k. h z (ap (λ n. n ∷ u') (sym same) ∙ ap (λ l. x ∷ l) k)))
-    (λ o gt. absurd (let no : ◌≡◌ {A = Ordering} Greater Less = sym (ap (λ r. ordering_then r (dictionary u u')) o) ∙ e in cc))
+    (λ o gt. absurd (let no : ◌≡◌ {A = Ordering} Greater Less = sym (ap (λ r. ordering_then r (lexicographic u u')) o) ∙ e in cc))
 
-same_front : (u w w' : List ℕ) → dictionary (u ++ w) (u ++ w') ≡ dictionary w w'
-same_front [] w w' = refl
-same_front (x ∷ u) w w' =
+same_prefix : (u w w' : List ℕ) → lexicographic (u ++ w) (u ++ w') ≡ lexicographic w w'
+same_prefix [] w w' = refl
+same_prefix (x ∷ u) w w' =
     let same : nat_cmp x x ≡ Equal = sym (nat_cmp_is x x Equal refl) in
-    let one : dictionary (x ∷ u ++ w) (x ∷ u ++ w') ≡ dictionary (u ++ w) (u ++ w') = ap (λ r. ordering_then r (dictionary (u ++ w) (u ++ w'))) same in
-    one ∙ same_front u w w'
+    let one : lexicographic (x ∷ u ++ w) (x ∷ u ++ w') ≡ lexicographic (u ++ w) (u ++ w') = ap (λ r. ordering_then r (lexicographic (u ++ w) (u ++ w'))) same in
+    one ∙ same_prefix u w w'
 
 pub by_order : {G : Type 0} (o : Ordering) → (o ≡ Less → G) → (o ≡ Equal → G) → (o ≡ Greater → G) → G
 by_order Less l e g = l refl
@@ -42,21 +42,21 @@ module _ (P : ℕ → List Sym → Type 0) (cost : ℕ → ℕ) (paid : (r : ℕ
   begins_none r u z m k =
       let low = k.1 u m.0 in
       let both = sum_by-append cost u z in
-      dear_empty cost z (dear_back cost u z (sentence_dear P cost paid r (u ++ z) k.0)) (omega (arith, low, both))
+      positive_empty cost z (positive_back cost u z (sentence_positive P cost paid r (u ++ z) k.0)) (omega (arith, low, both))
 
   -- a list doesn't come after another if none of its parts comes after the other's part or is a proper prefix of it
-  pub row_before : (G H : ℕ → List ℕ → Type 0)
-      → ((r : ℕ) (u u' : List ℕ) → G r u → H r u' → (dictionary u u' ≡ Greater → ⊥) × ((z : List ℕ) → u' ≡ u ++ z → z ≡ []))
-      → {a : List Sym} {w v : List ℕ} → Split G a w → Split H a v → dictionary w v ≡ Greater → ⊥
-  row_before G H each done done g = let no : ◌≡◌ {A = Ordering} Equal Greater = g in cc
-  row_before G H each (itself {t = t} {w = w} s) (itself {w = v} k) g = row_before G H each s k (sym (same_front (t ∷ []) w v) ∙ g)
-  row_before G H each (part {r = r} {u = u} {w = w} f s e) (part {u = u'} {w = w'} m k e') g =
-      let apart = ap (λ l. dictionary l (u' ++ w')) (sym e) ∙ ap (dictionary _) (sym e') ∙ g in
+  pub sequence_before : (G H : ℕ → List ℕ → Type 0)
+      → ((r : ℕ) (u u' : List ℕ) → G r u → H r u' → (lexicographic u u' ≡ Greater → ⊥) × ((z : List ℕ) → u' ≡ u ++ z → z ≡ []))
+      → {a : List Sym} {w v : List ℕ} → Split G a w → Split H a v → lexicographic w v ≡ Greater → ⊥
+  sequence_before G H each done done g = let no : ◌≡◌ {A = Ordering} Equal Greater = g in cc
+  sequence_before G H each (itself {t = t} {w = w} s) (itself {w = v} k) g = sequence_before G H each s k (sym (same_prefix (t ∷ []) w v) ∙ g)
+  sequence_before G H each (part {r = r} {u = u} {w = w} f s e) (part {u = u'} {w = w'} m k e') g =
+      let apart = ap (λ l. lexicographic l (u' ++ w')) (sym e) ∙ ap (lexicographic _) (sym e') ∙ g in
       let one = each r u u' f m in
-      by_order (dictionary u u')
-      (λ less. let no : ◌≡◌ {A = Ordering} Less Greater = sym (less_front u u' w w' less one.1) ∙ apart in cc)
-      (λ equal. row_before G H each s k (sym (same_front u w w') ∙ ap (λ l. dictionary (u ++ w) (l ++ w')) (exact_bytes u u' equal) ∙ apart))
+      by_order (lexicographic u u')
+      (λ less. let no : ◌≡◌ {A = Ordering} Less Greater = sym (less_prefix u u' w w' less one.1) ∙ apart in cc)
+      (λ equal. sequence_before G H each s k (sym (same_prefix u w w') ∙ ap (λ l. lexicographic (u ++ w) (l ++ w')) (exact_bytes u u' equal) ∙ apart))
       one.0
 
-  pub first_of_row : {a : List Sym} {w v : List ℕ} → Split (FirstMinimal P cost) a w → Split (Minimal P cost) a v → dictionary w v ≡ Greater → ⊥
-  first_of_row = row_before (FirstMinimal P cost) (Minimal P cost) (λ r u u' f m. (f.1 u' m, λ z is. begins_none r u z f.0 (subst (Minimal P cost r) is m)))
+  pub first_of_sequence : {a : List Sym} {w v : List ℕ} → Split (FirstMinimal P cost) a w → Split (Minimal P cost) a v → lexicographic w v ≡ Greater → ⊥
+  first_of_sequence = sequence_before (FirstMinimal P cost) (Minimal P cost) (λ r u u' f m. (f.1 u' m, λ z is. begins_none r u z f.0 (subst (Minimal P cost r) is m)))

@@ -4,32 +4,32 @@ use Rattle.std.proofs.lemmas.Option.{same_Some}
 use Rattle.derivation.specs.Grammar.{IsGrammar}
 use Rattle.derivation.specs.Sentence.{cost_of}
 use Rattle.cfgtables.specs.Openings.{nth_production}
-use Rattle.cfgtables.proofs.Placed.{at_place}
+use Rattle.cfgtables.proofs.Located.{at_position}
 use Rattle.derivation.specs.CostLists.{rule_cost}
 use Rattle.cfgleast.specs.Certificate.{rule_choice}
 use Rattle.cfgchoices.specs.Inner.FirstChoices.{Opens, Walks}
 use Rattle.cfgleast.specs.Generator.{CostTables, IsGenerator, cost_answer, token_cost}
 use Rattle.cfgchoices.specs.Levels.{Along, here, next}
-use Rattle.cfgchoices.specs.Inner.Kinds.{HasHeir, HasNoHeir, IsHeir}
-use Rattle.cfgchoices.specs.Inner.Offers.{Choices, Choosing, HasChoice, by}
-use Rattle.cfgchoices.proofs.ChoosingFirsts.{few, paid_chosen, row_not_above}
+use Rattle.cfgchoices.specs.Inner.Kinds.{HasTarget, HasNoTarget, IsTarget}
+use Rattle.cfgchoices.specs.Inner.Candidates.{Choices, Choosing, HasChoice, by}
+use Rattle.cfgchoices.proofs.ChoosingFirsts.{few, paid_chosen, sequence_not_above}
 use Rattle.cfgleast.proofs.Generated.{some_answered}
-use Rattle.cfgchoices.proofs.Tight.{least_of, minimal_made, one_cost}
+use Rattle.cfgchoices.proofs.Optimal.{least_of, minimal_made, one_cost}
 
 module _ (x : CostTables) (n : ℕ) (is : IsGenerator x n) (grammar : IsGrammar x.grammar) (l : Choices) (k : ℕ) (state : Choosing x l k) where
   -- rules that chain productions link cost the same
-  along_cost : {a b : ℕ} → Along (HasHeir x) a b → (c d : ℕ) → cost_answer x a ≡ Some c → cost_answer x b ≡ Some d → c ≡ d
+  along_cost : {a b : ℕ} → Along (HasTarget x) a b → (c d : ℕ) → cost_answer x a ≡ Some c → cost_answer x b ≡ Some d → c ≡ d
   along_cost {a = a} here c d e f = one_cost x a c d e f
   along_cost {a = a} (next {b = b} link rest) c d e f =
-      let tight = link.heir.tight in
-      let same = one_cost x a c tight.cost e (subst (λ r. cost_answer x r ≡ Some tight.cost) link.owner tight.rule) in
-      same ∙ along_cost rest tight.cost d link.heir.same f
+      let optimal = link.target.optimal in
+      let same = one_cost x a c optimal.cost e (subst (λ r. cost_answer x r ≡ Some optimal.cost) link.owner optimal.rule) in
+      same ∙ along_cost rest optimal.cost d link.target.same f
 
-  module _ (bound : ℕ) (own : (p : ℕ) (own : HasNoHeir x p) → own.tight.cost < bound → HasChoice l (nth_production x.grammar p).rule)
-      (hand : (p q : ℕ) → IsHeir x p q → HasChoice l q → HasChoice l (nth_production x.grammar p).rule) where
-    back : {a b : ℕ} → Along (HasHeir x) a b → HasChoice l b → HasChoice l a
+  module _ (bound : ℕ) (base : (p : ℕ) (base : HasNoTarget x p) → base.optimal.cost < bound → HasChoice l (nth_production x.grammar p).rule)
+      (hand : (p q : ℕ) → IsTarget x p q → HasChoice l q → HasChoice l (nth_production x.grammar p).rule) where
+    back : {a b : ℕ} → Along (HasTarget x) a b → HasChoice l b → HasChoice l a
     back here h = h
-    back (next {b = b} link rest) h = subst (HasChoice l) link.owner (hand link.place b link.heir (back rest h))
+    back (next {b = b} link rest) h = subst (HasChoice l) link.owner (hand link.index b link.target (back rest h))
 
     pub all_chosen : (r c : ℕ) → cost_answer x r ≡ Some c → 0 < c → c < bound → HasChoice l r
     all_chosen r c answer some low =
@@ -37,22 +37,22 @@ module _ (x : CostTables) (n : ℕ) (is : IsGenerator x n) (grammar : IsGrammar 
         let (w, s, costs) = least.0 in
         let made = minimal_made x n is grammar r c w answer some (s, λ v t. subst (λ k. k ≤ cost_of (token_cost x) v) (sym costs) (least.1 v t)) in
         let below = made.below in
-        let same = along_cost below.leads c below.own.tight.cost answer below.own.tight.rule in
-        back below.leads (own made.place below.own (subst (λ d. d < bound) same low))
+        let same = along_cost below.leads c below.base.optimal.cost answer below.base.optimal.rule in
+        back below.leads (base made.index below.base (subst (λ d. d < bound) same low))
 
     opens : (q d p m : ℕ) → rule_cost x.least q ≡ Some d → d ≤ 65535 → rule_choice l q ≡ Some (p, m) → Opens (by x l) q d p m
     opens q d p m e small choice =
         let c = (state.each q p m choice).0 in
         let less = (state.each q p m choice).1 in
-        let same : c.tight.cost ≡ d = same_Some _ _ (sym (subst (λ r. cost_answer x r ≡ Some c.tight.cost) c.owner c.tight.rule) ∙ some_answered (rule_cost x.least q) d e small) in
+        let same : c.optimal.cost ≡ d = same_Some _ _ (sym (subst (λ r. cost_answer x r ≡ Some c.optimal.cost) c.owner c.optimal.rule) ∙ some_answered (rule_cost x.least q) d e small) in
         record {
           choice = choice;
-          place = c.tight.place;
+          index = c.optimal.index;
           owner = c.owner;
-          has = at_place x.grammar p _ c.tight.place (sym c.owner) refl;
-          symbols = grammar.symbols p (record { rule = 0; symbols = [] }) c.tight.place;
-          sum = c.tight.sum ∙ ap Some same;
-          below = row_not_above x l k state m (nth_production x.grammar p).symbols c.ready;
+          has = at_position x.grammar p _ c.optimal.index (sym c.owner) refl;
+          symbols = grammar.symbols p (record { rule = 0; symbols = [] }) c.optimal.index;
+          sum = c.optimal.sum ∙ ap Some same;
+          below = sequence_not_above x l k state m (nth_production x.grammar p).symbols c.ready;
           deep = let all = few x l k state in omega (arith, less, all);
         }
 
@@ -74,5 +74,5 @@ module _ (x : CostTables) (n : ℕ) (is : IsGenerator x n) (grammar : IsGrammar 
           let answer = some_answered (rule_cost x.least q) d e small in
           let ((p, m), choice) = all_chosen q d answer some (low q d answer) in
           (p, m, opens q d p m e small choice);
-      below = λ q p m e. row_not_above x l k state m (nth_production x.grammar p).symbols (state.each q p m e).0.ready;
+      below = λ q p m e. sequence_not_above x l k state m (nth_production x.grammar p).symbols (state.each q p m e).0.ready;
     }

@@ -3,35 +3,35 @@ use Rattle.std.proofs.Common.{◌≡◌, ℕ, ◌+◌, ◌-◌, ◌<◌, ◌≤�
 use Rattle.std.proofs.lemmas.Bool.{cases_lt}
 use Rattle.cfgindex.specs.declared.idxnewtype.PIdx.{PIdx}
 use Rattle.cfgleast.specs.Generator.{CostTables}
-use Rattle.cfgchoices.specs.Inner.Kinds.{IsHeir, IsTight}
-use Rattle.cfgchoices.specs.Inner.Lists.{IsFirstFrom, IsIn, IsOwnAt}
-use Rattle.cfgchoices.specs.Inner.Offers.{Adds, IsOffered, Known, Offers}
+use Rattle.cfgchoices.specs.Inner.Kinds.{IsTarget, IsOptimal}
+use Rattle.cfgchoices.specs.Inner.Lists.{IsFirstFrom, IsIn, IsBaseAt}
+use Rattle.cfgchoices.specs.Inner.Candidates.{Adds, IsCandidate, Known, Candidates}
 use Rattle.cfgchoices.specs.declared.first.lists.Listed.{Listed}
-use Rattle.cfgchoices.specs.declared.first.lists.Listed.TheVariants.{Own, HandingTo}
+use Rattle.cfgchoices.specs.declared.first.lists.Listed.TheVariants.{Base, ChainingTo}
 
-pub in_tight : {S : Type 0} (number : S → ℕ) (x : CostTables) (listed : Listed S) (p : ℕ) → IsIn number x listed p → IsTight x p
-in_tight number x (Own c) p h = h.0.tight
-in_tight number x (HandingTo r) p h = h.tight
+pub in_optimal : {S : Type 0} (number : S → ℕ) (x : CostTables) (listed : Listed S) (p : ℕ) → IsIn number x listed p → IsOptimal x p
+in_optimal number x (Base c) p h = h.0.optimal
+in_optimal number x (ChainingTo r) p h = h.optimal
 
 pub next_in : {S : Type 0} (number : S → ℕ) (x : CostTables) (listed : Listed S) (p : ℕ) (next : Option (PIdx S)) → IsIn number x listed p
-    → ((c : ℕ) → IsOwnAt x c p → IsFirstFrom number (IsOwnAt x c) (p + 1) next) → ((r : ℕ) → IsHeir x p r → IsFirstFrom number (λ q. IsHeir x q r) (p + 1) next)
+    → ((c : ℕ) → IsBaseAt x c p → IsFirstFrom number (IsBaseAt x c) (p + 1) next) → ((r : ℕ) → IsTarget x p r → IsFirstFrom number (λ q. IsTarget x q r) (p + 1) next)
     → IsFirstFrom number (IsIn number x listed) (p + 1) next
-next_in number x (Own c) p next h own handing = own c h
-next_in number x (HandingTo r) p next h own handing = handing (number r.0) h
+next_in number x (Base c) p next h base chaining = base c h
+next_in number x (ChainingTo r) p next h base chaining = chaining (number r.0) h
 
 -- how many productions are left from the next one on
 abbrev pub left_from : {S : Type 0} → (S → ℕ) → ℕ → Option (PIdx S) → ℕ
 left_from number n None = 0
 left_from number n (Some p) = n - number p.0
 
-module _ {S : Type 0} (number : S → ℕ) (x : CostTables) (listed : Listed S) (f : Offers) where
+module _ {S : Type 0} (number : S → ℕ) (x : CostTables) (listed : Listed S) (f : Candidates) where
   abbrev Is : ℕ → Type 0
   Is = IsIn number x listed
 
-  abbrev places : ℕ
-  places = length x.grammar.productions
+  abbrev positions : ℕ
+  positions = length x.grammar.productions
 
-  pub record Gone (f' : Offers) (next : Option (PIdx S)) : Type 0 where
+  pub record Gone (f' : Candidates) (next : Option (PIdx S)) : Type 0 where
     pub from : ℕ
     pub within : from ≤ length x.grammar.productions
     pub first : IsFirstFrom number (IsIn number x listed) from next
@@ -45,13 +45,13 @@ module _ {S : Type 0} (number : S → ℕ) (x : CostTables) (listed : Listed S) 
     adds = record { choices = refl; number = refl; cost = refl; handles = λ q h. elim h [ inl old ↦ old | inr none ↦ absurd (omega (arith, none.1)) ]; together = omega arith };
   }
 
-  pub gone_more : (mid f' : Offers) (p : PIdx S) (next : Option (PIdx S)) → Gone mid (Some p) → Adds x (λ q. q ≡ number p.0) 1 mid f' → IsFirstFrom number Is (number p.0 + 1) next → Gone f' next
+  pub gone_more : (mid f' : Candidates) (p : PIdx S) (next : Option (PIdx S)) → Gone mid (Some p) → Adds x (λ q. q ≡ number p.0) 1 mid f' → IsFirstFrom number Is (number p.0 + 1) next → Gone f' next
   gone_more mid f' p next g b first =
       let (le, is, none) = g.first in
-      let place = (in_tight number x listed (number p.0) is).place in
+      let index = (in_optimal number x listed (number p.0) is).index in
       let a = g.adds in record {
         from = number p.0 + 1;
-        within = omega (arith, place);
+        within = omega (arith, index);
         first = first;
         adds = record {
           choices = b.choices ∙ a.choices;
@@ -63,7 +63,7 @@ module _ {S : Type 0} (number : S → ℕ) (x : CostTables) (listed : Listed S) 
               | inl less ↦ b.handles q (inl (a.handles q (inr (among.0, less))))
               | inr ge ↦ elim (cases_lt q (number p.0)) [
                 | inl before ↦ absurd (none q ge before among.0)
-                | inr behind ↦ b.handles q (inr (omega (arith, among.1, behind)))
+                | inr after ↦ b.handles q (inr (omega (arith, among.1, after)))
               ]
             ]
           ];
@@ -71,7 +71,7 @@ module _ {S : Type 0} (number : S → ℕ) (x : CostTables) (listed : Listed S) 
         };
       }
 
-  pub gone_ends : (f' : Offers) → Gone f' None → Adds x Is places f f'
+  pub gone_ends : (f' : Candidates) → Gone f' None → Adds x Is positions f f'
   gone_ends f' g =
       let a = g.adds in record {
         choices = a.choices;
@@ -84,16 +84,16 @@ module _ {S : Type 0} (number : S → ℕ) (x : CostTables) (listed : Listed S) 
         together = omega (arith, a.together, g.within);
       }
 
-  pub gone_less : (f' : Offers) (p : PIdx S) (next : Option (PIdx S)) → Gone f' (Some p) → IsFirstFrom number Is (number p.0 + 1) next → left_from number places next < left_from number places (Some p)
+  pub gone_less : (f' : Candidates) (p : PIdx S) (next : Option (PIdx S)) → Gone f' (Some p) → IsFirstFrom number Is (number p.0 + 1) next → left_from number positions next < left_from number positions (Some p)
   gone_less f' p next g first =
-      let place = (in_tight number x listed (number p.0) g.first.1).place in
-      go next first place
+      let index = (in_optimal number x listed (number p.0) g.first.1).index in
+      go next first index
     where
-      go : (next : Option (PIdx S)) → IsFirstFrom number Is (number p.0 + 1) next → number p.0 < places → left_from number places next < places - number p.0
-      go None first place = omega (arith, place)
-      go (Some q) first place = omega (arith, first.0, place)
+      go : (next : Option (PIdx S)) → IsFirstFrom number Is (number p.0 + 1) next → number p.0 < positions → left_from number positions next < positions - number p.0
+      go None first index = omega (arith, index)
+      go (Some q) first index = omega (arith, first.0, index)
 
 -- what could be a candidate still can
-pub offered_still : (k : Known) (Is : ℕ → Type 0) (n : ℕ) (f f' : Offers) → Adds k.tables Is n f f' → (q : ℕ) → IsOffered k f.choices f.number f.cost q → IsOffered k f'.choices f'.number f'.cost q
-offered_still k Is n f f' a q o = subst (λ c. IsOffered k f'.choices f'.number c q) (sym a.cost)
-    (subst (λ m. IsOffered k f'.choices m f.cost q) (sym a.number) (subst (λ l. IsOffered k l f.number f.cost q) (sym a.choices) o))
+pub nominated_still : (k : Known) (Is : ℕ → Type 0) (n : ℕ) (f f' : Candidates) → Adds k.tables Is n f f' → (q : ℕ) → IsCandidate k f.choices f.number f.cost q → IsCandidate k f'.choices f'.number f'.cost q
+nominated_still k Is n f f' a q o = subst (λ c. IsCandidate k f'.choices f'.number c q) (sym a.cost)
+    (subst (λ m. IsCandidate k f'.choices m f.cost q) (sym a.number) (subst (λ l. IsCandidate k l f.number f.cost q) (sym a.choices) o))

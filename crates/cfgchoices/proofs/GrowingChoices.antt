@@ -4,7 +4,7 @@ use Rattle.lemmas.proofs.Elements.{get_or-set}
 use Rattle.derivation.specs.Grammar.{Sym}
 use Rattle.cfgleast.specs.Certificate.{rule_choice}
 use Rattle.cfgchoices.specs.Inner.Choices.{ChoicesGive, empty, token, free, chosen}
-use Rattle.cfgchoices.specs.Inner.Offers.{Choices, by}
+use Rattle.cfgchoices.specs.Inner.Candidates.{Choices, by}
 use Rattle.cfgleast.specs.Generator.{CostTables, cost_answer, choice_answer, where_some}
 
 -- each choice is kept

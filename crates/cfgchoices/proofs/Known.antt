@@ -3,35 +3,35 @@ use Rattle.std.proofs.Common.{◌≡◌, ℕ, ◌<◌, ◌⊎◌, inl, inr, List
 use Rattle.derivation.specs.Grammar.{IsGrammar}
 use Rattle.cfgtables.specs.Openings.{nth_production}
 use Rattle.cfgleast.specs.Generator.{CostTables, IsGenerator, cost_answer}
-use Rattle.cfgchoices.specs.Inner.Kinds.{AreKinds, HasNoHeir, IsHeir, IsKind, IsTight}
-use Rattle.cfgchoices.specs.Inner.Offers.{IsCounted, IsKnown}
+use Rattle.cfgchoices.specs.Inner.Kinds.{AreKinds, HasNoTarget, IsTarget, IsKind, IsOptimal}
+use Rattle.cfgchoices.specs.Inner.Candidates.{IsCounted, IsKnown}
 use Rattle.cfgchoices.specs.declared.kinds.Kind.{Kind}
 use Rattle.cfgchoices.specs.declared.kinds.Kind.TheVariants as variants
-use Rattle.cfgchoices.specs.declared.kinds.Kind.TheVariants.{Slack, Own}
+use Rattle.cfgchoices.specs.declared.kinds.Kind.TheVariants.{Slack, Base}
 
 module _ {S : Type 0} (number : S → ℕ) (x : CostTables) (kinds : List (Kind S)) (are : AreKinds number x kinds) where
-  within : (p : ℕ) → IsTight x p → p < length kinds
-  within p tight = subst (λ n. p < n) (sym are.all) tight.place
+  within : (p : ℕ) → IsOptimal x p → p < length kinds
+  within p optimal = subst (λ n. p < n) (sym are.all) optimal.index
 
-  counted : (p : ℕ) → IsTight x p → IsCounted kinds p
-  counted p tight = (within p tight, λ e. subst (IsKind number x p) e (are.each p (within p tight)) tight)
+  counted : (p : ℕ) → IsOptimal x p → IsCounted kinds p
+  counted p optimal = (within p optimal, λ e. subst (IsKind number x p) e (are.each p (within p optimal)) optimal)
 
-  own_or_heir : (p : ℕ) → IsTight x p → HasNoHeir x p ⊎ ((q : ℕ) × IsHeir x p q)
-  own_or_heir p tight = go (get_or kinds p Slack) (are.each p (within p tight))
+  base_or_target : (p : ℕ) → IsOptimal x p → HasNoTarget x p ⊎ ((q : ℕ) × IsTarget x p q)
+  base_or_target p optimal = go (get_or kinds p Slack) (are.each p (within p optimal))
     where
-      go : (kind : Kind S) → IsKind number x p kind → HasNoHeir x p ⊎ ((q : ℕ) × IsHeir x p q)
-      go Slack is = absurd (is tight)
-      go Own is = inl is
-      go (variants.HandsOn r) is = inr (number r.0, is)
+      go : (kind : Kind S) → IsKind number x p kind → HasNoTarget x p ⊎ ((q : ℕ) × IsTarget x p q)
+      go Slack is = absurd (is optimal)
+      go Base is = inl is
+      go (variants.ChainsTo r) is = inr (number r.0, is)
 
-  pub known : (n : ℕ) → IsGenerator x n → IsGrammar x.grammar → (alone : List Bool) (limit : ℕ) → length alone ≡ x.grammar.rules
-      → ((r : ℕ) → get_or alone r false ≡ true → (p q : ℕ) → IsCounted kinds p → IsCounted kinds q → (nth_production x.grammar p).rule ≡ r → (nth_production x.grammar q).rule ≡ r → p ≡ q)
-      → ((r c : ℕ) → cost_answer x r ≡ Some c → c < limit) → IsKnown (record { tables = x; alone = alone; limit = limit }) n
-  known n generator grammar alone limit flags one costs = record {
+  pub known : (n : ℕ) → IsGenerator x n → IsGrammar x.grammar → (sole : List Bool) (limit : ℕ) → length sole ≡ x.grammar.rules
+      → ((r : ℕ) → get_or sole r false ≡ true → (p q : ℕ) → IsCounted kinds p → IsCounted kinds q → (nth_production x.grammar p).rule ≡ r → (nth_production x.grammar q).rule ≡ r → p ≡ q)
+      → ((r c : ℕ) → cost_answer x r ≡ Some c → c < limit) → IsKnown (record { tables = x; sole = sole; limit = limit }) n
+  known n generator grammar sole limit flags one costs = record {
     generator = generator;
     grammar = grammar;
     flags = flags;
-    alone = λ r e p q i j. one r e p q (counted p i) (counted q j);
-    kinds = own_or_heir;
+    sole = λ r e p q i j. one r e p q (counted p i) (counted q j);
+    kinds = base_or_target;
     costs = costs;
   }

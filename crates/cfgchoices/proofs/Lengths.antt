@@ -15,31 +15,31 @@ abbrev pub IsPaid : (ℕ → ℕ) → Sym → Type 0
 IsPaid cost (Rule r) = Unit {0}
 IsPaid cost (Token t) = 0 < cost t
 
-abbrev pub AreDear : (ℕ → ℕ) → List ℕ → Type 0
-AreDear cost w = All (λ t. 0 < cost t) w
+abbrev pub ArePositive : (ℕ → ℕ) → List ℕ → Type 0
+ArePositive cost w = All (λ t. 0 < cost t) w
 
-dear_length : (cost : ℕ → ℕ) (w : List ℕ) → AreDear cost w → length w ≤ cost_of cost w
-dear_length cost [] all = omega arith
-dear_length cost (t ∷ w) all =
-    let rest = dear_length cost w (All-tail (λ t. 0 < cost t) t w all) in
+positive_length : (cost : ℕ → ℕ) (w : List ℕ) → ArePositive cost w → length w ≤ cost_of cost w
+positive_length cost [] all = omega arith
+positive_length cost (t ∷ w) all =
+    let rest = positive_length cost w (All-tail (λ t. 0 < cost t) t w all) in
     let here = All-head (λ t. 0 < cost t) t w all in
     let both = cost_of-token cost t w in
     omega (arith, rest, here, both)
 
 -- a word that costs nothing is empty
-pub dear_empty : (cost : ℕ → ℕ) (w : List ℕ) → AreDear cost w → cost_of cost w ≤ 0 → w ≡ []
-dear_empty cost w all none = let long = dear_length cost w all in none_left w (omega (arith, long, none))
+pub positive_empty : (cost : ℕ → ℕ) (w : List ℕ) → ArePositive cost w → cost_of cost w ≤ 0 → w ≡ []
+positive_empty cost w all none = let long = positive_length cost w all in none_left w (omega (arith, long, none))
 
-pub dear_back : (cost : ℕ → ℕ) (u w : List ℕ) → AreDear cost (u ++ w) → AreDear cost w
-dear_back cost [] w all = all
-dear_back cost (t ∷ u) w all = dear_back cost u w (All-tail (λ t. 0 < cost t) t (u ++ w) all)
+pub positive_back : (cost : ℕ → ℕ) (u w : List ℕ) → ArePositive cost (u ++ w) → ArePositive cost w
+positive_back cost [] w all = all
+positive_back cost (t ∷ u) w all = positive_back cost u w (All-tail (λ t. 0 < cost t) t (u ++ w) all)
 
 module _ (P : ℕ → List Sym → Type 0) (cost : ℕ → ℕ) (paid : (r : ℕ) (symbols : List Sym) → P r symbols → All (IsPaid cost) symbols) where
-  pub tokens_dear : {a : List Sym} {w : List ℕ} → Yields P a w → All (IsPaid cost) a → AreDear cost w
-  tokens_dear tree all = leaves_are P (IsPaid cost) paid tree all
+  pub tokens_positive : {a : List Sym} {w : List ℕ} → Yields P a w → All (IsPaid cost) a → ArePositive cost w
+  tokens_positive tree all = leaves_are P (IsPaid cost) paid tree all
 
-  pub sentence_dear : (r : ℕ) (w : List ℕ) → Sentence P r w → AreDear cost w
-  sentence_dear r w s = tokens_dear (trees_from_derivation P (Rule r ∷ []) w s) (All-cons (IsPaid cost) (Rule r) [] tt (All-nil (IsPaid cost)))
+  pub sentence_positive : (r : ℕ) (w : List ℕ) → Sentence P r w → ArePositive cost w
+  sentence_positive r w s = tokens_positive (trees_from_derivation P (Rule r ∷ []) w s) (All-cons (IsPaid cost) (Rule r) [] tt (All-nil (IsPaid cost)))
 
 module _ (g : Grammar) (costs : List ℕ) (grammar : IsGrammar g) (tokens : length costs ≡ g.tokens) (positive : All (λ c. 0 < c) costs) where
   one : (s : Sym) → IsSymbolOf g s → IsPaid (slice_index costs) s
@@ -53,4 +53,4 @@ module _ (g : Grammar) (costs : List ℕ) (grammar : IsGrammar g) (tokens : leng
 pub sentence_length : (g : Grammar) (costs : List ℕ) → IsGrammar g → length costs ≡ g.tokens → All (λ c. 0 < c) costs
     → (r : ℕ) (w : List ℕ) → Sentence (HasProduction g) r w → length w ≤ cost_of (slice_index costs) w
 sentence_length g costs grammar tokens positive r w s =
-    dear_length (slice_index costs) w (sentence_dear (HasProduction g) (slice_index costs) (productions_paid g costs grammar tokens positive) r w s)
+    positive_length (slice_index costs) w (sentence_positive (HasProduction g) (slice_index costs) (productions_paid g costs grammar tokens positive) r w s)

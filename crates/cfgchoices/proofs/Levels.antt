@@ -10,10 +10,10 @@ use Rattle.derivation.specs.Tree.{Yields, empty, token, opened}
 use Rattle.derivation.proofs.Trees.{trees_join, trees_from_derivation, derivation_from_trees}
 use Rattle.derivation.proofs.Costs.{least_is_one, minimal_costs_least}
 use Rattle.cfgchoices.specs.Splits.{Split, done, itself, part}
-use Rattle.cfgchoices.specs.Levels.{Along, here, next, CostsAsItsRule, HandsOn, IsHandedDown}
+use Rattle.cfgchoices.specs.Levels.{Along, here, next, CostsAsItsRule, ChainsTo, IsChainedDown}
 use Rattle.derivation.proofs.Made.{cost_of-token}
 use Rattle.lemmas.proofs.Contained.{contains_first, contains_later, contains_none, contains_cases}
-use Rattle.cfgchoices.proofs.Lengths.{IsPaid, dear_empty, sentence_dear, tokens_dear}
+use Rattle.cfgchoices.proofs.Lengths.{IsPaid, positive_empty, sentence_positive, tokens_positive}
 use Rattle.cfgchoices.proofs.Splits.{Split-map, IsYielded, IsYieldedAnd, trees_from_split, by_rules}
 
 pub no_rule : (t b : ℕ) → Token t ≡ Rule b → ⊥
@@ -40,9 +40,9 @@ module _ (P : ℕ → List Sym → Type 0) (cost : ℕ → ℕ) where
 
   -- an optimal production makes minimal sentences of minimal sentences
   pub made_minimal : (r : ℕ) (symbols : List Sym) (c : ℕ) (w : List ℕ) → CostsAsItsRule P cost r symbols c → Cut symbols w → Minimal P cost r w
-  made_minimal r symbols c w tight s = (
-    derivation_from_trees P (opened tight.has (trees_of_cut s) empty (sym (append-nil w))),
-    (λ v d. let least = tight.least.1 v d in let same = same_cost s tight.parts in omega (arith, least, same, tight.is)),
+  made_minimal r symbols c w optimal s = (
+    derivation_from_trees P (opened optimal.has (trees_of_cut s) empty (sym (append-nil w))),
+    (λ v d. let least = optimal.least.1 v d in let same = same_cost s optimal.parts in omega (arith, least, same, optimal.is)),
   )
 
   -- a list costs at least what a rule in it does
@@ -61,10 +61,10 @@ module _ (P : ℕ → List Sym → Type 0) (cost : ℕ → ℕ) where
 
   module _ (paid : (r : ℕ) (symbols : List Sym) → P r symbols → All (IsPaid cost) symbols) where
     nothing : {a : List Sym} {w : List ℕ} → Yields P a w → All (IsPaid cost) a → cost_of cost w ≤ 0 → w ≡ []
-    nothing {w = w} tree all none = dear_empty cost w (tokens_dear P cost paid tree all) none
+    nothing {w = w} tree all none = positive_empty cost w (tokens_positive P cost paid tree all) none
 
     pub rule_nothing : (r : ℕ) (u : List ℕ) → Sentence P r u → cost_of cost u ≤ 0 → u ≡ []
-    rule_nothing r u s none = dear_empty cost u (sentence_dear P cost paid r u s) none
+    rule_nothing r u s none = positive_empty cost u (sentence_positive P cost paid r u s) none
 
     -- a minimal sentence of a rule in a list that costs no more is a sentence of the list
     handed_back : {a : List Sym} {v : List ℕ} (b c : ℕ) (w : List ℕ) → Cut a v → All (IsPaid cost) a → Contains a (Rule b) → Least P cost b c → cost_of cost v ≤ c
@@ -93,15 +93,15 @@ module _ (P : ℕ → List Sym → Type 0) (cost : ℕ → ℕ) where
               part m' (handed_back b c w s others later l (omega (arith, both, small)) m) (sym (ap (λ l. l ++ w) none))
         ]
 
-    pub along_back : {r b : ℕ} (w : List ℕ) → Along (HandsOn P cost) r b → Minimal P cost b w → Minimal P cost r w
+    pub along_back : {r b : ℕ} (w : List ℕ) → Along (ChainsTo P cost) r b → Minimal P cost b w → Minimal P cost r w
     along_back w here m = m
     along_back {r = r} w (next {b = b} h k) m =
-        let tight = h.tight in
-        made_minimal r h.symbols h.level w tight
-        (handed_back b h.level w tight.parts (paid r h.symbols tight.has) h.among h.same (omega (arith, tight.is)) (along_back w k m))
+        let optimal = h.optimal in
+        made_minimal r h.symbols h.level w optimal
+        (handed_back b h.level w optimal.parts (paid r h.symbols optimal.has) h.among h.same (omega (arith, optimal.is)) (along_back w k m))
 
-    pub handed_down_minimal : (r : ℕ) (w : List ℕ) → IsHandedDown P cost r w → Minimal P cost r w
-    handed_down_minimal r w h = along_back w h.leads (made_minimal h.owner h.symbols h.own.level w h.own.tight h.parts)
+    pub chained_down_minimal : (r : ℕ) (w : List ℕ) → IsChainedDown P cost r w → Minimal P cost r w
+    chained_down_minimal r w h = along_back w h.leads (made_minimal h.owner h.symbols h.base.level w h.base.optimal h.parts)
 
     -- the parts of a list's least word are minimal
     module _ (F : ℕ → List ℕ → Type 0) where
@@ -126,7 +126,7 @@ module _ (P : ℕ → List Sym → Type 0) (cost : ℕ → ℕ) where
           (minimal_parts s (λ v t. let le = low (u ++ v) (trees_join P tree t) in let two = sum_by-append cost u v in omega (arith, le, both, two))) e
 
       -- a rule of the list costs as much as the whole, and its part is the whole
-      record Heir (a : List Sym) (w : List ℕ) (c : ℕ) : Type 0 where
+      record Target (a : List Sym) (w : List ℕ) (c : ℕ) : Type 0 where
         rule : ℕ
         among : Contains a (Rule rule)
         same : Least P cost rule c
@@ -135,31 +135,31 @@ module _ (P : ℕ → List Sym → Type 0) (cost : ℕ → ℕ) where
       abbrev AllLess : List Sym → ℕ → Type 0
       AllLess a c = (q d : ℕ) → Contains a (Rule q) → Least P cost q d → d < c
 
-      heir_or_less : {a : List Sym} {w : List ℕ} (c : ℕ) → Split IsMinimalAnd a w → All (IsPaid cost) a → cost_of cost w ≤ c → Heir a w c ⊎ AllLess a c
-      heir_or_less c done all small = inr (λ q d h l. absurd (contains_none (Rule q) h))
-      heir_or_less c (itself {t = t} {a = a} {w = w} s) all small =
+      target_or_less : {a : List Sym} {w : List ℕ} (c : ℕ) → Split IsMinimalAnd a w → All (IsPaid cost) a → cost_of cost w ≤ c → Target a w c ⊎ AllLess a c
+      target_or_less c done all small = inr (λ q d h l. absurd (contains_none (Rule q) h))
+      target_or_less c (itself {t = t} {a = a} {w = w} s) all small =
           let both = cost_of-token cost t w in
           let some = All-head (IsPaid cost) (Token t) a all in
-          elim (heir_or_less c s (All-tail (IsPaid cost) (Token t) a all) (omega (arith, both, small))) [
-            | inl heir ↦
-                let low = heir.same.1 w heir.holds.0.0 in
+          elim (target_or_less c s (All-tail (IsPaid cost) (Token t) a all) (omega (arith, both, small))) [
+            | inl target ↦
+                let low = target.same.1 w target.holds.0.0 in
                 absurd (omega (arith, low, both, some, small))
             | inr less ↦ inr (λ q d h l. elim (contains_cases (Token t) (Rule q) a h) [ inl never ↦ absurd (no_rule t q never) | inr later ↦ less q d later l ])
           ]
-      heir_or_less c (part {r = r} {a = a} {u = u} {w = w} {v = v} h s e) all small =
+      target_or_less c (part {r = r} {a = a} {u = u} {w = w} {v = v} h s e) all small =
           let both = ap (cost_of cost) e ∙ sum_by-append cost u w in
           let others = All-tail (IsPaid cost) (Rule r) a all in
           let least = minimal_costs_least P cost r u h.0 in
           elim (cases_lt (cost_of cost u) c) [
-            | inl lt ↦ elim (heir_or_less c s others (omega (arith, both, small))) [
-              | inl heir ↦
-                  let low = heir.same.1 w heir.holds.0.0 in
+            | inl lt ↦ elim (target_or_less c s others (omega (arith, both, small))) [
+              | inl target ↦
+                  let low = target.same.1 w target.holds.0.0 in
                   let none = rule_nothing r u h.0.0 (omega (arith, low, both, small)) in
                   inl (record {
-                    rule = heir.rule;
-                    among = contains_later (Rule r) (Rule heir.rule) a heir.among;
-                    same = heir.same;
-                    holds = subst (IsMinimalAnd heir.rule) (sym (e ∙ ap (λ l. l ++ w) none)) heir.holds;
+                    rule = target.rule;
+                    among = contains_later (Rule r) (Rule target.rule) a target.among;
+                    same = target.same;
+                    holds = subst (IsMinimalAnd target.rule) (sym (e ∙ ap (λ l. l ++ w) none)) target.holds;
                   })
               | inr less ↦ inr (λ q d k l. elim (contains_cases (Rule r) (Rule q) a k) [
                 | inl same ↦
@@ -182,27 +182,27 @@ module _ (P : ℕ → List Sym → Type 0) (cost : ℕ → ℕ) where
           ]
 
     abbrev Comes : ℕ → List ℕ → Type 0
-    Comes r w = Minimal P cost r w → IsHandedDown P cost r w
+    Comes r w = Minimal P cost r w → IsChainedDown P cost r w
 
     comes_up : (r : ℕ) (symbols : List Sym) (w : List ℕ) → P r symbols → Yields P symbols w → Split (IsYieldedAnd P Comes) symbols w → Comes r w
     comes_up r symbols w has tree s m =
         let up = λ (v : List ℕ) (t : Yields P symbols v). m.1 v (derivation_from_trees P (opened has t empty (sym (append-nil v)))) in
         let parts = minimal_parts Comes s up in
         let cut = Split-map (IsMinimalAnd Comes) (Minimal P cost) (λ r u k. k.0) parts in
-        let tight : CostsAsItsRule P cost r symbols (cost_of cost w) = record { has = has; least = minimal_costs_least P cost r w m; word = w; parts = cut; is = refl } in
-        elim (heir_or_less Comes (cost_of cost w) parts (paid r symbols has) (omega arith)) [
-          | inl heir ↦
-              let down = heir.holds.1 heir.holds.0 in
-              let link : HandsOn P cost r heir.rule = record { symbols = symbols; level = cost_of cost w; tight = tight; among = heir.among; same = heir.same } in
-              record { owner = down.owner; symbols = down.symbols; leads = next link down.leads; own = down.own; parts = down.parts }
+        let optimal : CostsAsItsRule P cost r symbols (cost_of cost w) = record { has = has; least = minimal_costs_least P cost r w m; word = w; parts = cut; is = refl } in
+        elim (target_or_less Comes (cost_of cost w) parts (paid r symbols has) (omega arith)) [
+          | inl target ↦
+              let down = target.holds.1 target.holds.0 in
+              let link : ChainsTo P cost r target.rule = record { symbols = symbols; level = cost_of cost w; optimal = optimal; among = target.among; same = target.same } in
+              record { owner = down.owner; symbols = down.symbols; leads = next link down.leads; base = down.base; parts = down.parts }
           | inr less ↦ record {
             owner = r;
             symbols = symbols;
             leads = here;
-            own = record { level = cost_of cost w; tight = tight; less = less };
+            base = record { level = cost_of cost w; optimal = optimal; less = less };
             parts = cut;
           }
         ]
 
-    pub minimal_handed_down : (r : ℕ) (w : List ℕ) → Minimal P cost r w → IsHandedDown P cost r w
-    minimal_handed_down r w m = by_rules P Comes comes_up r w (trees_from_derivation P (Rule r ∷ []) w m.0) m
+    pub minimal_chained_down : (r : ℕ) (w : List ℕ) → Minimal P cost r w → IsChainedDown P cost r w
+    minimal_chained_down r w m = by_rules P Comes comes_up r w (trees_from_derivation P (Rule r ∷ []) w m.0) m

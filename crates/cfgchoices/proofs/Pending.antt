@@ -5,7 +5,7 @@ use Rattle.cfgindex.specs.declared.idxnewtype.PIdx.{PIdx}
 use Rattle.cfgindex.specs.declared.idxnewtype.Symbol.{Symbol}
 use Rattle.cfgtables.specs.NumberedSymbols.{sym_of}
 use Rattle.lemmas.proofs.Elements.{within_from_get_or}
-use Rattle.cfgchoices.proofs.Tight.{answered_within}
+use Rattle.cfgchoices.proofs.Optimal.{answered_within}
 use Rattle.std.proofs.lemmas.List.{get_or-map, map-append, reverse-append, reverse-reverse}
 use Rattle.std.proofs.lemmas.List.Sorted.{IsPermutation-reverse, sum_by-IsPermutation}
 use Rattle.std.proofs.lemmas.List.Sums.{sum_by-append, sum_by-cons}
@@ -14,9 +14,9 @@ use Rattle.cfgtables.specs.Openings.{nth_production}
 use Rattle.cfgleast.specs.Certificate.{choice_of, rule_choice}
 use Rattle.cfgchoices.specs.Inner.Choices.{ChoicesGive, empty, token, free, chosen}
 use Rattle.cfgleast.specs.Generator.{CostTables, IsGenerator, choice_answer, cost_answer, where_some}
-use Rattle.cfgchoices.specs.Inner.Offers.{Choices, Choosing, Pends, by, left_to_open, row, steps}
+use Rattle.cfgchoices.specs.Inner.Candidates.{Choices, Choosing, Pends, by, left_to_open, sequence, steps}
 use Rattle.cfgchoices.proofs.Choices.{choices_join}
-use Rattle.cfgchoices.proofs.ChoosingFirsts.{answer_chosen, few, paid_chosen, row_not_above}
+use Rattle.cfgchoices.proofs.ChoosingFirsts.{answer_chosen, few, paid_chosen, sequence_not_above}
 use Rattle.cfgchoices.proofs.Steps.{steps_opened, steps_positive}
 
 last_first : {A : Type 0} (rest : List A) (s : A) → reverse (rest ++ s ∷ []) ≡ s ∷ reverse rest
@@ -38,18 +38,18 @@ where_none None = refl
 where_none (Some c) = refl
 
 module _ (x : CostTables) where
-  pub token_front : (t : ℕ) (a : List Sym) (w : List ℕ) → ChoicesGive x (Token t ∷ a) w → (v : List ℕ) × (w ≡ t ∷ v) × ChoicesGive x a v
-  token_front t a _ (token {w = v} h) = (v, refl, h)
+  pub token_prefix : (t : ℕ) (a : List Sym) (w : List ℕ) → ChoicesGive x (Token t ∷ a) w → (v : List ℕ) × (w ≡ t ∷ v) × ChoicesGive x a v
+  token_prefix t a _ (token {w = v} h) = (v, refl, h)
 
-  free_front : (r : ℕ) (a : List Sym) (w : List ℕ) → rule_choice x.choices r ≡ None → ChoicesGive x (Rule r ∷ a) w → ChoicesGive x a w
-  free_front r a w none (free nothing h) = h
-  free_front r a w none (chosen {p = p} {m = m} paid choice h k e) =
+  free_prefix : (r : ℕ) (a : List Sym) (w : List ℕ) → rule_choice x.choices r ≡ None → ChoicesGive x (Rule r ∷ a) w → ChoicesGive x a w
+  free_prefix r a w none (free nothing h) = h
+  free_prefix r a w none (chosen {p = p} {m = m} paid choice h k e) =
       let no : ◌≡◌ {A = Option (ℕ × ℕ)} None (Some (p, m)) = sym (ap (where_some (cost_answer x r)) none ∙ where_none (cost_answer x r)) ∙ choice in absurd (cc)
 
-  rule_front : (r p m : ℕ) (a : List Sym) (w : List ℕ) → (cost_answer x r ≡ Some 0 → ⊥) → choice_answer x r ≡ Some (p, m) → ChoicesGive x (Rule r ∷ a) w
+  rule_prefix : (r p m : ℕ) (a : List Sym) (w : List ℕ) → (cost_answer x r ≡ Some 0 → ⊥) → choice_answer x r ≡ Some (p, m) → ChoicesGive x (Rule r ∷ a) w
       → ChoicesGive x ((nth_production x.grammar p).symbols ++ a) w
-  rule_front r p m a w paid answer (free nothing h) = absurd (paid nothing)
-  rule_front r p m a w paid answer (chosen {p = q} {m = n} also other h k e) =
+  rule_prefix r p m a w paid answer (free nothing h) = absurd (paid nothing)
+  rule_prefix r p m a w paid answer (chosen {p = q} {m = n} also other h k e) =
       let pairs : ◌≡◌ {A = ℕ × ℕ} (q, n) (p, m) = same_Some _ _ (sym other ∙ answer) in
       let same : q ≡ p = ap (λ (c : ℕ × ℕ). c.0) pairs in
       subst (λ (i : ℕ). ChoicesGive x ((nth_production x.grammar i).symbols ++ a) w) same
@@ -99,7 +99,7 @@ module _ (x : CostTables) (l : Choices) (n : ℕ) (state : Choosing x l n) (rest
       go w empty = refl
 
   pub token_pending : (t : ℕ) (w : List ℕ) → Pends x l (rest ++ Token t ∷ []) w → (v : List ℕ) × (w ≡ t ∷ v) × Pends x l rest v
-  token_pending t w h = token_front (by x l) t (reverse rest) w (first_pending (Token t) w h)
+  token_pending t w h = token_prefix (by x l) t (reverse rest) w (first_pending (Token t) w h)
 
   abbrev size : Sym → ℕ
   size = steps x.grammar l 1 x.grammar.rules
@@ -110,28 +110,28 @@ module _ (x : CostTables) (l : Choices) (n : ℕ) (state : Choosing x l n) (rest
   pub symbol_less : (s : Sym) → left_to_open x l rest < left_to_open x l (rest ++ s ∷ [])
   symbol_less s = let all = longer s in let some = steps_positive x.grammar l 1 (omega arith) x.grammar.rules s in omega (arith, all, some)
 
-  pub rule_less : (r p m : ℕ) → rule_choice l r ≡ Some (p, m) → left_to_open x l (rest ++ reverse (row x p)) < left_to_open x l (rest ++ Rule r ∷ [])
+  pub rule_less : (r p m : ℕ) → rule_choice l r ≡ Some (p, m) → left_to_open x l (rest ++ reverse (sequence x p)) < left_to_open x l (rest ++ Rule r ∷ [])
   rule_less r p m e =
       let deep = few x l n state in
       let below = (state.each r p m e).1 in
       let all = longer (Rule r) in
-      let one = steps_opened x.grammar l 1 (λ q i j is. row_not_above x l n state j (row x i) (state.each q i j is).0.ready) x.grammar.rules r p m e (omega (arith, deep, below)) in
-      let new = sum_by-append size rest (reverse (row x p)) in
-      let turned = sum_by-IsPermutation size (row x p) (reverse (row x p)) (IsPermutation-reverse (row x p)) in
+      let one = steps_opened x.grammar l 1 (λ q i j is. sequence_not_above x l n state j (sequence x i) (state.each q i j is).0.ready) x.grammar.rules r p m e (omega (arith, deep, below)) in
+      let new = sum_by-append size rest (reverse (sequence x p)) in
+      let turned = sum_by-IsPermutation size (sequence x p) (reverse (sequence x p)) (IsPermutation-reverse (sequence x p)) in
       omega (arith, all, one, new, turned)
 
   -- a rule that has no choice is skipped
   pub goes_on_free : (old : List Sym) (r : ℕ) → rule_choice l r ≡ None → GoesOn x l old (rest ++ Rule r ∷ []) → GoesOn x l old rest
   goes_on_free old r none g = record {
-    same = λ w h. free_front (by x l) r (reverse rest) w none (first_pending (Rule r) w (g.same w h));
+    same = λ w h. free_prefix (by x l) r (reverse rest) w none (first_pending (Rule r) w (g.same w h));
     left = omega (arith, g.left, symbol_less (Rule r));
   }
 
   -- another rule is replaced by what was chosen for it
-  pub goes_on_opened : (old : List Sym) (r p m : ℕ) → rule_choice l r ≡ Some (p, m) → GoesOn x l old (rest ++ Rule r ∷ []) → GoesOn x l old (rest ++ reverse (row x p))
+  pub goes_on_opened : (old : List Sym) (r p m : ℕ) → rule_choice l r ≡ Some (p, m) → GoesOn x l old (rest ++ Rule r ∷ []) → GoesOn x l old (rest ++ reverse (sequence x p))
   goes_on_opened old r p m e g =
       let c = (state.each r p m e).0 in record {
-        same = λ w h. subst (λ a. ChoicesGive (by x l) a w) (sym (turned_first rest (row x p)))
-            (rule_front (by x l) r p m (reverse rest) w (paid_chosen x l n state r p m c) (answer_chosen x l n state r p m e c) (first_pending (Rule r) w (g.same w h)));
+        same = λ w h. subst (λ a. ChoicesGive (by x l) a w) (sym (turned_first rest (sequence x p)))
+            (rule_prefix (by x l) r p m (reverse rest) w (paid_chosen x l n state r p m c) (answer_chosen x l n state r p m e c) (first_pending (Rule r) w (g.same w h)));
         left = omega (arith, g.left, rule_less r p m e);
       }

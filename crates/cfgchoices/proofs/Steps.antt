@@ -7,7 +7,7 @@ use Rattle.derivation.specs.Grammar.{Sym, Rule, Token, Grammar}
 use Rattle.cfgtables.specs.Openings.{nth_production}
 use Rattle.cfgleast.specs.Certificate.{rule_choice}
 use Rattle.cfgchoices.specs.Inner.FirstChoices.{IsNotAbove}
-pub use Rattle.cfgchoices.specs.Inner.Offers.{steps, steps_of}
+pub use Rattle.cfgchoices.specs.Inner.Candidates.{steps, steps_of}
 
 -- sums of equal terms are equal
 sum_by-same : {X : Type 0} (Q : X → Type 0) (f g : X → ℕ) → ((x : X) → Q x → f x ≡ g x) → (xs : List X) → All Q xs → sum_by f xs ≡ sum_by g xs

@@ -4,17 +4,17 @@ use Rattle.std.proofs.Math.Seq.{get_or-append_seam}
 use Rattle.std.proofs.lemmas.List.{get_or_append_left, get_or_default, length-map, length_push, map-append, map-set}
 use Rattle.std.proofs.lemmas.List.Elements.{Contains-append_left, Contains-push, Contains-push_cases}
 use Rattle.cfgleast.specs.Certificate.{choice_of, rule_choice}
-use Rattle.cfgchoices.specs.Inner.Kinds.{IsHeir, places_of}
+use Rattle.cfgchoices.specs.Inner.Kinds.{IsTarget, positions_of}
 use Rattle.cfgindex.specs.declared.idxnewtype.PIdx.{PIdx}
-use Rattle.cfgchoices.specs.Inner.Offers.{Adds, Going, HasChoice, IsDone, IsHandled, IsKnown, Known, Level, NotAfter, Offering, Offers, StandsFor, Takes, Waits, left_to_choose, owner, row, waiting}
+use Rattle.cfgchoices.specs.Inner.Candidates.{Adds, Going, HasChoice, IsDone, IsHandled, IsKnown, Known, Level, NotAfter, Nominating, Candidates, StandsFor, Takes, Waits, left_to_choose, owner, sequence, waiting}
 use Rattle.cfgchoices.proofs.ChoosingFirsts.{few}
 use Rattle.lemmas.proofs.Contained.{contains_none}
 use Rattle.cfgchoices.proofs.Pending.{choice_shown}
 use Rattle.std.specs.Prelude.{is_some}
-use Rattle.cfgchoices.proofs.Offered.{choosing, handled_chosen, hands_chosen, offering_chosen, stands_done, was_chosen, with_choice}
+use Rattle.cfgchoices.proofs.Nominated.{choosing, handled_chosen, chains_chosen, nominating_chosen, holds_done, was_chosen, with_choice}
 
-module _ (k : Known) (f : Offers) (level : Level k f) (p : ℕ) (rest : List ℕ) where
-  abbrev left_ready : Offers
+module _ (k : Known) (f : Candidates) (level : Level k f) (p : ℕ) (rest : List ℕ) where
+  abbrev left_ready : Candidates
   left_ready = record { choices = f.choices; number = f.number; cost = f.cost; ready = rest; level = f.level; foremost = f.foremost }
 
   pub take_ready : f.ready ≡ rest ++ p ∷ [] → Takes k p f left_ready
@@ -26,12 +26,12 @@ module _ (k : Known) (f : Offers) (level : Level k f) (p : ℕ) (rest : List ℕ
         level = record {
           choosing = level.choosing;
           costs = level.costs;
-          offered = λ q h. level.offered q (still q h);
-          alone = λ q h. level.alone q (old q h);
+          nominated = λ q h. level.nominated q (still q h);
+          sole = λ q h. level.sole q (old q h);
           several = level.several;
           order = level.order;
         };
-        next = record { offered = level.offered p (inl had); least = inl (level.alone p had) };
+        next = record { nominated = level.nominated p (inl had); least = inl (level.sole p had) };
         waits = λ q h. elim h [
           | inl ready ↦ elim (Contains-push_cases rest p q (subst (λ l. Contains l q) e ready)) [ inl i ↦ inl (inl i) | inr is ↦ inr (sym is) ]
           | inr other ↦ inl (inr other)
@@ -39,22 +39,22 @@ module _ (k : Known) (f : Offers) (level : Level k f) (p : ℕ) (rest : List ℕ
         together = let long = ap length e in let one = length_push rest p in omega (arith, long, one);
       }
 
-  abbrev left_level : Offers
+  abbrev left_level : Candidates
   left_level = record { choices = f.choices; number = f.number; cost = f.cost; ready = f.ready; level = rest; foremost = f.foremost }
 
   module _ (none : f.ready ≡ []) (e : f.level ≡ rest ++ p ∷ []) where
     abbrev NotBefore : ℕ → ℕ → Type 0
-    NotBefore a b = NotAfter k.tables f.choices (row k.tables b) (row k.tables a)
+    NotBefore a b = NotAfter k.tables f.choices (sequence k.tables b) (sequence k.tables a)
 
     order : (i j : ℕ) → i < j → j < length rest + 1 → NotBefore (get_or (rest ++ p ∷ []) i 0) (get_or (rest ++ p ∷ []) j 0)
     order i j lt short = subst (λ l. NotBefore (get_or l i 0) (get_or l j 0)) e
         (level.order i j lt (let long = ap length e in let one = length_push rest p in omega (arith, short, long, one)))
 
-    front : (i : ℕ) → i < length rest → get_or (rest ++ p ∷ []) i 0 ≡ get_or rest i 0
-    front i lt = get_or_append_left rest (p ∷ []) 0 i lt
+    prefix : (i : ℕ) → i < length rest → get_or (rest ++ p ∷ []) i 0 ≡ get_or rest i 0
+    prefix i lt = get_or_append_left rest (p ∷ []) 0 i lt
 
-    before_last : (i : ℕ) → i < length rest → NotAfter k.tables f.choices (row k.tables p) (row k.tables (get_or rest i 0))
-    before_last i lt = subst (λ a. NotBefore a p) (front i lt)
+    before_last : (i : ℕ) → i < length rest → NotAfter k.tables f.choices (sequence k.tables p) (sequence k.tables (get_or rest i 0))
+    before_last i lt = subst (λ a. NotBefore a p) (prefix i lt)
         (subst (NotBefore (get_or (rest ++ p ∷ []) i 0)) (get_or-append_seam rest p [] 0) (order i (length rest) lt (omega arith)))
 
     pub take_level : Takes k p f left_level
@@ -66,18 +66,18 @@ module _ (k : Known) (f : Offers) (level : Level k f) (p : ℕ) (rest : List ℕ
           level = record {
             choosing = level.choosing;
             costs = level.costs;
-            offered = λ q h. level.offered q (still q h);
-            alone = level.alone;
+            nominated = λ q h. level.nominated q (still q h);
+            sole = level.sole;
             several = λ q h. level.several q (old q h);
-            order = λ i j lt short. subst (λ a. NotBefore a (get_or rest j 0)) (front i (omega (arith, lt, short)))
-                (subst (NotBefore (get_or (rest ++ p ∷ []) i 0)) (front j short) (order i j lt (omega (arith, short))));
+            order = λ i j lt short. subst (λ a. NotBefore a (get_or rest j 0)) (prefix i (omega (arith, lt, short)))
+                (subst (NotBefore (get_or (rest ++ p ∷ []) i 0)) (prefix j short) (order i j lt (omega (arith, short))));
           };
           next = record {
-            offered = level.offered p (inr had);
+            nominated = level.nominated p (inr had);
             least = inr (λ q h. elim h [
               | inl ready ↦ absurd (contains_none q (subst (λ l. Contains l q) none ready))
               | inr other ↦ let (i, within, at) = other in
-                  subst (λ a. NotAfter k.tables f.choices (row k.tables p) (row k.tables a)) (get_or_default rest i 0 q within ∙ at) (before_last i within)
+                  subst (λ a. NotAfter k.tables f.choices (sequence k.tables p) (sequence k.tables a)) (get_or_default rest i 0 q within ∙ at) (before_last i within)
             ]);
           };
           waits = λ q h. elim h [
@@ -87,21 +87,21 @@ module _ (k : Known) (f : Offers) (level : Level k f) (p : ℕ) (rest : List ℕ
           together = let long = ap length e in let one = length_push rest p in omega (arith, long, one);
         }
 
-module _ (k : Known) (p : ℕ) (f f' : Offers) (t : Takes k p f f') where
+module _ (k : Known) (p : ℕ) (f f' : Candidates) (t : Takes k p f f') where
   same : f'.choices ≡ f.choices
-  same = ap (λ (f : Offers). f.choices) t.others
+  same = ap (λ (f : Candidates). f.choices) t.others
 
   taken_handled : (q : ℕ) → IsHandled k.tables f q → IsHandled k.tables f' q ⊎ StandsFor k.tables f'.choices p q
   taken_handled q (inl done) = inl (inl (subst (λ l. IsDone k.tables l q) (sym same) done))
-  taken_handled q (inr (r, waits, stands)) =
-      let now = subst (λ l. StandsFor k.tables l r q) (sym same) stands in
+  taken_handled q (inr (r, waits, holds)) =
+      let now = subst (λ l. StandsFor k.tables l r q) (sym same) holds in
       elim (t.waits r waits) [ inl still ↦ inl (inr (r, still, now)) | inr is ↦ inr (subst (λ i. StandsFor k.tables f'.choices i q) is now) ]
 
   pub taken_cost : f'.cost ≡ f.cost
-  taken_cost = ap (λ (f : Offers). f.cost) t.others
+  taken_cost = ap (λ (f : Candidates). f.cost) t.others
 
   taken_number : f'.number ≡ f.number
-  taken_number = ap (λ (f : Offers). f.number) t.others
+  taken_number = ap (λ (f : Candidates). f.number) t.others
 
   pub taken_less : left_to_choose k f' < left_to_choose k f
   taken_less =
@@ -109,12 +109,12 @@ module _ (k : Known) (p : ℕ) (f f' : Offers) (t : Takes k p f f') where
       omega (arith, t.together, same)
 
   module _ (g : Going k f) where
-    hands : (q r : ℕ) → IsHeir k.tables q r → HasChoice f'.choices r → IsHandled k.tables f' q ⊎ StandsFor k.tables f'.choices p q
-    hands q r heir has = taken_handled q (g.hands q r heir (subst (λ l. HasChoice l r) same has))
+    chains : (q r : ℕ) → IsTarget k.tables q r → HasChoice f'.choices r → IsHandled k.tables f' q ⊎ StandsFor k.tables f'.choices p q
+    chains q r target has = taken_handled q (g.chains q r target (subst (λ l. HasChoice l r) same has))
 
     foremost : (r q : ℕ) → get_or f'.foremost r None ≡ Some q → (owner k.tables q ≡ r) × (Waits f' q ⊎ HasChoice f'.choices r ⊎ (q ≡ p))
     foremost r q e =
-        let (owned, where_is) = g.offering.foremost r q (ap (λ (f : Offers). get_or f.foremost r None) (sym t.others) ∙ e) in (
+        let (owned, where_is) = g.nominating.foremost r q (ap (λ (f : Candidates). get_or f.foremost r None) (sym t.others) ∙ e) in (
           owned,
           elim where_is [
             | inl waits ↦ elim (t.waits q waits) [ inl still ↦ inl still | inr is ↦ inr (inr is) ]
@@ -123,21 +123,21 @@ module _ (k : Known) (p : ℕ) (f f' : Offers) (t : Takes k p f f') where
         )
 
     listed : length f'.foremost ≡ k.tables.grammar.rules
-    listed = ap (λ (f : Offers). length f.foremost) t.others ∙ g.offering.listed
+    listed = ap (λ (f : Candidates). length f.foremost) t.others ∙ g.nominating.listed
 
     module _ (n : ℕ) (is : IsKnown k n) where
       -- the rule has a choice
       module _ (has : HasChoice f'.choices (owner k.tables p)) where
         passed : (q : ℕ) → IsHandled k.tables f' q ⊎ StandsFor k.tables f'.choices p q → IsHandled k.tables f' q
         passed q (inl h) = h
-        passed q (inr stands) = inl (stands_done k.tables f'.choices p q (was_chosen k n is f' p t.level t.next.offered has) stands)
+        passed q (inr holds) = inl (holds_done k.tables f'.choices p q (was_chosen k n is f' p t.level t.next.nominated has) holds)
 
         pub passed_handles : (q : ℕ) → IsHandled k.tables f q → IsHandled k.tables f' q
         passed_handles q h = passed q (taken_handled q h)
 
         pub passed_going : Going k f'
         passed_going = record {
-          offering = record {
+          nominating = record {
             level = t.level;
             listed = listed;
             foremost = λ r q e.
@@ -149,29 +149,29 @@ module _ (k : Known) (p : ℕ) (f f' : Offers) (t : Takes k p f f') where
                   ],
                 );
           };
-          hands = λ q r heir i. passed q (hands q r heir i);
+          chains = λ q r target i. passed q (chains q r target i);
         }
 
       -- it gets one
       module _ (unset : rule_choice f'.choices (owner k.tables p) ≡ None) (within : owner k.tables p < k.tables.grammar.rules) where
-        abbrev pub now : Offers
+        abbrev pub now : Candidates
         now = with_choice k n is f' p t.level t.next unset within
 
-        pub now_offering : Offering k now
-        now_offering = offering_chosen k n is f' p t.level t.next unset within listed foremost
+        pub now_nominating : Nominating k now
+        now_nominating = nominating_chosen k n is f' p t.level t.next unset within listed foremost
 
         pub number_fits : f'.number + 1 ≤ k.tables.grammar.rules
         number_fits = few k.tables _ (f'.number + 1) (choosing k n is f' p t.level t.next unset within)
 
         -- and the chain productions that lead to the rule are candidates
-        module _ (f'' : Offers) (adds : Adds k.tables (λ q. IsHeir k.tables q (owner k.tables p)) (length k.tables.grammar.productions) now f'') where
+        module _ (f'' : Candidates) (adds : Adds k.tables (λ q. IsTarget k.tables q (owner k.tables p)) (length k.tables.grammar.productions) now f'') where
           pub chosen_handles : (q : ℕ) → IsHandled k.tables f q → IsHandled k.tables f'' q
           chosen_handles q h = adds.handles q (inl (handled_chosen k n is f' p t.level t.next unset within q (taken_handled q h)))
 
-          pub chosen_going : Offering k f'' → Going k f''
-          chosen_going offering = record {
-            offering = offering;
-            hands = hands_chosen k n is f' p t.level t.next unset within f'' adds.choices adds.handles hands;
+          pub chosen_going : Nominating k f'' → Going k f''
+          chosen_going nominating = record {
+            nominating = nominating;
+            chains = chains_chosen k n is f' p t.level t.next unset within f'' adds.choices adds.handles chains;
           }
 
           pub chosen_left : left_to_choose k f'' < left_to_choose k f
@@ -189,8 +189,8 @@ module _ (k : Known) (p : ℕ) (f f' : Offers) (t : Takes k p f f') where
                   spread (r - b) c w v ((r - a) * (c + 1)) whole all
 
 -- lists of the code as numbers, after the last element was removed
-pub last_taken : {S : Type 0} (number : S → ℕ) (items rest : List (PIdx S)) (p : PIdx S) → items ≡ rest ++ p ∷ [] → places_of number items ≡ places_of number rest ++ number p.0 ∷ []
-last_taken number items rest p e = ap (places_of number) e ∙ map-append (λ (q : PIdx _). number q.0) rest (p ∷ [])
+pub last_taken : {S : Type 0} (number : S → ℕ) (items rest : List (PIdx S)) (p : PIdx S) → items ≡ rest ++ p ∷ [] → positions_of number items ≡ positions_of number rest ++ number p.0 ∷ []
+last_taken number items rest p e = ap (positions_of number) e ∙ map-append (λ (q : PIdx _). number q.0) rest (p ∷ [])
 
 -- a rule has an entry in a list of the code
 pub entry_within : {A B : Type 0} (f : A → B) (items : List A) (rules i r : ℕ) → length (map f items) ≡ rules → i ≡ r → i < rules → r < length items

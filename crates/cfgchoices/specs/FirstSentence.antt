@@ -8,9 +8,9 @@ use Rattle.derivation.specs.Grammar.{Sym}
 use Rattle.derivation.specs.Costs.{Minimal}
 
 -- lexicographic order, by the numbers of the tokens; a prefix comes first
-abbrev pub dictionary : List ℕ → List ℕ → Ordering
-dictionary = slice_cmp nat_cmp
+abbrev pub lexicographic : List ℕ → List ℕ → Ordering
+lexicographic = slice_cmp nat_cmp
 
 -- the lexicographically first minimal sentence of the rule
 abbrev pub FirstMinimal : (ℕ → List Sym → Type 0) → (ℕ → ℕ) → ℕ → List ℕ → Type 0
-FirstMinimal P cost r w = Minimal P cost r w × ((v : List ℕ) → Minimal P cost r v → dictionary w v ≡ Greater → ⊥)
+FirstMinimal P cost r w = Minimal P cost r w × ((v : List ℕ) → Minimal P cost r v → lexicographic w v ≡ Greater → ⊥)

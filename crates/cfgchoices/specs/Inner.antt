@@ -3,4 +3,4 @@ pub mod Kinds
 pub mod Choices
 pub mod FirstChoices
 pub mod Lists
-pub mod Offers
+pub mod Candidates

@@ -21,23 +21,23 @@ module _ (P : ℕ → List Sym → Type 0) (cost : ℕ → ℕ) where
     pub is : cost_of cost word ≡ c
 
   -- a chain production of rule a leads to rule b, which costs as much
-  pub record HandsOn (a b : ℕ) : Type 0 where
+  pub record ChainsTo (a b : ℕ) : Type 0 where
     pub symbols : List Sym
     pub level : ℕ
-    pub tight : CostsAsItsRule a symbols level
+    pub optimal : CostsAsItsRule a symbols level
     pub among : Contains symbols (Rule b)
     pub same : Least P cost b level
 
   -- a base production: optimal, and each rule in it costs less
-  pub record IsOwn (r : ℕ) (symbols : List Sym) : Type 0 where
+  pub record IsBase (r : ℕ) (symbols : List Sym) : Type 0 where
     pub level : ℕ
-    pub tight : CostsAsItsRule r symbols level
+    pub optimal : CostsAsItsRule r symbols level
     pub less : (q d : ℕ) → Contains symbols (Rule q) → Least P cost q d → d < level
 
   -- zero or more chain productions lead from r to a rule with a base production that makes the word of minimal sentences
-  pub record IsHandedDown (r : ℕ) (w : List ℕ) : Type 0 where
+  pub record IsChainedDown (r : ℕ) (w : List ℕ) : Type 0 where
     pub owner : ℕ
     pub symbols : List Sym
-    pub leads : Along HandsOn r owner
-    pub own : IsOwn owner symbols
+    pub leads : Along ChainsTo r owner
+    pub base : IsBase owner symbols
     pub parts : Split (Minimal P cost) symbols w

@@ -6,7 +6,7 @@ ghost use Rattle.derivation.specs.Grammar.{Rule};
 ghost use Rattle.derivation.specs.CostLists.{IsListed, rule_cost};
 ghost use Rattle.derivation.specs.Sums.{symbol_cost};
 ghost use Rattle.cfgleast.specs.Generator.{IsGeneratorOf, settled_tables};
-ghost use Rattle.cfgchoices.specs.Inner.Kinds.{AreKinds, HasRulesAsHeirs, IsKind, IsRowKind};
+ghost use Rattle.cfgchoices.specs.Inner.Kinds.{AreKinds, HasRulesAsTargets, IsKind, IsSequenceKind};
 
 use cfgindex::{PIdx, RIdx, Storage, Symbol, to_storage};
 use cfgleast::partial::Partial;
@@ -21,9 +21,9 @@ pub enum Kind<S> {
     /// Not optimal: it costs more than its rule, or the rule costs nothing, or has no cost to return.
     Slack,
     /// A base production: it costs just what its rule does, and each rule in it costs less.
-    Own,
+    Base,
     /// A chain production: it costs just what its rule does, and so does this rule in it.
-    HandsOn(RIdx<S>),
+    ChainsTo(RIdx<S>),
 }
 
 /// The symbol's rule, if it has this cost.
@@ -60,7 +60,7 @@ fn first_of_cost<S: Storage>(
 }
 
 /// The kind of a production with these symbols, whose rule has this cost.
-fn row_kind<S: Storage>(
+fn sequence_kind<S: Storage>(
     costs: &[u8],
     least: &[Option<u32>],
     symbols: &[Symbol<S>],
@@ -68,7 +68,7 @@ fn row_kind<S: Storage>(
 ) -> Kind<S>
     requires listed { All (IsListed (length least.now) (length costs.now)) (map (sym_of S.number) symbols.now) }
     requires small { cost < 65536 }
-    ensures { IsRowKind S.number (slice_index costs.now) (rule_cost least.now) cost (map (sym_of S.number) symbols.now)
+    ensures { IsSequenceKind S.number (slice_index costs.now) (rule_cost least.now) cost (map (sym_of S.number) symbols.now)
         result }
 {
     let start = Partial {
@@ -80,8 +80,8 @@ fn row_kind<S: Storage>(
         Ok(sum) => {
             if sum == cost {
                 match first_of_cost(least, symbols, cost) {
-                    Some(rule) => Kind::HandsOn(rule),
-                    None => Kind::Own,
+                    Some(rule) => Kind::ChainsTo(rule),
+                    None => Kind::Base,
                 }
             } else {
                 Kind::Slack
@@ -99,7 +99,7 @@ fn kind_of<S: Storage, T: Tables<S>>(
     p: PIdx<S>,
 ) -> Kind<S>
     requires generator { IsGeneratorOf S.number (T.grammar tables.now) costs.now settled.now }
-    requires place { S.number p.0 < length (T.grammar tables.now).productions }
+    requires index { S.number p.0 < length (T.grammar tables.now).productions }
     ensures { IsKind S.number (settled_tables S.number (T.grammar tables.now) costs.now settled.now)
         (S.number p.0) result }
 {
@@ -107,7 +107,7 @@ fn kind_of<S: Storage, T: Tables<S>>(
     let rule = usize::from(tables.prod_to_rule(p));
     match settled.least[rule] {
         Some(cost) if cost > 0 && cost < TOO_LARGE => {
-            row_kind(costs, &settled.least, tables.prod(p), cost)
+            sequence_kind(costs, &settled.least, tables.prod(p), cost)
         }
         _ => Kind::Slack,
     }
@@ -127,7 +127,7 @@ pub fn kinds<S: Storage, T: Tables<S>>(
     requires { IsGeneratorOf S.number (T.grammar tables.now) costs.now settled.now }
     ensures kinds { IfOk result (λ kinds. AreKinds S.number
         (settled_tables S.number (T.grammar tables.now) costs.now settled.now) kinds.items) }
-    ensures heirs { IfOk result (λ kinds. HasRulesAsHeirs S.number (T.grammar tables.now) kinds.items) }
+    ensures targets { IfOk result (λ kinds. HasRulesAsTargets S.number (T.grammar tables.now) kinds.items) }
 {
     let prods_len = tables.prods_len().0.to_usize();
     let mut kinds = Vec::new(alloc);

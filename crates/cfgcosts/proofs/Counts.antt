@@ -9,20 +9,20 @@ use Rattle.cfgtables.specs.Openings.{OpensOne}
 use Rattle.cfgcosts.specs.DerivedBy.{times}
 use Rattle.cfgcosts.specs.Inner.Walk.{AreCountsOf}
 
-times_more : (p : ℕ) (places : List ℕ) → times p (places ++ p ∷ []) ≡ times p places + 1
-times_more p places = sum_by_push (λ q. cond (nat_eq p q) 1 0) places p ∙ ap (λ b. times p places + cond b 1 0) (eq-eqb p p refl)
+times_more : (p : ℕ) (positions : List ℕ) → times p (positions ++ p ∷ []) ≡ times p positions + 1
+times_more p positions = sum_by_push (λ q. cond (nat_eq p q) 1 0) positions p ∙ ap (λ b. times p positions + cond b 1 0) (eq-eqb p p refl)
 
-pub times_other : (q : ℕ) (places : List ℕ) (p : ℕ) → q ≢ p → times q (places ++ p ∷ []) ≡ times q places
-times_other q places p other = sum_by_push (λ i. cond (nat_eq q i) 1 0) places p ∙ ap (λ b. times q places + cond b 1 0) (ne_eqb q p other) ∙ omega arith
+pub times_other : (q : ℕ) (positions : List ℕ) (p : ℕ) → q ≢ p → times q (positions ++ p ∷ []) ≡ times q positions
+times_other q positions p other = sum_by_push (λ i. cond (nat_eq q i) 1 0) positions p ∙ ap (λ b. times q positions + cond b 1 0) (ne_eqb q p other) ∙ omega arith
 
 -- one more opening is counted
-pub counts_more : (g content : Grammar) (p : ℕ) (opened opened' : ℕ → ℕ) (all all' : ℕ) (places : List ℕ) → OpensOne p g content opened opened' all all'
-    → AreCountsOf g opened all places → AreCountsOf content opened' all' (places ++ p ∷ [])
-counts_more g content p opened opened' all all' places o counts = subst (λ h. AreCountsOf h opened' all' (places ++ p ∷ [])) (sym o.stays) (record {
-  each = λ q within. elim (eqb_tells q p) [
-    | inl h ↦ subst (λ i. opened' i ≡ times i (places ++ p ∷ [])) (sym h.1)
-        (o.more ∙ ap (λ n. n + 1) (counts.each p (subst (λ i. i < length g.productions) h.1 within)) ∙ sym (times_more p places))
-    | inr h ↦ o.others q h.1 ∙ counts.each q within ∙ sym (times_other q places p h.1)
+pub counts_more : (g content : Grammar) (p : ℕ) (opened opened' : ℕ → ℕ) (all all' : ℕ) (positions : List ℕ) → OpensOne p g content opened opened' all all'
+    → AreCountsOf g opened all positions → AreCountsOf content opened' all' (positions ++ p ∷ [])
+counts_more g content p opened opened' all all' positions o counts = subst (λ h. AreCountsOf h opened' all' (positions ++ p ∷ [])) (sym o.stays) (record {
+  each = λ q within. elim (eqb_shows q p) [
+    | inl h ↦ subst (λ i. opened' i ≡ times i (positions ++ p ∷ [])) (sym h.1)
+        (o.more ∙ ap (λ n. n + 1) (counts.each p (subst (λ i. i < length g.productions) h.1 within)) ∙ sym (times_more p positions))
+    | inr h ↦ o.others q h.1 ∙ counts.each q within ∙ sym (times_other q positions p h.1)
   ];
-  together = let longer = length-append places (p ∷ []) in omega (arith, o.together, counts.together, longer);
+  together = let longer = length-append positions (p ∷ []) in omega (arith, o.together, counts.together, longer);
 })

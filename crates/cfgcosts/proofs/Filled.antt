@@ -13,15 +13,15 @@ use Rattle.std.proofs.lemmas.List.Sorted.{Contains-permutation, IsPermutation-sy
 use Rattle.derivation.specs.Grammar.{Grammar, Sym, Rule, IsGrammar}
 use Rattle.cfgtables.specs.Openings.{nth_production}
 use Rattle.cfgleast.specs.Generator.{CostTables, IsGenerator, cost_answer}
-use Rattle.cfgcosts.specs.Inner.Minimal.{AreAsked, AreMinimal, HasSentence, IsMadeBy, IsReadyFor, Puts, row_words, sentences_in, words_of}
-use Rattle.cfgchoices.specs.Inner.Kinds.{IsMinimal, IsOwnBelow}
-use Rattle.cfgchoices.specs.FirstSentence.{dictionary}
+use Rattle.cfgcosts.specs.Inner.Minimal.{AreRequested, AreMinimal, HasSentence, IsMadeBy, IsReadyFor, Puts, row_words, sentences_in, words_of}
+use Rattle.cfgchoices.specs.Inner.Kinds.{IsMinimal, IsBaseBelow}
+use Rattle.cfgchoices.specs.FirstSentence.{lexicographic}
 use Rattle.cfgcosts.specs.Sentences.{numbers_of}
 use Rattle.cfgchoices.specs.Splits.{Split, done, itself, part}
 use Rattle.lemmas.proofs.Contained.{contains_cases, contains_first, contains_later, contains_none, contains_one}
-use Rattle.cfgcosts.proofs.Joins.{flat_contains, flat_source, row_cut}
+use Rattle.cfgcosts.proofs.Joins.{flat_contains, flat_source, sequence_cut}
 use Rattle.search.proofs.Keys.{itself_found, same_key}
-use Rattle.cfgchoices.proofs.Tight.{free_minimal, minimal_free, minimal_made, own_less, own_makes}
+use Rattle.cfgchoices.proofs.Optimal.{free_minimal, minimal_free, minimal_made, base_less, base_makes}
 
 -- another split of the word, as the rules of the list allow
 cut_within : (F G : ℕ → List ℕ → Type 0) {a : List Sym} {w : List ℕ} → ((r : ℕ) (u : List ℕ) → Contains a (Rule r) → F r u → G r u) → Split F a w → Split G a w
@@ -55,36 +55,36 @@ module _ {S : Type 0} (number : S → ℕ) where
       go (Some words) = refl
 
 -- what productions make of sentences
-pub made_by : (g : Grammar) (sentences : ℕ → List (List ℕ)) (places : List ℕ) (w : List ℕ) → Contains (flat_map (λ p. row_words sentences (nth_production g p).symbols) places) w ↔ IsMadeBy g sentences places w
-made_by g sentences places w =
-    let rows = λ (p : ℕ). row_words sentences (nth_production g p).symbols in (
-      (λ h. let (p, among, k) = flat_source rows places w h in record { place = p; among = among; parts = (row_cut sentences (nth_production g p).symbols w).0 k }),
-      (λ m. flat_contains rows places m.place w m.among ((row_cut sentences (nth_production g m.place).symbols w).1 m.parts)),
+pub made_by : (g : Grammar) (sentences : ℕ → List (List ℕ)) (positions : List ℕ) (w : List ℕ) → Contains (flat_map (λ p. row_words sentences (nth_production g p).symbols) positions) w ↔ IsMadeBy g sentences positions w
+made_by g sentences positions w =
+    let sequences = λ (p : ℕ). row_words sentences (nth_production g p).symbols in (
+      (λ h. let (p, among, k) = flat_source sequences positions w h in record { index = p; among = among; parts = (sequence_cut sentences (nth_production g p).symbols w).0 k }),
+      (λ m. flat_contains sequences positions m.index w m.among ((sequence_cut sentences (nth_production g m.index).symbols w).1 m.parts)),
     )
 
 module _ (x : CostTables) where
   -- what base productions below a rule make of minimal sentences are those of the rule
   module _ (n : ℕ) (is : IsGenerator x n) (grammar : IsGrammar x.grammar) (r c : ℕ) (answer : cost_answer x r ≡ Some c) where
-    made_minimal : (sentences : ℕ → List (List ℕ)) (own : List ℕ) → 0 < c → IsReadyFor x sentences r → ((p : ℕ) → Contains own p ↔ IsOwnBelow x r p)
-        → (w : List ℕ) → IsMadeBy x.grammar sentences own w ↔ IsMinimal x r w
-    made_minimal sentences own some ready all w = (
-      (λ m. let below = (all m.place).0 m.among in
-          own_makes x n is grammar r m.place w below (cut_within (HasSentence sentences) (IsMinimal x) (λ q u among has. ((ready m.place q below among).all u).0 has) m.parts)),
+    made_minimal : (sentences : ℕ → List (List ℕ)) (base : List ℕ) → 0 < c → IsReadyFor x sentences r → ((p : ℕ) → Contains base p ↔ IsBaseBelow x r p)
+        → (w : List ℕ) → IsMadeBy x.grammar sentences base w ↔ IsMinimal x r w
+    made_minimal sentences base some ready all w = (
+      (λ m. let below = (all m.index).0 m.among in
+          base_makes x n is grammar r m.index w below (cut_within (HasSentence sentences) (IsMinimal x) (λ q u among has. ((ready m.index q below among).all u).0 has) m.parts)),
       (λ m. let made = minimal_made x n is grammar r c w answer some m in record {
-        place = made.place;
-        among = (all made.place).1 made.below;
-        parts = cut_within (IsMinimal x) (HasSentence sentences) (λ q u among least. ((ready made.place q made.below among).all u).1 least) made.parts;
+        index = made.index;
+        among = (all made.index).1 made.below;
+        parts = cut_within (IsMinimal x) (HasSentence sentences) (λ q u among least. ((ready made.index q made.below among).all u).1 least) made.parts;
       }),
     )
 
-    pub all_minimal : {A E : Type 0} (sentences : ℕ → List (List ℕ)) (own : List ℕ) → 0 < c → IsReadyFor x sentences r → ((p : ℕ) → Contains own p ↔ IsOwnBelow x r p)
-        → (f : A → List (List ℕ)) (result : Result A E) → IfOk result (λ words. (w : List ℕ) → Contains (f words) w ↔ IsMadeBy x.grammar sentences own w)
-        → IfOk result (λ words. IsStrictlySortedBy dictionary (f words)) → IfOk result (λ words. AreMinimal x r (f words))
-    all_minimal sentences own some ready all f (Ok words) made order = record {
-      all = λ w. let minimal = made_minimal sentences own some ready all w in (λ h. minimal.0 ((made w).0 h), λ m. (made w).1 (minimal.1 m));
+    pub all_minimal : {A E : Type 0} (sentences : ℕ → List (List ℕ)) (base : List ℕ) → 0 < c → IsReadyFor x sentences r → ((p : ℕ) → Contains base p ↔ IsBaseBelow x r p)
+        → (f : A → List (List ℕ)) (result : Result A E) → IfOk result (λ words. (w : List ℕ) → Contains (f words) w ↔ IsMadeBy x.grammar sentences base w)
+        → IfOk result (λ words. IsStrictlySortedBy lexicographic (f words)) → IfOk result (λ words. AreMinimal x r (f words))
+    all_minimal sentences base some ready all f (Ok words) made order = record {
+      all = λ w. let minimal = made_minimal sentences base some ready all w in (λ h. minimal.0 ((made w).0 h), λ m. (made w).1 (minimal.1 m));
       order = order;
     }
-    all_minimal sentences own some ready all f (Err e) made order = tt
+    all_minimal sentences base some ready all f (Err e) made order = tt
 
     -- a rule that costs nothing has the empty sentence
     pub free_alone : c ≡ 0 → AreMinimal x r ([] ∷ [])
@@ -100,26 +100,26 @@ module _ (x : CostTables) where
         }
 
   -- of the rules that are needed, some are left
-  pub record Filling (asked left : List (ℕ × ℕ)) (sentences : ℕ → List (List ℕ)) : Type 0 where
-    pub among : (c q : ℕ) → Contains left (c, q) → Contains asked (c, q)
-    pub filled : (c q : ℕ) → Contains asked (c, q) → Contains left (c, q) ⊎ AreMinimal x q (sentences q)
+  pub record Filling (requested left : List (ℕ × ℕ)) (sentences : ℕ → List (List ℕ)) : Type 0 where
+    pub among : (c q : ℕ) → Contains left (c, q) → Contains requested (c, q)
+    pub filled : (c q : ℕ) → Contains requested (c, q) → Contains left (c, q) ⊎ AreMinimal x q (sentences q)
 
-  module _ {r : ℕ} {asked left : List (ℕ × ℕ)} {sentences : ℕ → List (List ℕ)} (rest : List (ℕ × ℕ)) (top : ℕ × ℕ) (all : AreAsked x r asked) (f : Filling asked left sentences)
+  module _ {r : ℕ} {requested left : List (ℕ × ℕ)} {sentences : ℕ → List (List ℕ)} (rest : List (ℕ × ℕ)) (top : ℕ × ℕ) (all : AreRequested x r requested) (f : Filling requested left sentences)
       (out : IsPermutation left (top ∷ rest)) (least : All (λ entry. top.0 ≤ entry.0) rest) where
     inside : (e : ℕ × ℕ) → Contains (top ∷ rest) e → Contains left e
     inside e h = Contains-permutation (top ∷ rest) left e (IsPermutation-sym left (top ∷ rest) out) h
 
-    popped_asked : Contains asked (top.0, top.1)
-    popped_asked = f.among top.0 top.1 (inside (top.0, top.1) (contains_first top rest))
+    popped_requested : Contains requested (top.0, top.1)
+    popped_requested = f.among top.0 top.1 (inside (top.0, top.1) (contains_first top rest))
 
     pub popped_answer : cost_answer x top.1 ≡ Some top.0
-    popped_answer = all.costs top.0 top.1 popped_asked
+    popped_answer = all.costs top.0 top.1 popped_requested
 
     -- the rules that it is made of were filled before
     pub popped_ready : (n : ℕ) → IsGenerator x n → IsGrammar x.grammar → IsReadyFor x sentences top.1
     popped_ready n is grammar p s below holds =
-        let (d, among) = all.below top.0 top.1 p s popped_asked below holds in
-        let less = own_less x n is grammar top.1 p top.0 s d below popped_answer holds (all.costs d s among) in
+        let (d, among) = all.below top.0 top.1 p s popped_requested below holds in
+        let less = base_less x n is grammar top.1 p top.0 s d below popped_answer holds (all.costs d s among) in
         elim (f.filled d s among) [
           | inr full ↦ full
           | inl waits ↦ elim (contains_cases top (d, s) rest (Contains-permutation left (top ∷ rest) (d, s) out waits)) [
@@ -128,7 +128,7 @@ module _ (x : CostTables) where
           ]
         ]
 
-    pub filling_goes_on : (sentences' : ℕ → List (List ℕ)) (words : List (List ℕ)) → Puts top.1 words sentences sentences' → AreMinimal x top.1 words → Filling asked rest sentences'
+    pub filling_goes_on : (sentences' : ℕ → List (List ℕ)) (words : List (List ℕ)) → Puts top.1 words sentences sentences' → AreMinimal x top.1 words → Filling requested rest sentences'
     filling_goes_on sentences' words puts minimal = record {
       among = λ c q h. f.among c q (inside (c, q) (contains_later top (c, q) rest h));
       filled = λ c q h. elim (f.filled c q h) [
@@ -150,5 +150,5 @@ module _ (x : CostTables) where
         ]
 
   -- when none is left, the table has all minimal sentences of the rule
-  pub filling_ends : (r : ℕ) (asked : List (ℕ × ℕ)) (sentences : ℕ → List (List ℕ)) → AreAsked x r asked → Filling asked [] sentences → AreMinimal x r (sentences r)
-  filling_ends r asked sentences all f = elim (f.filled all.first.0 r all.first.1) [ inl waits ↦ absurd (contains_none (all.first.0, r) waits) | inr full ↦ full ]
+  pub filling_ends : (r : ℕ) (requested : List (ℕ × ℕ)) (sentences : ℕ → List (List ℕ)) → AreRequested x r requested → Filling requested [] sentences → AreMinimal x r (sentences r)
+  filling_ends r requested sentences all f = elim (f.filled all.first.0 r all.first.1) [ inl waits ↦ absurd (contains_none (all.first.0, r) waits) | inr full ↦ full ]

@@ -9,9 +9,9 @@ use Rattle.cfgchoices.specs.Splits.{Split, done, itself, part}
 use Rattle.cfgcosts.specs.Inner.Minimal.{HasSentence, joined, row_words, words_of_symbol}
 use Rattle.lemmas.proofs.Contained.{contains_first, contains_later, contains_none, contains_one, contains_cases, contains_mapped, contains_source}
 
-pub joined_none : (fronts : List (List ℕ)) → joined fronts [] ≡ []
+pub joined_none : (prefixes : List (List ℕ)) → joined prefixes [] ≡ []
 joined_none [] = refl
-joined_none (front ∷ fronts) = flat_map-cons (λ (front : List ℕ). map (λ back. front ++ back) []) front fronts ∙ joined_none fronts
+joined_none (prefix ∷ prefixes) = flat_map-cons (λ (prefix : List ℕ). map (λ back. prefix ++ back) []) prefix prefixes ∙ joined_none prefixes
 
 module _ {A B : Type 0} (f : A → List B) where
   pub flat_source : (xs : List A) (y : B) → Contains (flat_map f xs) y → (x : A) × Contains xs x × Contains (f x) y
@@ -30,64 +30,64 @@ module _ {A B : Type 0} (f : A → List B) where
 
 -- a word of one list, followed by a word of a list of symbols
 module _ (sentences : ℕ → List (List ℕ)) where
-  record Goes (fronts : List (List ℕ)) (row : List Sym) (w : List ℕ) : Type 0 where
-    front : List ℕ
+  record Goes (prefixes : List (List ℕ)) (sequence : List Sym) (w : List ℕ) : Type 0 where
+    prefix : List ℕ
     rest : List ℕ
-    among : Contains fronts front
-    cut : Split (HasSentence sentences) row rest
-    whole : w ≡ front ++ rest
+    among : Contains prefixes prefix
+    cut : Split (HasSentence sentences) sequence rest
+    whole : w ≡ prefix ++ rest
 
   abbrev step : List (List ℕ) → Sym → List (List ℕ)
   step words s = joined words (words_of_symbol sentences s)
 
   -- a list with one more symbol
-  pub row_more : (row : List Sym) (s : Sym) → row_words sentences (row ++ s ∷ []) ≡ joined (row_words sentences row) (words_of_symbol sentences s)
-  row_more row s = fold-append step ([] ∷ []) row (s ∷ [])
+  pub sequence_more : (sequence : List Sym) (s : Sym) → row_words sentences (sequence ++ s ∷ []) ≡ joined (row_words sentences sequence) (words_of_symbol sentences s)
+  sequence_more sequence s = fold-append step ([] ∷ []) sequence (s ∷ [])
 
-  begun : (s : Sym) (row : List Sym) (back rest : List ℕ) → Contains (words_of_symbol sentences s) back → Split (HasSentence sentences) row rest → Split (HasSentence sentences) (s ∷ row) (back ++ rest)
-  begun (Token t) row back rest h cut = subst (λ l. Split (HasSentence sentences) (Token t ∷ row) (l ++ rest)) (contains_one (t ∷ []) back h) (itself cut)
-  begun (Rule r) row back rest h cut = part h cut refl
+  begun : (s : Sym) (sequence : List Sym) (back rest : List ℕ) → Contains (words_of_symbol sentences s) back → Split (HasSentence sentences) sequence rest → Split (HasSentence sentences) (s ∷ sequence) (back ++ rest)
+  begun (Token t) sequence back rest h cut = subst (λ l. Split (HasSentence sentences) (Token t ∷ sequence) (l ++ rest)) (contains_one (t ∷ []) back h) (itself cut)
+  begun (Rule r) sequence back rest h cut = part h cut refl
 
-  cut_first : (fronts : List (List ℕ)) (s : Sym) (row : List Sym) (w : List ℕ) → Goes fronts (s ∷ row) w → Goes (step fronts s) row w
-  cut_first fronts s row w g = go s g.rest g.cut g.whole
+  cut_first : (prefixes : List (List ℕ)) (s : Sym) (sequence : List Sym) (w : List ℕ) → Goes prefixes (s ∷ sequence) w → Goes (step prefixes s) sequence w
+  cut_first prefixes s sequence w g = go s g.rest g.cut g.whole
     where
-      next : (s : Sym) (back rest : List ℕ) → Contains (words_of_symbol sentences s) back → Split (HasSentence sentences) row rest → w ≡ g.front ++ (back ++ rest) → Goes (step fronts s) row w
+      next : (s : Sym) (back rest : List ℕ) → Contains (words_of_symbol sentences s) back → Split (HasSentence sentences) sequence rest → w ≡ g.prefix ++ (back ++ rest) → Goes (step prefixes s) sequence w
       next s back rest h cut e = record {
-        front = g.front ++ back;
+        prefix = g.prefix ++ back;
         rest = rest;
-        among = flat_contains (λ front. map (λ back. front ++ back) (words_of_symbol sentences s)) fronts g.front (g.front ++ back) g.among (contains_mapped (λ back. g.front ++ back) (words_of_symbol sentences s) back h);
+        among = flat_contains (λ prefix. map (λ back. prefix ++ back) (words_of_symbol sentences s)) prefixes g.prefix (g.prefix ++ back) g.among (contains_mapped (λ back. g.prefix ++ back) (words_of_symbol sentences s) back h);
         cut = cut;
-        whole = e ∙ sym (append_assoc g.front back rest);
+        whole = e ∙ sym (append_assoc g.prefix back rest);
       }
 
-      go : (s : Sym) (rest : List ℕ) → Split (HasSentence sentences) (s ∷ row) rest → w ≡ g.front ++ rest → Goes (step fronts s) row w
+      go : (s : Sym) (rest : List ℕ) → Split (HasSentence sentences) (s ∷ sequence) rest → w ≡ g.prefix ++ rest → Goes (step prefixes s) sequence w
       go (Token t) _ (itself {w = rest} cut) e = next (Token t) (t ∷ []) rest (contains_first (t ∷ []) []) cut e
-      go (Rule r) _ (part {u = u} {w = rest} h cut f) e = next (Rule r) u rest h cut (e ∙ ap (λ l. g.front ++ l) f)
+      go (Rule r) _ (part {u = u} {w = rest} h cut f) e = next (Rule r) u rest h cut (e ∙ ap (λ l. g.prefix ++ l) f)
 
-  from_row : (row : List Sym) (fronts : List (List ℕ)) (w : List ℕ) → Contains (fold step fronts row) w → Goes fronts row w
-  from_row [] fronts w h = record { front = w; rest = []; among = h; cut = done; whole = sym (append-nil w) }
-  from_row (s ∷ row) fronts w h =
-      let later = from_row row (step fronts s) w h in
-      let (front, among, here) = flat_source (λ front. map (λ back. front ++ back) (words_of_symbol sentences s)) fronts later.front later.among in
-      let (back, of, is) = contains_source (λ back. front ++ back) (words_of_symbol sentences s) later.front here in
+  from_sequence : (sequence : List Sym) (prefixes : List (List ℕ)) (w : List ℕ) → Contains (fold step prefixes sequence) w → Goes prefixes sequence w
+  from_sequence [] prefixes w h = record { prefix = w; rest = []; among = h; cut = done; whole = sym (append-nil w) }
+  from_sequence (s ∷ sequence) prefixes w h =
+      let later = from_sequence sequence (step prefixes s) w h in
+      let (prefix, among, here) = flat_source (λ prefix. map (λ back. prefix ++ back) (words_of_symbol sentences s)) prefixes later.prefix later.among in
+      let (back, of, is) = contains_source (λ back. prefix ++ back) (words_of_symbol sentences s) later.prefix here in
       record {
-        front = front;
+        prefix = prefix;
         rest = back ++ later.rest;
         among = among;
-        cut = begun s row back later.rest of later.cut;
-        whole = later.whole ∙ ap (λ l. l ++ later.rest) (sym is) ∙ append_assoc front back later.rest;
+        cut = begun s sequence back later.rest of later.cut;
+        whole = later.whole ∙ ap (λ l. l ++ later.rest) (sym is) ∙ append_assoc prefix back later.rest;
       }
 
-  to_row : (row : List Sym) (fronts : List (List ℕ)) (w : List ℕ) → Goes fronts row w → Contains (fold step fronts row) w
-  to_row [] fronts w g = ends g.rest g.cut g.whole
+  to_sequence : (sequence : List Sym) (prefixes : List (List ℕ)) (w : List ℕ) → Goes prefixes sequence w → Contains (fold step prefixes sequence) w
+  to_sequence [] prefixes w g = ends g.rest g.cut g.whole
     where
-      ends : (rest : List ℕ) → Split (HasSentence sentences) [] rest → w ≡ g.front ++ rest → Contains fronts w
-      ends _ done e = subst (Contains fronts) (sym (e ∙ append-nil g.front)) g.among
-  to_row (s ∷ row) fronts w g = to_row row (step fronts s) w (cut_first fronts s row w g)
+      ends : (rest : List ℕ) → Split (HasSentence sentences) [] rest → w ≡ g.prefix ++ rest → Contains prefixes w
+      ends _ done e = subst (Contains prefixes) (sym (e ∙ append-nil g.prefix)) g.among
+  to_sequence (s ∷ sequence) prefixes w g = to_sequence sequence (step prefixes s) w (cut_first prefixes s sequence w g)
 
-  pub row_cut : (row : List Sym) (w : List ℕ) → Contains (row_words sentences row) w ↔ Split (HasSentence sentences) row w
-  row_cut row w = (
-    (λ h. let g = from_row row ([] ∷ []) w h in
-        subst (Split (HasSentence sentences) row) (ap (λ l. l ++ g.rest) (contains_one [] g.front g.among) ∙ sym g.whole) g.cut),
-    (λ cut. to_row row ([] ∷ []) w (record { front = []; rest = w; among = contains_first [] []; cut = cut; whole = refl })),
+  pub sequence_cut : (sequence : List Sym) (w : List ℕ) → Contains (row_words sentences sequence) w ↔ Split (HasSentence sentences) sequence w
+  sequence_cut sequence w = (
+    (λ h. let g = from_sequence sequence ([] ∷ []) w h in
+        subst (Split (HasSentence sentences) sequence) (ap (λ l. l ++ g.rest) (contains_one [] g.prefix g.among) ∙ sym g.whole) g.cut),
+    (λ cut. to_sequence sequence ([] ∷ []) w (record { prefix = []; rest = w; among = contains_first [] []; cut = cut; whole = refl })),
   )

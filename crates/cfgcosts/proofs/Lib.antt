@@ -8,7 +8,7 @@ pub mod Walking
 pub mod Opened
 pub mod Joins
 pub mod Sorted
-pub mod OnlyHeirs
-pub mod OwnBelow
-pub mod AskedRules
+pub mod OnlyTargets
+pub mod BaseBelow
+pub mod RequestedRules
 pub mod Filled

@@ -19,7 +19,7 @@ use Rattle.cfgchoices.specs.Inner.Choices.{ChoicesGive}
 use Rattle.cfgchoices.specs.Inner.Choices as gives
 use Rattle.cfgchoices.specs.Inner.FirstChoices.{IsNotAbove, Opens, Walks}
 use Rattle.cfgchoices.proofs.FirstChosen.{answered_choice, known, minimal_given, opens_by}
-use Rattle.cfgchoices.proofs.Tight.{answered_within, least_of}
+use Rattle.cfgchoices.proofs.Optimal.{answered_within, least_of}
 
 -- the choice of a rule that costs something
 pub record Chosen (x : CostTables) (q p m : ℕ) : Type 0 where

@@ -25,11 +25,11 @@ other_error costs.CostTooLarge is = let no : OutOfMemory ≡ CostTooLarge = is i
 module _ {A : Type 0} {result : Result A SentenceError} where
   -- if the cost is an error, the sentence is the same error
   pub refused : {P : Type 0} → (d e : CostError) → IsErrAnd result (λ x. x ≡ sentence_error d) → (◌≡◌ {A = Result ℕ CostError} (Err d) (Err e)) ↔ P → (result ≡ Err (sentence_error e)) ↔ P
-  refused d e h told =
+  refused d e h reported =
       let is = refusal result (sentence_error d) h in (
         (λ k. let both : ◌≡◌ {A = Result A SentenceError} (Err (sentence_error d)) (Err (sentence_error e)) = sym is ∙ k in
-            let errors : sentence_error d ≡ sentence_error e = cc in told.0 (ap Err (same_error d e errors))),
-        (λ p. let both : ◌≡◌ {A = Result ℕ CostError} (Err d) (Err e) = told.1 p in
+            let errors : sentence_error d ≡ sentence_error e = cc in reported.0 (ap Err (same_error d e errors))),
+        (λ p. let both : ◌≡◌ {A = Result ℕ CostError} (Err d) (Err e) = reported.1 p in
             let errors : d ≡ e = cc in is ∙ ap (λ e. Err (sentence_error e)) errors),
       )
 
@@ -40,15 +40,15 @@ module _ {A : Type 0} {result : Result A SentenceError} where
 
   -- if there is a cost, the only error is out of memory
   pub known_memory : {P : Type 0} → (c : ℕ) (e : CostError) → IsErrAnd result (λ x. x ≡ OutOfMemory) → (◌≡◌ {A = Result ℕ CostError} (Ok c) (Err e)) ↔ P → (result ≡ Err (sentence_error e)) ↔ P
-  known_memory c e h told = (
+  known_memory c e h reported = (
     (λ k. absurd (refused_memory e h k)),
-    (λ p. let no : ◌≡◌ {A = Result ℕ CostError} (Ok c) (Err e) = told.1 p in absurd (cc)),
+    (λ p. let no : ◌≡◌ {A = Result ℕ CostError} (Ok c) (Err e) = reported.1 p in absurd (cc)),
   )
 
   pub known_sentence : {P : Type 0} → (a : A) (c : ℕ) (e : CostError) → result ≡ Ok a → (◌≡◌ {A = Result ℕ CostError} (Ok c) (Err e)) ↔ P → (result ≡ Err (sentence_error e)) ↔ P
-  known_sentence a c e is told = (
+  known_sentence a c e is reported = (
     (λ k. let no : ◌≡◌ {A = Result A SentenceError} (Ok a) (Err (sentence_error e)) = sym is ∙ k in absurd (cc)),
-    (λ p. let no : ◌≡◌ {A = Result ℕ CostError} (Ok c) (Err e) = told.1 p in absurd (cc)),
+    (λ p. let no : ◌≡◌ {A = Result ℕ CostError} (Ok c) (Err e) = reported.1 p in absurd (cc)),
   )
 
 -- if there is no result, nothing is claimed of it

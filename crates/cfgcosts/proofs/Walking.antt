@@ -13,9 +13,9 @@ use Rattle.derivation.specs.Sentence.{cost_of}
 use Rattle.derivation.specs.Costs.{Least}
 use Rattle.derivation.proofs.Costs.{least_is_one, minimal_costs_least}
 use Rattle.cfgtables.specs.Openings.{nth_production}
-use Rattle.cfgtables.proofs.Placed.{same_production}
+use Rattle.cfgtables.proofs.Located.{same_production}
 use Rattle.derivation.specs.CostLists.{rule_cost}
-use Rattle.derivation.proofs.Rows.{item_shown}
+use Rattle.derivation.proofs.Sequences.{item_shown}
 use Rattle.derivation.proofs.Sums.{plus_zero}
 use Rattle.cfgleast.specs.Certificate.{choice_of, rule_choice}
 use Rattle.cfgleast.specs.Generator.{CostTables, cost_answer, token_cost}
@@ -27,13 +27,13 @@ use Rattle.cfgchoices.proofs.Pending.{last_shown, map_reverse}
 use Rattle.cfgchoices.proofs.FirstChosen.{first_given, gives_some, known}
 use Rattle.cfgchoices.proofs.Lengths.{sentence_length}
 use Rattle.cfgchoices.proofs.SentenceTokens.{sentence_tokens}
-use Rattle.cfgchoices.proofs.Tight.{least_of}
+use Rattle.cfgchoices.proofs.Optimal.{least_of}
 use Rattle.cfgcosts.specs.DerivedBy.{IsProductionAt, DerivesBy, none, next, IsFree, OpensNoneFree, times}
 use Rattle.cfgcosts.specs.Inner.Walk.{IsFirstSentence, HasStopped, HasWalked}
 use Rattle.cfgcosts.proofs.Counts.{times_other}
 use Rattle.cfgcosts.proofs.Plans.{Chosen, Planned, plan_of, plan_ended, plan_token, plan_free, plan_opened, plan_within}
 
-derives_more : (g : Grammar) (p : ℕ) {places : List ℕ} {a b c : List Sym} → DerivesBy g places a b → Step (IsProductionAt g p) b c → DerivesBy g (places ++ p ∷ []) a c
+derives_more : (g : Grammar) (p : ℕ) {positions : List ℕ} {a b c : List Sym} → DerivesBy g positions a b → Step (IsProductionAt g p) b c → DerivesBy g (positions ++ p ∷ []) a c
 derives_more g p none s = next s none
 derives_more g p (next t d) s = next t (derives_more g p d s)
 
@@ -53,12 +53,12 @@ pub record IsOnTheWay (x : CostTables) (r : ℕ) (HasOpened : List ℕ → Type 
   pub left : ℕ
   pub plan : Planned x (reverse pending) later left
   pub whole : word ++ later ≡ reverse sentence
-  pub places : List ℕ
-  pub opened : HasOpened places
-  pub free : OpensNoneFree x.grammar (token_cost x) (λ p. times p places)
-  pub few : length places + left ≤ length sentence * x.grammar.rules
+  pub positions : List ℕ
+  pub opened : HasOpened positions
+  pub free : OpensNoneFree x.grammar (token_cost x) (λ p. times p positions)
+  pub few : length positions + left ≤ length sentence * x.grammar.rules
   pub suffix : List Sym
-  pub derived : DerivesBy x.grammar places (Rule r ∷ []) (pending ++ suffix)
+  pub derived : DerivesBy x.grammar positions (Rule r ∷ []) (pending ++ suffix)
   pub between : Split (IsFree x.grammar (token_cost x)) suffix (reverse word)
 
 module _ (x : CostTables) (r : ℕ) (HasOpened : List ℕ → Type 0) where
@@ -75,7 +75,7 @@ module _ (x : CostTables) (r : ℕ) (HasOpened : List ℕ → Type 0) where
         left = p.openings;
         plan = p.plan;
         whole = refl;
-        places = [];
+        positions = [];
         opened = fresh;
         free = λ p within least. refl;
         few = omega (arith, p.few);
@@ -97,12 +97,12 @@ module _ (x : CostTables) (r : ℕ) (HasOpened : List ℕ → Type 0) where
           left = way.left;
           plan = plan;
           whole = append_assoc word (t ∷ []) later ∙ ap (λ l. word ++ l) (sym e) ∙ way.whole;
-          places = way.places;
+          positions = way.positions;
           opened = way.opened;
           free = way.free;
           few = way.few;
           suffix = Token t ∷ way.suffix;
-          derived = subst (DerivesBy x.grammar way.places (Rule r ∷ [])) (append_assoc rest (Token t ∷ []) way.suffix) way.derived;
+          derived = subst (DerivesBy x.grammar way.positions (Rule r ∷ [])) (append_assoc rest (Token t ∷ []) way.suffix) way.derived;
           between = subst (Split (IsFree x.grammar (token_cost x)) (Token t ∷ way.suffix)) (sym (reverse-append word (t ∷ []))) (itself way.between);
         }
 
@@ -118,12 +118,12 @@ module _ (x : CostTables) (r : ℕ) (HasOpened : List ℕ → Type 0) where
           left = way.left;
           plan = plan;
           whole = way.whole;
-          places = way.places;
+          positions = way.positions;
           opened = way.opened;
           free = way.free;
           few = way.few;
           suffix = Rule q ∷ way.suffix;
-          derived = subst (DerivesBy x.grammar way.places (Rule r ∷ [])) (append_assoc rest (Rule q ∷ []) way.suffix) way.derived;
+          derived = subst (DerivesBy x.grammar way.positions (Rule r ∷ [])) (append_assoc rest (Rule q ∷ []) way.suffix) way.derived;
           between = part (least_of (known x l.walks l.grammar) l.walks.number l.walks.generator l.grammar q 0 nothing, refl) way.between refl;
         }
 
@@ -134,9 +134,9 @@ module _ (x : CostTables) (r : ℕ) (HasOpened : List ℕ → Type 0) where
     -- the choice of a rule, as it is read
     pub choice_at : {S : Type 0} (number : S → ℕ) (items : List (Option (PIdx S × ℕ))) (q i : ℕ) (entry found : Option (PIdx S × ℕ)) → map (choice_of number) items ≡ x.choices → i ≡ q
         → entry ≡ get_or items i entry → entry ≡ found → IsOnTheWay x r HasOpened (rest ++ Rule q ∷ []) word → rule_choice x.choices q ≡ choice_of number found
-    choice_at number items q i entry found shown stands at is way =
+    choice_at number items q i entry found shown holds at is way =
         item_shown (choice_of number) items x.choices q entry None shown (subst (λ m. q < m) (sym way.leads.walks.listed) (rule_within q way))
-        (subst (λ m. entry ≡ get_or items m entry) stands at) ∙ ap (choice_of number) is
+        (subst (λ m. entry ≡ get_or items m entry) holds at) ∙ ap (choice_of number) is
 
     -- the production that is opened next
     pub chosen_next : (q p m : ℕ) → rule_choice x.choices q ≡ Some (p, m) → IsOnTheWay x r HasOpened (rest ++ Rule q ∷ []) word → Chosen x q p m
@@ -144,7 +144,7 @@ module _ (x : CostTables) (r : ℕ) (HasOpened : List ℕ → Type 0) where
         (subst (λ a. Planned x a way.later way.left) (reverse-append rest (Rule q ∷ [])) way.plan) choice).chosen
 
     pub after_opened : (q p m : ℕ) → rule_choice x.choices q ≡ Some (p, m) → (way : IsOnTheWay x r HasOpened (rest ++ Rule q ∷ []) word) → (HasOpened' : List ℕ → Type 0)
-        → ((places : List ℕ) → HasOpened places → HasOpened' (places ++ p ∷ [])) → (pending : List Sym) → pending ≡ rest ++ (nth_production x.grammar p).symbols
+        → ((positions : List ℕ) → HasOpened positions → HasOpened' (positions ++ p ∷ [])) → (pending : List Sym) → pending ≡ rest ++ (nth_production x.grammar p).symbols
         → IsOnTheWay x r HasOpened' pending word
     after_opened q p m choice way HasOpened' more pending e =
         let l = way.leads in
@@ -153,7 +153,7 @@ module _ (x : CostTables) (r : ℕ) (HasOpened : List ℕ → Type 0) where
         (subst (λ a. Planned x a way.later way.left) (reverse-append rest (Rule q ∷ [])) way.plan) choice in
         let c = next.chosen in
         let owner = c.opens.owner in
-        let longer = length-append way.places (p ∷ []) in
+        let longer = length-append way.positions (p ∷ []) in
         subst (λ a. IsOnTheWay x r HasOpened' a word) (sym e) (record {
           sentence = way.sentence;
           leads = l;
@@ -161,15 +161,15 @@ module _ (x : CostTables) (r : ℕ) (HasOpened : List ℕ → Type 0) where
           left = next.left;
           plan = subst (λ a. Planned x a way.later next.left) (sym (reverse_aux-append rest symbols [])) next.plan;
           whole = way.whole;
-          places = way.places ++ p ∷ [];
-          opened = more way.places way.opened;
-          free = λ i within least. elim (eqb_tells i p) [
+          positions = way.positions ++ p ∷ [];
+          opened = more way.positions way.opened;
+          free = λ i within least. elim (eqb_shows i p) [
             | inl h ↦
                 let here = subst (λ s. Least (HasProduction x.grammar) (token_cost x) s 0) (ap (λ j. (nth_production x.grammar j).rule) h.1 ∙ owner) least in
                 let none = least_is_one (HasProduction x.grammar) (token_cost x) q c.cost 0
                 (least_of (known x l.walks l.grammar) l.walks.number l.walks.generator l.grammar q c.cost c.answer) here in
                 absurd (omega (arith, none, c.some))
-            | inr h ↦ times_other i way.places p h.1 ∙ way.free i within least
+            | inr h ↦ times_other i way.positions p h.1 ∙ way.free i within least
           ];
           few = omega (arith, way.few, next.one, longer);
           suffix = way.suffix;
@@ -178,7 +178,7 @@ module _ (x : CostTables) (r : ℕ) (HasOpened : List ℕ → Type 0) where
             rule = q;
             after = way.suffix;
             symbols = symbols;
-            has = (c.opens.place, same_production (nth_production x.grammar p) (record { rule = q; symbols = symbols }) owner refl);
+            has = (c.opens.index, same_production (nth_production x.grammar p) (record { rule = q; symbols = symbols }) owner refl);
             source = append_assoc rest (Rule q ∷ []) way.suffix;
             target = append_assoc rest symbols way.suffix;
           });
@@ -196,7 +196,7 @@ module _ (x : CostTables) (r : ℕ) (HasOpened : List ℕ → Type 0) where
           within = sentence_tokens x.grammar l.grammar r way.sentence l.rule found.0.0;
         }
 
-    few_opened : (c : ℕ) → Least (HasProduction x.grammar) (token_cost x) r c → length way.places ≤ c * x.grammar.rules
+    few_opened : (c : ℕ) → Least (HasProduction x.grammar) (token_cost x) r c → length way.positions ≤ c * x.grammar.rules
     few_opened c least =
         let same = least_is_one (HasProduction x.grammar) (token_cost x) r (cost_of (token_cost x) way.sentence) c
         (minimal_costs_least (HasProduction x.grammar) (token_cost x) r way.sentence is_first.first.0) least in
@@ -204,16 +204,16 @@ module _ (x : CostTables) (r : ℕ) (HasOpened : List ℕ → Type 0) where
         omega (arith, way.few, most)
 
     -- no count is too large
-    pub countable : (c : ℕ) → cost_answer x r ≡ Some c → x.grammar.rules < 2 ^ 32 → (places : List ℕ) × HasOpened places × (length places < 2 ^ 64 - 1)
+    pub countable : (c : ℕ) → cost_answer x r ≡ Some c → x.grammar.rules < 2 ^ 32 → (positions : List ℕ) × HasOpened positions × (length positions < 2 ^ 64 - 1)
     countable c answer fits =
         let l = way.leads in
         let few = few_opened c (least_of (known x l.walks l.grammar) l.walks.number l.walks.generator l.grammar r c answer) in
         let most : c * x.grammar.rules ≤ 65535 * x.grammar.rules = mul-le-mul_right x.grammar.rules (answered_some (rule_cost x.least r) c answer).1 in
-        (way.places, way.opened, omega (arith, few, most, fits))
+        (way.positions, way.opened, omega (arith, few, most, fits))
 
     pub stopped : HasStopped x.grammar (token_cost x) r HasOpened
     stopped = record {
-      places = way.places;
+      positions = way.positions;
       opened = way.opened;
       few = λ c least. let few = few_opened c least in omega (arith, few);
       free = way.free;
@@ -225,10 +225,10 @@ module _ (x : CostTables) (r : ℕ) (HasOpened : List ℕ → Type 0) where
       let none = plan_ended x way.leads.walks way.leads.grammar way.later way.left way.plan in
       let same : way.sentence ≡ reverse word =
       sym (reverse-reverse way.sentence) ∙ ap reverse (sym way.whole ∙ ap (λ l. word ++ l) none ∙ append-nil word) in
-      let few = subst (λ (w : List ℕ). length way.places + way.left ≤ length w * x.grammar.rules) same way.few in
+      let few = subst (λ (w : List ℕ). length way.positions + way.left ≤ length w * x.grammar.rules) same way.few in
       record {
         found = subst (IsFirstSentence x.grammar (token_cost x) r) same (is_first [] word way);
-        places = way.places;
+        positions = way.positions;
         opened = way.opened;
         list = way.suffix;
         derived = way.derived;

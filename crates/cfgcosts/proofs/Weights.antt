@@ -56,11 +56,11 @@ module _ (x : CostTables) (many : ℕ) (some : 0 < many) where
       → weigh x many (rest ++ (nth_production x.grammar p).symbols) < weigh x many (rest ++ Rule q ∷ [])
   lighter_opened walks rest q p m choice short =
       let symbols = (nth_production x.grammar p).symbols in
-      let row = sum_by-le (weight x many) (many ^ m) symbols (All-weaker (IsNotAbove x.choices m) (λ s. weight x many s ≤ many ^ m) (low_weight m) symbols (walks.below q p m choice)) in
+      let sequence = sum_by-le (weight x many) (many ^ m) symbols (All-weaker (IsNotAbove x.choices m) (λ s. weight x many s ≤ many ^ m) (low_weight m) symbols (walks.below q p m choice)) in
       let product = mul-le (length symbols + 1) (many ^ m) many (many ^ m) (omega (arith, short)) (omega arith) in
       let one = one-le-pow m many some in
       let more = add-mul (length symbols) 1 (many ^ m) in
       let here : weight x many (Rule q) ≡ many * many ^ m = ap (weight_by many) choice ∙ pow-suc many m ∙ mul_comm (many ^ m) many in
       let whole = sum_by_push (weight x many) rest (Rule q) in
       let other = sum_by-append (weight x many) rest symbols in
-      omega (arith, row, product, one, more, here, whole, other)
+      omega (arith, sequence, product, one, more, here, whole, other)

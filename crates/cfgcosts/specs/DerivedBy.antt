@@ -13,11 +13,11 @@ IsProductionAt g p r symbols = (p < length g.productions) × (nth_production g p
 -- a derives b by a step with each of these productions, in this order
 pub data DerivesBy (g : Grammar) : List ℕ → List Sym → List Sym → Type 0 where
   none : {a : List Sym} → DerivesBy g [] a a
-  next : {p : ℕ} {places : List ℕ} {a b c : List Sym} → Step (IsProductionAt g p) a b → DerivesBy g places b c → DerivesBy g (p ∷ places) a c
+  next : {p : ℕ} {positions : List ℕ} {a b c : List Sym} → Step (IsProductionAt g p) a b → DerivesBy g positions b c → DerivesBy g (p ∷ positions) a c
 
 -- how often production p is in the list
 abbrev pub times : ℕ → List ℕ → ℕ
-times p places = count_by (nat_eq p) places
+times p positions = count_by (nat_eq p) positions
 
 -- a rule of cost 0 contributes no tokens
 abbrev pub IsFree : Grammar → (ℕ → ℕ) → ℕ → List ℕ → Type 0
@@ -26,12 +26,12 @@ IsFree g cost r w = Least (HasProduction g) cost r 0 × (w ≡ [])
 -- With the productions, each used as often as it was opened, the rule derives a list that consists of the tokens with rules of cost 0
 -- between them.
 pub record IsDerivedBy (g : Grammar) (cost : ℕ → ℕ) (opened : ℕ → ℕ) (all : ℕ) (r : ℕ) (w : List ℕ) : Type 0 where
-  pub places : List ℕ
+  pub positions : List ℕ
   pub list : List Sym
-  pub derived : DerivesBy g places (Rule r ∷ []) list
+  pub derived : DerivesBy g positions (Rule r ∷ []) list
   pub tokens : Split (IsFree g cost) list w
-  pub counted : (p : ℕ) → p < length g.productions → opened p ≡ times p places
-  pub together : all ≡ length places
+  pub counted : (p : ℕ) → p < length g.productions → opened p ≡ times p positions
+  pub together : all ≡ length positions
 
 -- no production of a rule of cost 0 was opened
 abbrev pub OpensNoneFree : Grammar → (ℕ → ℕ) → (ℕ → ℕ) → Type 0

@@ -7,7 +7,7 @@ use Rattle.derivation.specs.Grammar.{Sym}
 use Rattle.derivation.specs.Sentence.{cost_of}
 use Rattle.derivation.specs.Costs.{Greatest, Minimal, Unbounded}
 use Rattle.cfgleast.specs.Generator.{HasNone}
-use Rattle.cfgchoices.specs.FirstSentence.{dictionary}
+use Rattle.cfgchoices.specs.FirstSentence.{lexicographic}
 use Rattle.derivation.specs.declared.errors.CostError.{CostError}
 use Rattle.cfgcosts.specs.declared.errors.SentenceError.{SentenceError}
 use Rattle.cfgcosts.specs.declared.errors.SentenceError.TheVariants.{NoSentence, CostTooLarge, OutOfMemory}
@@ -29,7 +29,7 @@ abbrev pub numbers_of : {S : Type 0} → (S → ℕ) → Vec (TIdx S) Global →
 numbers_of number word = map (λ t. number t.0) word.items
 
 -- the greatest cost of a rule, if it is at most 65535; or that its costs are unbounded; or why there is neither
-pub record AnswersGreatest (P : ℕ → List Sym → Type 0) (cost : ℕ → ℕ) (r : ℕ) (answer : Result (Option ℕ) CostError) : Type 0 where
+pub record ReturnsGreatest (P : ℕ → List Sym → Type 0) (cost : ℕ → ℕ) (r : ℕ) (answer : Result (Option ℕ) CostError) : Type 0 where
   pub none : (answer ≡ Err costs.NoSentence) ↔ HasNone P r
   pub unbounded : (answer ≡ Ok None) ↔ Unbounded P cost r
   pub greatest : (c : ℕ) → (answer ≡ Ok (Some c)) ↔ (Greatest P cost r c × (c ≤ 65535))
@@ -38,4 +38,4 @@ pub record AnswersGreatest (P : ℕ → List Sym → Type 0) (cost : ℕ → ℕ
 -- the sentences of a rule such that no other costs less, if they cost at most 65535, each once, in lexicographic order
 pub record ListsMinimal (P : ℕ → List Sym → Type 0) (cost : ℕ → ℕ) (r : ℕ) (sentences : List (List ℕ)) : Type 0 where
   pub all : (w : List ℕ) → Contains sentences w ↔ (Minimal P cost r w × (cost_of cost w ≤ 65535))
-  pub order : IsStrictlySortedBy dictionary sentences
+  pub order : IsStrictlySortedBy lexicographic sentences

@@ -10,10 +10,10 @@ ghost use Rattle.derivation.specs.Costs.{Greatest, Least, Unbounded};
 ghost use Rattle.derivation.specs.Cycles.{MeetsGrowingCycle};
 ghost use Rattle.derivation.specs.CostLists.{rule_cost};
 ghost use Rattle.cfgleast.specs.Certificate.{IsCovered, IsReached, choice_of, rule_choice};
-ghost use Rattle.cfgleast.specs.Generator.{HasNone, IsGenerator, IsLeastProduction, IsTooDear};
+ghost use Rattle.cfgleast.specs.Generator.{HasNone, IsGenerator, IsLeastProduction, IsTooLarge};
 ghost use Rattle.cfgleast.specs.Generator.{choice_answer, cost_answer, token_cost};
 
-use crate::heirs::last_heirs;
+use crate::targets::last_targets;
 use cfgchoices::first::first_choices;
 use cfgchoices::kinds::{Kind, kinds};
 use cfggreatest::greatest_costs;
@@ -58,16 +58,16 @@ pub struct SentenceGenerator<'a, S: Storage, T: Tables<S>> {
     pub(crate) firsts: Vec<Option<(PIdx<S>, u32)>>,
     /// For each rule, a rule with the same minimal sentences: the last that chain productions lead to, as long as each
     /// is the only optimal production of its rule.
-    pub(crate) last_heirs: Vec<RIdx<S>>,
+    pub(crate) last_targets: Vec<RIdx<S>>,
     greatest: Vec<Result<Option<u16>, CostError>>,
 }
 
 impl<'a, S: Storage, T: Tables<S>> Model for SentenceGenerator<'a, S, T> {
     ghost use Rattle.std.specs.Prelude.{slice_index};
-    ghost use Rattle.cfggreatest.specs.GreatestCosts.{AreTold};
+    ghost use Rattle.cfggreatest.specs.GreatestCosts.{AreGreatestCosts};
     ghost use Rattle.cfgchoices.specs.Inner.FirstChoices.{AreFirst, Walks};
     ghost use Rattle.cfgleast.specs.Generator.{CostTables, IsGeneratorOf, settled_tables, tables_of};
-    ghost use Rattle.cfgcosts.specs.Inner.Heirs.{AreHeirs, rules_of};
+    ghost use Rattle.cfgcosts.specs.Inner.Targets.{AreTargets, rules_of};
     ghost use Rattle.cfgchoices.specs.Inner.Kinds.{AreKinds};
 
     ghost Value = { CostTables };
@@ -75,11 +75,11 @@ impl<'a, S: Storage, T: Tables<S>> Model for SentenceGenerator<'a, S, T> {
     ghost view = { λ x. settled_tables S.number (T.grammar x.tables.now) x.costs.items x.settled };
 
     ghost invariant = { λ x. IsGeneratorOf S.number (T.grammar x.tables.now) x.costs.items x.settled
-        × AreTold (T.grammar x.tables.now) (slice_index x.costs.items) x.greatest.items
+        × AreGreatestCosts (T.grammar x.tables.now) (slice_index x.costs.items) x.greatest.items
         × AreKinds S.number (settled_tables S.number (T.grammar x.tables.now) x.costs.items x.settled) x.kinds.items
         × Walks (tables_of S.number (T.grammar x.tables.now) x.costs.items x.settled.least.items x.firsts.items)
         × AreFirst (tables_of S.number (T.grammar x.tables.now) x.costs.items x.settled.least.items x.firsts.items)
-        × AreHeirs S.number (T.grammar x.tables.now) x.kinds.items (rules_of S.number x.last_heirs.items) };
+        × AreTargets S.number (T.grammar x.tables.now) x.kinds.items (rules_of S.number x.last_targets.items) };
 }
 
 impl<'a, S: Storage, T: Tables<S>> SentenceGenerator<'a, S, T> {
@@ -110,7 +110,7 @@ impl<'a, S: Storage, T: Tables<S>> SentenceGenerator<'a, S, T> {
         let kinds = kinds(alloc, tables, by_token, &settled)?;
         let by_production = kinds.as_slice();
         let firsts = first_choices(alloc, tables, by_token, &settled, by_production)?;
-        let last_heirs = last_heirs(alloc, tables, by_production)?;
+        let last_targets = last_targets(alloc, tables, by_production)?;
         let greatest = greatest_costs(alloc, tables, by_token)?;
         Ok(SentenceGenerator {
             tables,
@@ -118,7 +118,7 @@ impl<'a, S: Storage, T: Tables<S>> SentenceGenerator<'a, S, T> {
             settled,
             kinds,
             firsts,
-            last_heirs,
+            last_targets,
             greatest,
         })
     }
@@ -154,8 +154,8 @@ impl<'a, S: Storage, T: Tables<S>> SentenceGenerator<'a, S, T> {
             → c ≤ 65535 → result ≡ Ok c }
         ensures none { (result ≡ Err CostError.NoSentence)
             ↔ HasNone (HasProduction self.now.grammar) (S.number rule.0) }
-        ensures dear { (result ≡ Err CostError.CostTooLarge)
-            ↔ IsTooDear (HasProduction self.now.grammar) (token_cost self.now) (S.number rule.0) }
+        ensures too_large { (result ≡ Err CostError.CostTooLarge)
+            ↔ IsTooLarge (HasProduction self.now.grammar) (token_cost self.now) (S.number rule.0) }
         ensures answer { result_ok result ≡ cost_answer self.now (S.number rule.0) }
     {
         match self.settled.least[usize::from(rule)] {
@@ -195,7 +195,7 @@ impl<'a, S: Storage, T: Tables<S>> SentenceGenerator<'a, S, T> {
         ensures production { IfSome result (λ choice.
             IsLeastProduction self.now.grammar (token_cost self.now) (S.number rule.0) (S.number choice.0.0)) }
         ensures none { (result ≡ None) ↔ (HasNone (HasProduction self.now.grammar) (S.number rule.0)
-            ⊎ IsTooDear (HasProduction self.now.grammar) (token_cost self.now) (S.number rule.0)) }
+            ⊎ IsTooLarge (HasProduction self.now.grammar) (token_cost self.now) (S.number rule.0)) }
         ensures answer { choice_of S.number result ≡ choice_answer self.now (S.number rule.0) }
     {
         match self.min_sentence_cost(rule) {
@@ -205,7 +205,7 @@ impl<'a, S: Storage, T: Tables<S>> SentenceGenerator<'a, S, T> {
     }
 
     /// The generator's results pass both checks.
-    pub fn answers_pass_both_checks(&self)
+    pub fn results_pass_both_checks(&self)
         ensures least { (least : List (Option ℕ)) → length least ≡ self.now.grammar.rules
             → ((r : ℕ) → r < self.now.grammar.rules → rule_cost least r ≡ cost_answer self.now r)
             → All (IsCovered self.now.costs least) self.now.grammar.productions }

@@ -9,8 +9,8 @@ ghost use Rattle.derivation.specs.Sentence.{Sentence, cost_of};
 ghost use Rattle.derivation.specs.Costs.{Least, Minimal};
 ghost use Rattle.derivation.specs.CostLists.{rule_cost};
 ghost use Rattle.cfgleast.specs.Certificate.{IsCovered, IsReached};
-ghost use Rattle.cfgchoices.specs.Levels.{IsHandedDown};
-ghost use Rattle.cfgchoices.specs.FirstSentence.{FirstMinimal, dictionary};
+ghost use Rattle.cfgchoices.specs.Levels.{IsChainedDown};
+ghost use Rattle.cfgchoices.specs.FirstSentence.{FirstMinimal, lexicographic};
 ghost use Rattle.cfgchoices.specs.Splits.{Split};
 ghost use Rattle.cfgcosts.specs.declared.errors.SentenceError.{SentenceError};
 
@@ -32,10 +32,10 @@ pub fn sentences_cost_their_length()
 
 /// The minimal sentences of a rule are exactly the words that base productions make of minimal sentences of their
 /// symbols: base productions of the rule, or of a rule that chain productions lead to from it.
-pub fn minimal_sentences_are_handed_down()
+pub fn minimal_sentences_follow_chains()
     ensures { (g : Grammar) (costs : List ℕ) → IsGrammar g → length costs ≡ g.tokens → All (λ c. 0 < c) costs
         → (r : ℕ) (w : List ℕ) → Minimal (HasProduction g) (slice_index costs) r w
-        ↔ IsHandedDown (HasProduction g) (slice_index costs) r w }
+        ↔ IsChainedDown (HasProduction g) (slice_index costs) r w }
 {}
 
 /// No minimal sentence of a rule is a prefix of another.
@@ -49,12 +49,12 @@ pub fn no_minimal_sentence_begins_another()
 /// sentences make.
 pub fn first_sentences_make_the_first()
     ensures { (g : Grammar) (costs : List ℕ) → IsGrammar g → length costs ≡ g.tokens → All (λ c. 0 < c) costs
-        → (row : List Sym) (w v : List ℕ) → Split (FirstMinimal (HasProduction g) (slice_index costs)) row w
-        → Split (Minimal (HasProduction g) (slice_index costs)) row v → dictionary w v ≡ Greater → ⊥ }
+        → (sequence : List Sym) (w v : List ℕ) → Split (FirstMinimal (HasProduction g) (slice_index costs)) sequence w
+        → Split (Minimal (HasProduction g) (slice_index costs)) sequence v → lexicographic w v ≡ Greater → ⊥ }
 {}
 
 /// A sentence error equals only itself. A clone equals its source, and allocates nothing.
-pub fn sentence_errors_are_told_apart()
+pub fn sentence_errors_are_distinct()
     ensures equal { (a b : SentenceError) → IsTrue (⟦<SentenceError as PartialEq>⟧.eq a b) ↔ (a ≡ b) }
     ensures clone { (a b : SentenceError) → ⟦<SentenceError as Clone>⟧.is_clone a b → b ≡ a }
     ensures cloned { (a : SentenceError) → ⟦<SentenceError as Clone>⟧.is_infallible a }

@@ -3,12 +3,12 @@
 
 pub mod errors;
 pub mod generator;
-mod heirs;
 pub mod laws;
 mod minimal;
 mod opener;
 mod over;
 mod sentence;
+mod targets;
 
 pub use derivation::CostError;
 pub use errors::SentenceError;

@@ -1,6 +1,6 @@
 //! All minimal sentences of a rule.
 
 mod all;
-mod asked;
 mod levels;
 mod products;
+mod requested;

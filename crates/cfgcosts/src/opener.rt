@@ -24,14 +24,14 @@ pub(crate) trait Opener<S: Storage, X> {
     ///
     /// Out of memory: the production was opened all the same.
     fn open_onto(source: &mut X, p: PIdx<S>, pending: &mut Vec<Symbol<S>>) -> Result<(), AllocError>
-        requires place { S.number p.0 < length (grammar source.old).productions }
-        requires countable { (places : List ℕ) × has_opened source.old places × (length places < 2 ^ 64 - 1) }
+        requires index { S.number p.0 < length (grammar source.old).productions }
+        requires countable { (positions : List ℕ) × has_opened source.old positions × (length positions < 2 ^ 64 - 1) }
         ensures symbols { OnOk result (map (sym_of S.number) pending.new.items
             ≡ map (sym_of S.number) pending.old.items
             ++ (nth_production (grammar source.old) (S.number p.0)).symbols) }
         ensures grammar { grammar source.new ≡ grammar source.old }
-        ensures opened { (places : List ℕ) → has_opened source.old places
-            → has_opened source.new (places ++ S.number p.0 ∷ []) };
+        ensures opened { (positions : List ℕ) → has_opened source.old positions
+            → has_opened source.new (positions ++ S.number p.0 ∷ []) };
 }
 
 /// Nothing is counted.
@@ -40,7 +40,7 @@ pub(crate) struct Uncounted;
 impl<'a, S: Storage, T: Tables<S>> Opener<S, &'a T> for Uncounted {
     ghost grammar = { λ x. T.grammar x.now };
 
-    ghost has_opened = { λ x places. Unit {0} };
+    ghost has_opened = { λ x positions. Unit {0} };
 
     fn open_onto(
         source: &mut &'a T,
@@ -63,21 +63,21 @@ pub(crate) struct Counted;
 impl<S: Storage, P: Productions<S>> Opener<S, P> for Counted {
     ghost grammar = { λ x. P.content x };
 
-    ghost has_opened = { λ x places. AreCountsOf (P.content x) (P.opened x) (P.opened_all x) places };
+    ghost has_opened = { λ x positions. AreCountsOf (P.content x) (P.opened x) (P.opened_all x) positions };
 
     fn open_onto(source: &mut P, p: PIdx<S>, pending: &mut Vec<Symbol<S>>) -> Result<(), AllocError>
-        requires place { S.number p.0 < length (P.content source.old).productions }
-        requires countable { (places : List ℕ)
-            × AreCountsOf (P.content source.old) (P.opened source.old) (P.opened_all source.old) places
-            × (length places < 2 ^ 64 - 1) }
+        requires index { S.number p.0 < length (P.content source.old).productions }
+        requires countable { (positions : List ℕ)
+            × AreCountsOf (P.content source.old) (P.opened source.old) (P.opened_all source.old) positions
+            × (length positions < 2 ^ 64 - 1) }
         ensures symbols { OnOk result (map (sym_of S.number) pending.new.items
             ≡ map (sym_of S.number) pending.old.items
             ++ (nth_production (P.content source.old) (S.number p.0)).symbols) }
         ensures grammar { P.content source.new ≡ P.content source.old }
-        ensures opened { (places : List ℕ)
-            → AreCountsOf (P.content source.old) (P.opened source.old) (P.opened_all source.old) places
+        ensures opened { (positions : List ℕ)
+            → AreCountsOf (P.content source.old) (P.opened source.old) (P.opened_all source.old) positions
             → AreCountsOf (P.content source.new) (P.opened source.new) (P.opened_all source.new)
-            (places ++ S.number p.0 ∷ []) }
+            (positions ++ S.number p.0 ∷ []) }
     {
         pending.extend_from_slice(source.open(p))
     }

@@ -4,7 +4,7 @@ ghost use Rattle.std.specs.Prelude.{◌≡◌, ◌↔◌, ℕ, ◌+◌, ◌*◌,
 ghost use Rattle.derivation.specs.Grammar.{HasProduction};
 ghost use Rattle.derivation.specs.Sentence.{cost_of};
 ghost use Rattle.derivation.specs.Costs.{Least};
-ghost use Rattle.cfgleast.specs.Generator.{HasNone, IsTooDear, token_cost};
+ghost use Rattle.cfgleast.specs.Generator.{HasNone, IsTooLarge, token_cost};
 ghost use Rattle.cfgchoices.specs.FirstSentence.{FirstMinimal};
 ghost use Rattle.cfgcosts.specs.DerivedBy.{IsDerivedBy, OpensNoneFree};
 
@@ -45,8 +45,8 @@ pub fn min_sentence_over<'a, S: Storage, T: Tables<S>, P: Productions<S>>(
         All (λ t. t + 1 < generator.now.grammar.tokens) (map (λ t. S.number t.0) sentence.items)) }
     ensures none { (result ≡ Err SentenceError.NoSentence)
         ↔ HasNone (HasProduction generator.now.grammar) (S.number rule.0) }
-    ensures dear { (result ≡ Err SentenceError.CostTooLarge)
-        ↔ IsTooDear (HasProduction generator.now.grammar) (token_cost generator.now) (S.number rule.0) }
+    ensures too_large { (result ≡ Err SentenceError.CostTooLarge)
+        ↔ IsTooLarge (HasProduction generator.now.grammar) (token_cost generator.now) (S.number rule.0) }
     ensures content { P.content productions.new ≡ P.content productions.old }
     ensures derived { IfOk result (λ sentence. IsDerivedBy generator.now.grammar (token_cost generator.now)
         (P.opened productions.new) (P.opened_all productions.new) (S.number rule.0)

@@ -4,7 +4,7 @@ ghost use Rattle.std.specs.Prelude.{◌≡◌, ◌↔◌, ℕ, ◌+◌, ◌<◌,
 ghost use Rattle.std.specs.Prelude.{OnErr, Some, length, map};
 ghost use Rattle.derivation.specs.Grammar.{HasProduction};
 ghost use Rattle.derivation.specs.Sentence.{cost_of};
-ghost use Rattle.cfgleast.specs.Generator.{HasNone, IsTooDear, cost_answer, token_cost};
+ghost use Rattle.cfgleast.specs.Generator.{HasNone, IsTooLarge, cost_answer, token_cost};
 ghost use Rattle.cfgchoices.specs.FirstSentence.{FirstMinimal};
 ghost use Rattle.cfgcosts.specs.Inner.Walk.{HasStopped, HasWalked};
 
@@ -78,8 +78,8 @@ impl<'a, S: Storage, T: Tables<S>> SentenceGenerator<'a, S, T> {
             (S.number rule.0) (O.has_opened source.new) }
         ensures none { (result ≡ Err SentenceError.NoSentence)
             ↔ HasNone (HasProduction self.now.grammar) (S.number rule.0) }
-        ensures dear { (result ≡ Err SentenceError.CostTooLarge)
-            ↔ IsTooDear (HasProduction self.now.grammar) (token_cost self.now) (S.number rule.0) }
+        ensures too_large { (result ≡ Err SentenceError.CostTooLarge)
+            ↔ IsTooLarge (HasProduction self.now.grammar) (token_cost self.now) (S.number rule.0) }
         ensures refused { (result ≡ Err SentenceError.NoSentence) ⊎ (result ≡ Err SentenceError.CostTooLarge)
             → source.new ≡ source.old }
     {
@@ -104,8 +104,8 @@ impl<'a, S: Storage, T: Tables<S>> SentenceGenerator<'a, S, T> {
             All (λ t. t + 1 < self.now.grammar.tokens) (map (λ t. S.number t.0) sentence.items)) }
         ensures none { (result ≡ Err SentenceError.NoSentence)
             ↔ HasNone (HasProduction self.now.grammar) (S.number rule.0) }
-        ensures dear { (result ≡ Err SentenceError.CostTooLarge)
-            ↔ IsTooDear (HasProduction self.now.grammar) (token_cost self.now) (S.number rule.0) }
+        ensures too_large { (result ≡ Err SentenceError.CostTooLarge)
+            ↔ IsTooLarge (HasProduction self.now.grammar) (token_cost self.now) (S.number rule.0) }
     {
         let mut tables = self.tables;
         self.first_sentence::<&'a T, Uncounted>(alloc, &mut tables, rule)

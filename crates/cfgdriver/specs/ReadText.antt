@@ -23,7 +23,7 @@ greatest = 4294967295
 -- What kind a text is read as, if this kind is requested, or none: as a file of the requested kind; without one, as a file of the kind that
 -- it names, and if it names none, as a file of the default kind. The last argument says whether that was so.
 pub data IsReadAs (default : YaccKind) (text : List ℕ) : Option KindArg → KindArg → Bool → Type 0 where
-  asked : {kind : KindArg} → IsReadAs default text (Some kind) kind false
+  requested : {kind : KindArg} → IsReadAs default text (Some kind) kind false
   itself : (NamesNoKind text → ⊥) → IsReadAs default text None Section false
   taken : NamesNoKind text → IsReadAs default text None (Named default) true
 

@@ -7,7 +7,7 @@ ghost use Rattle.std.specs.Fn.{FnOnceReturnsAt, FnOnceTakesAt};
 ghost use Rattle.cfgrammar.specs.Answer.{Found, WasRead};
 ghost use Rattle.cfgrammar.specs.ErrorSpans.{EachErrorSpan, EachParsedSpan};
 ghost use Rattle.cfgrammar.specs.GrammarOf.{IsFoundAs, IsFoundItself};
-ghost use Rattle.cfgrammar.specs.Places.{IsPiece, IsWithin};
+ghost use Rattle.cfgrammar.specs.TextSpans.{IsPiece, IsWithin};
 ghost use Rattle.cfgrammar.specs.Syntax.{EachSpan};
 ghost use Rattle.cfgrammar.specs.TreeView.{syntax};
 ghost use Rattle.cfgprogram.specs.declared.kinds.KindArg.{KindArg};
@@ -100,12 +100,12 @@ pub fn read_text_or<R, T: TextReader<R>>(
 {
     match kind {
         Some(kind) => Ok((read_text(alloc, kind, text, reader)?, false)),
-        None => read_unasked(alloc, default, text, reader),
+        None => read_unrequested(alloc, default, text, reader),
     }
 }
 
 /// What is made of a text for which no kind is requested, and whether it was read as a file of the default kind.
-fn read_unasked<R, T: TextReader<R>>(
+fn read_unrequested<R, T: TextReader<R>>(
     alloc: Global,
     default: YaccKind,
     text: &str,

@@ -92,8 +92,8 @@ eq-kind_view (rust.UnknownToken x) (rust.UnknownToken y) e = same_name x y cc
 eq-kind_view (rust.NoPrecForToken x) (rust.NoPrecForToken y) e = same_name x y cc
 eq-kind_view (rust.UnknownEPP x) (rust.UnknownEPP y) e = same_name x y cc
 eq-kind_view (rust.ExpectedInput x) (rust.ExpectedInput y) e = eq-eqb x y cc
-eq-kind_view (rust.Header kind spanskind) (rust.Header other stands) e =
-    let same : spanskind ≡ stands = cc in
+eq-kind_view (rust.Header kind spanskind) (rust.Header other holds) e =
+    let same : spanskind ≡ holds = cc in
     and_from _ _ (eq-error_kind_view kind other cc) (rw (← same) (spanskind_itself spanskind))
 eq-kind_view x y e = let no : ⊥ = cc in absurd no
 

@@ -18,9 +18,9 @@ error_kind_view-eq (rust.UnexpectedToken c hint) (rust.UnexpectedToken d other) 
     λ i. UnexpectedToken (eqb-true c d both.0 i) ((bytes_decides hint.now other.now).0 both.1 i)
 error_kind_view-eq rust.DuplicateEntry rust.DuplicateEntry h = refl
 error_kind_view-eq (rust.InvalidEntry what) (rust.InvalidEntry other) h = ap InvalidEntry ((bytes_decides what.now other.now).0 h)
-error_kind_view-eq (rust.ConversionError wanted cause) (rust.ConversionError other why) h =
-    let both = and_parts (bytes_eq wanted.now other.now) (bytes_eq cause.now why.now) h in
-    λ i. ConversionError ((bytes_decides wanted.now other.now).0 both.0 i) ((bytes_decides cause.now why.now).0 both.1 i)
+error_kind_view-eq (rust.ConversionError expected cause) (rust.ConversionError other why) h =
+    let both = and_parts (bytes_eq expected.now other.now) (bytes_eq cause.now why.now) h in
+    λ i. ConversionError ((bytes_decides expected.now other.now).0 both.0 i) ((bytes_decides cause.now why.now).0 both.1 i)
 error_kind_view-eq x y h = absurd (false≢true h)
 
 -- and if callers see the same, so does it
@@ -32,8 +32,8 @@ eq-error_kind_view (rust.UnexpectedToken c hint) (rust.UnexpectedToken d other) 
     and_from (c == d) (bytes_eq hint.now other.now) (eq-eqb c d cc) ((bytes_decides hint.now other.now).1 cc)
 eq-error_kind_view rust.DuplicateEntry rust.DuplicateEntry e = refl
 eq-error_kind_view (rust.InvalidEntry what) (rust.InvalidEntry other) e = (bytes_decides what.now other.now).1 cc
-eq-error_kind_view (rust.ConversionError wanted cause) (rust.ConversionError other why) e =
-    and_from (bytes_eq wanted.now other.now) (bytes_eq cause.now why.now) ((bytes_decides wanted.now other.now).1 cc) ((bytes_decides cause.now why.now).1 cc)
+eq-error_kind_view (rust.ConversionError expected cause) (rust.ConversionError other why) e =
+    and_from (bytes_eq expected.now other.now) (bytes_eq cause.now why.now) ((bytes_decides expected.now other.now).1 cc) ((bytes_decides cause.now why.now).1 cc)
 eq-error_kind_view x y e = let no : ⊥ = cc in absurd no
 
 pub error_kind_iff : (x y : HeaderErrorKind) → IsTrue (kinds.eq x y) ↔ (error_kind_view x ≡ error_kind_view y)

@@ -32,7 +32,7 @@ error_kind_view (rust.ExpectedToken character) = ExpectedToken character
 error_kind_view (rust.UnexpectedToken character hint) = UnexpectedToken character hint.now
 error_kind_view rust.DuplicateEntry = DuplicateEntry
 error_kind_view (rust.InvalidEntry what) = InvalidEntry what.now
-error_kind_view (rust.ConversionError wanted cause) = ConversionError wanted.now cause.now
+error_kind_view (rust.ConversionError expected cause) = ConversionError expected.now cause.now
 
 abbrev pub error_view : {T : Type 0} → HeaderError T → ShownError T
 error_view error = record { kind = error_kind_view error.kind; locations = error.locations.items }

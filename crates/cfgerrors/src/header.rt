@@ -53,7 +53,9 @@ impl fmt::Display for HeaderErrorKind {
             }
             HeaderErrorKind::DuplicateEntry => f.write_str("Duplicate Entry"),
             HeaderErrorKind::InvalidEntry(what) => write_parts(f, "Invalid entry: '", what, "'"),
-            HeaderErrorKind::ConversionError(wanted, cause) => write_conversion(f, wanted, cause),
+            HeaderErrorKind::ConversionError(expected, cause) => write_conversion(
+                f, expected, cause,
+            ),
         }
     }
 }
@@ -75,13 +77,13 @@ fn write_unexpected<W: fmt::Write>(
 /// Writes the message for a value of another type than the required one, with any formatting options.
 fn write_conversion<W: fmt::Write>(
     f: &mut fmt::Formatter<W>,
-    wanted: &str,
+    expected: &str,
     cause: &str,
 ) -> fmt::Result
-    ensures plain { WritesOnOk W.write_str_gives f.old result (conversion_text wanted.now cause.now) f.new }
-    ensures styled { WritesStyledOnOk W.write_str_gives f.old result (conversion_text wanted.now cause.now) f.new }
+    ensures plain { WritesOnOk W.write_str_gives f.old result (conversion_text expected.now cause.now) f.new }
+    ensures styled { WritesStyledOnOk W.write_str_gives f.old result (conversion_text expected.now cause.now) f.new }
 {
-    write_parts(f, "Converting header value to type '", wanted, "': ")?;
+    write_parts(f, "Converting header value to type '", expected, "': ")?;
     f.write_str(cause)
 }
 

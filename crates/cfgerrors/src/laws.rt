@@ -40,7 +40,7 @@ pub fn header_errors_are_cloned<T: Clone>()
 {}
 
 /// The two kinds of warnings differ, and each is equal to itself. A clone equals its source.
-pub fn warning_kinds_are_told_apart()
+pub fn warning_kinds_are_distinct()
     ensures equal { (a b : YaccGrammarWarningKind)
         → IsTrue (⟦<YaccGrammarWarningKind as PartialEq>⟧.eq a b) ↔ (a ≡ b) }
     ensures clone { (a b : YaccGrammarWarningKind) → ⟦<YaccGrammarWarningKind as Clone>⟧.is_clone a b

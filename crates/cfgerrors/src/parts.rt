@@ -11,14 +11,14 @@ pub(crate) fn write_parts<W: fmt::Write>(
     f: &mut fmt::Formatter<W>,
     before: &str,
     name: &str,
-    behind: &str,
+    after: &str,
 ) -> fmt::Result
-    ensures plain { WritesOnOk W.write_str_gives f.old result (before.now ++ (name.now ++ behind.now)) f.new }
-    ensures styled { WritesStyledOnOk W.write_str_gives f.old result (before.now ++ (name.now ++ behind.now)) f.new }
+    ensures plain { WritesOnOk W.write_str_gives f.old result (before.now ++ (name.now ++ after.now)) f.new }
+    ensures styled { WritesStyledOnOk W.write_str_gives f.old result (before.now ++ (name.now ++ after.now)) f.new }
 {
     f.write_str(before)?;
     f.write_str(name)?;
-    f.write_str(behind)
+    f.write_str(after)
 }
 
 /// Writes what `{}` prints of each of these values, with a line end between two of them, under any options.

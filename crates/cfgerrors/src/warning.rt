@@ -2,7 +2,7 @@
 
 ghost use Rattle.std.specs.Prelude.{◌≡◌, ◌↔◌, IsTrue, IfOk, Some};
 ghost use Rattle.std.specs.Cmp.{partial_equiv_from_equiv};
-ghost use Rattle.cfgbase.specs.declared.span.SpansKind.TheVariants.{Error as each_is_a_place};
+ghost use Rattle.cfgbase.specs.declared.span.SpansKind.TheVariants.{Error as each_is_an_offset};
 ghost use Rattle.cfgerrors.specs.WarningTexts.{warning_text};
 ghost use Rattle.cfgerrors.specs.Warnings.{same_warning, same_warning-equivalence, warning_at};
 
@@ -115,7 +115,7 @@ impl fmt::Display for YaccGrammarWarning {
 impl Spanned for YaccGrammarWarning {
     ghost spans = { λ w. w.spans };
 
-    ghost spanskind = { λ _. each_is_a_place };
+    ghost spanskind = { λ _. each_is_an_offset };
 
     fn spans(&self) -> &[Span] {
         self.spans.as_slice()

@@ -11,7 +11,7 @@ use Rattle.derivation.specs.Costs.{Greatest}
 use Rattle.derivation.specs.Tree.{Yields, empty, token, opened}
 use Rattle.derivation.proofs.Trees.{trees_from_derivation, trees_join, derivation_from_trees}
 use Rattle.cfgtables.specs.Openings.{nth_production}
-use Rattle.cfgtables.proofs.Placed.{owner}
+use Rattle.cfgtables.proofs.Located.{owner}
 use Rattle.cfggreatest.specs.Inner.AtLeast.{HasWord}
 
 -- the sum of how much each of the first n numbers is below the limit
@@ -66,28 +66,28 @@ module _ (g : Grammar) (cost : ℕ → ℕ) (limit : ℕ) where
   symbol_word words (Rule r) = words r
   symbol_word words (Token t) = Some (t ∷ [], token empty)
 
-  abbrev row_word : Words → (a : List Sym) → Word a
-  row_word words [] = Some ([], empty)
-  row_word words (s ∷ a) = join (symbol_word words s) (row_word words a)
+  abbrev sequence_word : Words → (a : List Sym) → Word a
+  sequence_word words [] = Some ([], empty)
+  sequence_word words (s ∷ a) = join (symbol_word words s) (sequence_word words a)
 
   -- up to the limit the production makes no word that costs more than its rule's
   abbrev IsClosedAt : Words → Production → Type 0
-  IsClosedAt words p = min (value (row_word words p.symbols)) (limit + 1) ≤ value (words p.rule)
+  IsClosedAt words p = min (value (sequence_word words p.symbols)) (limit + 1) ≤ value (words p.rule)
 
   record Closed : Type 0 where
     words : Words
     closed : (k : ℕ) → k < length g.productions → IsClosedAt words (nth_production g k)
 
   -- so no word of a list costs more than the one that is made of these words
-  row_most : (x : Closed) {a : List Sym} {w : List ℕ} → Yields (HasProduction g) a w → min (cost_of cost w) limit < value (row_word x.words a)
-  row_most x empty = omega arith
-  row_most x (token {t = t} {a = a} {w = w} h) = subst (λ n. min n limit < value (row_word x.words (Token t ∷ a))) (sym (sum_by-append cost (t ∷ []) w))
-      (value-join (cost_of cost (t ∷ [])) (cost_of cost w) (symbol_word x.words (Token t)) (row_word x.words a) (omega arith) (row_most x h))
-  row_most x (opened {r = r} {symbols = symbols} {a = a} {u = u} {w = w} has h k e) =
+  sequence_most : (x : Closed) {a : List Sym} {w : List ℕ} → Yields (HasProduction g) a w → min (cost_of cost w) limit < value (sequence_word x.words a)
+  sequence_most x empty = omega arith
+  sequence_most x (token {t = t} {a = a} {w = w} h) = subst (λ n. min n limit < value (sequence_word x.words (Token t ∷ a))) (sym (sum_by-append cost (t ∷ []) w))
+      (value-join (cost_of cost (t ∷ [])) (cost_of cost w) (symbol_word x.words (Token t)) (sequence_word x.words a) (omega arith) (sequence_most x h))
+  sequence_most x (opened {r = r} {symbols = symbols} {a = a} {u = u} {w = w} has h k e) =
       let closed = subst (IsClosedAt x.words) (get_or_default g.productions has.0 _ _ has.1 ∙ has.2) (x.closed has.0 has.1) in
-      subst (λ n. min n limit < value (row_word x.words (Rule r ∷ a))) (sym (ap (cost_of cost) e ∙ sum_by-append cost u w))
-      (value-join (cost_of cost u) (cost_of cost w) (x.words r) (row_word x.words a)
-      (most_along limit (cost_of cost u) (value (row_word x.words symbols)) (value (x.words r)) (row_most x h) closed) (row_most x k))
+      subst (λ n. min n limit < value (sequence_word x.words (Rule r ∷ a))) (sym (ap (cost_of cost) e ∙ sum_by-append cost u w))
+      (value-join (cost_of cost u) (cost_of cost w) (x.words r) (sequence_word x.words a)
+      (most_along limit (cost_of cost u) (value (sequence_word x.words symbols)) (value (x.words r)) (sequence_most x h) closed) (sequence_most x k))
 
   -- a rule's word is replaced by the word that a production of the rule makes
   module _ (words : Words) (p : Production) (has : HasProduction g p.rule p.symbols) where
@@ -100,33 +100,33 @@ module _ (g : Grammar) (cost : ℕ → ℕ) (limit : ℕ) where
     value-make q e (Some y) = refl
 
     abbrev put_at : (q : ℕ) → (q ≡ p.rule) ⊎ (q ≡ p.rule → ⊥) → Word (Rule q ∷ [])
-    put_at q (inl e) = make q e (row_word words p.symbols)
+    put_at q (inl e) = make q e (sequence_word words p.symbols)
     put_at q (inr ne) = words q
 
     abbrev put : Words
     put q = put_at q (cases_eq q p.rule)
 
-    module _ (more : value (words p.rule) < min (value (row_word words p.symbols)) (limit + 1)) where
+    module _ (more : value (words p.rule) < min (value (sequence_word words p.symbols)) (limit + 1)) where
       no_less : (q : ℕ) (is : (q ≡ p.rule) ⊎ (q ≡ p.rule → ⊥)) → value (words q) ≤ value (put_at q is)
-      no_less q (inl e) = omega (arith, more, value-make q e (row_word words p.symbols), ap (λ n. value (words n)) e)
+      no_less q (inl e) = omega (arith, more, value-make q e (sequence_word words p.symbols), ap (λ n. value (words n)) e)
       no_less q (inr ne) = omega arith
 
       more_there : (is : (p.rule ≡ p.rule) ⊎ (p.rule ≡ p.rule → ⊥)) → value (words p.rule) < value (put_at p.rule is)
-      more_there (inl e) = omega (arith, more, value-make p.rule e (row_word words p.symbols))
+      more_there (inl e) = omega (arith, more, value-make p.rule e (sequence_word words p.symbols))
       more_there (inr ne) = absurd (ne refl)
 
-      lacks_less : p.rule < g.rules → missing (limit + 1) (λ q. value (put q)) g.rules < missing (limit + 1) (λ q. value (words q)) g.rules
-      lacks_less lt = missing_less (limit + 1) (λ q. value (words q)) (λ q. value (put q)) (λ q. no_less q (cases_eq q p.rule)) p.rule
+      misses_less : p.rule < g.rules → missing (limit + 1) (λ q. value (put q)) g.rules < missing (limit + 1) (λ q. value (words q)) g.rules
+      misses_less lt = missing_less (limit + 1) (λ q. value (words q)) (λ q. value (put q)) (λ q. no_less q (cases_eq q p.rule)) p.rule
           (more_there (cases_eq p.rule p.rule)) (omega (arith, more)) g.rules lt
 
   abbrev Better : Words → Type 0
-  Better words = (p : Production) × HasProduction g p.rule p.symbols × (value (words p.rule) < min (value (row_word words p.symbols)) (limit + 1))
+  Better words = (p : Production) × HasProduction g p.rule p.symbols × (value (words p.rule) < min (value (sequence_word words p.symbols)) (limit + 1))
 
   search_below : (words : Words) (n : ℕ) → n ≤ length g.productions → Better words ⊎ ((k : ℕ) → k < n → IsClosedAt words (nth_production g k))
   search_below words zero le = inr (λ k h. absurd (omega (arith, h)))
   search_below words (suc n) le = elim (search_below words n (omega (arith, le))) [
     | inl found ↦ inl found
-    | inr all ↦ let p = nth_production g n in elim (cases_lt (value (words p.rule)) (min (value (row_word words p.symbols)) (limit + 1))) [
+    | inr all ↦ let p = nth_production g n in elim (cases_lt (value (words p.rule)) (min (value (sequence_word words p.symbols)) (limit + 1))) [
       | inl more ↦ inl (p, Contains-get_or g.productions n (record { rule = 0; symbols = [] }) (omega (arith, le)), more)
       | inr here ↦ inr (λ k h. below_more (λ k. IsClosedAt words (nth_production g k)) n all here k (omega (arith, h)))
     ]
@@ -135,7 +135,7 @@ module _ (g : Grammar) (cost : ℕ → ℕ) (limit : ℕ) where
   close : IsGrammar g → (room : ℕ) (words : Words) → missing (limit + 1) (λ q. value (words q)) g.rules < room → Closed
   close is zero words h = absurd (omega (arith, h))
   close is (suc room) words h = elim (search_below words (length g.productions) (omega arith)) [
-    | inl f ↦ close is room (put words f.0 f.1) (omega (arith, h, lacks_less words f.0 f.1 f.2 (owner g f.0 is f.1)))
+    | inl f ↦ close is room (put words f.0 f.1) (omega (arith, h, misses_less words f.0 f.1 f.2 (owner g f.0 is f.1)))
     | inr all ↦ record { words = words; closed = all }
   ]
 
@@ -149,4 +149,4 @@ module _ (g : Grammar) (cost : ℕ → ℕ) (r n : ℕ) (bound : (v : List ℕ) 
   pub greatest_exists : IsGrammar g → (w : List ℕ) → Sentence (HasProduction g) r w → (c : ℕ) × Greatest (HasProduction g) cost r c
   greatest_exists is =
       let x = close g cost (n + 1) is (suc (missing (n + 1 + 1) (λ q. 0) g.rules)) (λ q. None) (omega arith) in
-      greatest_word (row_word g cost (n + 1) x.words (Rule r ∷ [])) (λ v s. row_most g cost (n + 1) x (trees_from_derivation (HasProduction g) (Rule r ∷ []) v s))
+      greatest_word (sequence_word g cost (n + 1) x.words (Rule r ∷ [])) (λ v s. sequence_most g cost (n + 1) x (trees_from_derivation (HasProduction g) (Rule r ∷ []) v s))

@@ -14,40 +14,40 @@ use Rattle.cfgtables.specs.Openings.{nth_production}
 use Rattle.derivation.specs.declared.errors.CostError.{CostError}
 use Rattle.derivation.specs.declared.errors.CostError.TheVariants.{NoSentence, CostTooLarge}
 use Rattle.cfggreatest.specs.GreatestCosts.{Means}
-use Rattle.cfggreatest.specs.Inner.AtLeast.{IsDead, weigh}
+use Rattle.cfggreatest.specs.Inner.AtLeast.{IsUnproductive, weigh}
 use Rattle.cfggreatest.specs.Inner.Known.{group_answer, known_cost, known_of, read_known}
-use Rattle.cfggreatest.specs.Inner.Sums.{AreReached, AreUnder, CostAtLeast, IsGroup, IsRead, row_cost}
+use Rattle.cfggreatest.specs.Inner.Sums.{AreReached, AreUnder, CostAtLeast, IsGroup, IsRead, sequence_cost}
 use Rattle.cfggreatest.specs.declared.sums.Known.{Known}
-use Rattle.cfggreatest.specs.declared.sums.Known.TheVariants.{New, Open, Told}
+use Rattle.cfggreatest.specs.declared.sums.Known.TheVariants.{New, Open, Settled}
 use Rattle.cfggreatest.specs.declared.sums.Stop.{Stop}
 use Rattle.cfggreatest.specs.declared.sums.Stop.TheVariants.{Leads}
 use Rattle.cfggreatest.specs.declared.sums.Sums.{Sums}
-use Rattle.cfggreatest.proofs.AtLeast.{at_least_fewer, row_most, unbounded_from}
+use Rattle.cfggreatest.proofs.AtLeast.{at_least_fewer, sequence_most, unbounded_from}
 use Rattle.cfggreatest.proofs.Reaching.{beside, costs_beside, large, large_of, none_reached}
 
 -- what is known of a rule bounds its words, if its productions do when the rule is in the group
-known_bound : (P : ℕ → List Sym → Type 0) (cost : ℕ → ℕ) (start n r : ℕ) (k : Known) (so : (answer : Result (Option ℕ) CostError) → k ≡ Told answer → Means P cost r answer)
-    (o : Option ℕ) → read_known start r k ≡ Ok o → (F : Type 0) → ((place : ℕ) → k ≡ Open place → start ≤ place → F)
+known_bound : (P : ℕ → List Sym → Type 0) (cost : ℕ → ℕ) (start n r : ℕ) (k : Known) (so : (answer : Result (Option ℕ) CostError) → k ≡ Settled answer → Means P cost r answer)
+    (o : Option ℕ) → read_known start r k ≡ Ok o → (F : Type 0) → ((index : ℕ) → k ≡ Open index → start ≤ index → F)
     → (w : List ℕ) → Yields P (Rule r ∷ []) w → (F × (known_cost start n (large_of P cost r k so) k ≡ n)) ⊎ (cost_of cost w ≤ known_cost start n (large_of P cost r k so) k)
 unfolding large_of
 known_bound P cost start n r New so o e F inside w tree = absurd (cc)
-known_bound P cost start n r (Open place) so o e F inside w tree = by (ltb place start) refl e
+known_bound P cost start n r (Open index) so o e F inside w tree = by (ltb index start) refl e
   where
-    by : (b : Bool) → ltb place start ≡ b → (let read : Result (Option ℕ) Stop = cond b (Err (Leads r)) (Ok None) in read) ≡ Ok o
+    by : (b : Bool) → ltb index start ≡ b → (let read : Result (Option ℕ) Stop = cond b (Err (Leads r)) (Ok None) in read) ≡ Ok o
         → (F × (cond b 0 n ≡ n)) ⊎ (cost_of cost w ≤ cond b 0 n)
     by true is e = absurd (cc)
-    by false is e = inl (inside place refl (omega (arith, ltb-false place start is)), refl)
-known_bound P cost start n r (Told (Ok None)) so o e F inside w tree = absurd (cc)
-known_bound P cost start n r (Told (Ok (Some c))) so o e F inside w tree = inr ((so (Ok (Some c)) refl).0.1 w (derivation_from_trees P tree))
-known_bound P cost start n r (Told (Err NoSentence)) so o e F inside w tree = absurd (so (Err NoSentence) refl w (derivation_from_trees P tree))
-known_bound P cost start n r (Told (Err CostTooLarge)) so o e F inside w tree = inr ((so (Err CostTooLarge) refl).1.1 w (derivation_from_trees P tree))
+    by false is e = inl (inside index refl (omega (arith, ltb-false index start is)), refl)
+known_bound P cost start n r (Settled (Ok None)) so o e F inside w tree = absurd (cc)
+known_bound P cost start n r (Settled (Ok (Some c))) so o e F inside w tree = inr ((so (Ok (Some c)) refl).0.1 w (derivation_from_trees P tree))
+known_bound P cost start n r (Settled (Err NoSentence)) so o e F inside w tree = absurd (so (Err NoSentence) refl w (derivation_from_trees P tree))
+known_bound P cost start n r (Settled (Err CostTooLarge)) so o e F inside w tree = inr ((so (Err CostTooLarge) refl).1.1 w (derivation_from_trees P tree))
 
 -- whether the rule is in the group
-decide_inside : (start : ℕ) (k : Known) → ((place : ℕ) × (k ≡ Open place) × (start ≤ place)) ⊎ ((place : ℕ) → k ≡ Open place → start ≤ place → ⊥)
-decide_inside start New = inr (λ place e le. cc)
-decide_inside start (Told answer) = inr (λ place e le. cc)
+decide_inside : (start : ℕ) (k : Known) → ((index : ℕ) × (k ≡ Open index) × (start ≤ index)) ⊎ ((index : ℕ) → k ≡ Open index → start ≤ index → ⊥)
+decide_inside start New = inr (λ index e le. cc)
+decide_inside start (Settled answer) = inr (λ index e le. cc)
 decide_inside start (Open p) = elim (cases_lt p start) [
-  | inl lt ↦ inr (λ place e le. let same : p ≡ place = cc in omega (arith, lt, le, same))
+  | inl lt ↦ inr (λ index e le. let same : p ≡ index = cc in omega (arith, lt, le, same))
   | inr le ↦ inl (p, refl, le)
 ]
 
@@ -59,23 +59,23 @@ module _ (g : Grammar) (is : IsGrammar g) (cost : ℕ → ℕ) (known : List Kno
     inner : ℕ
     rest : ℕ
     read : All (IsRead cost known start) a
-    whole : (k : ℕ) → row_cost cost known start (large g is cost known path start group) k a ≡ rest + k * inner
+    whole : (k : ℕ) → sequence_cost cost known start (large g is cost known path start group) k a ≡ rest + k * inner
     little : rest ≤ most
     few : (inner ≡ 0) ⊎ ((rest ≡ 0) × ((inner ≡ 1) ⊎ (x.twice ≡ true)))
 
-  kept_more : (most more : ℕ) → most ≤ more → (a : List Sym) → IsDead (HasProduction g) a ⊎ IsKept most a → IsDead (HasProduction g) a ⊎ IsKept more a
-  kept_more most more le a (inl dead) = inl dead
+  kept_more : (most more : ℕ) → most ≤ more → (a : List Sym) → IsUnproductive (HasProduction g) a ⊎ IsKept most a → IsUnproductive (HasProduction g) a ⊎ IsKept more a
+  kept_more most more le a (inl unproductive) = inl unproductive
   kept_more most more le a (inr h) = inr (record { inner = h.inner; rest = h.rest; read = h.read; whole = h.whole; little = let e = h.little in omega (arith, e, le); few = h.few })
 
   abbrev IsRuleOfGroup : ℕ → Type 0
-  IsRuleOfGroup r = (place : ℕ) × (known_of known r ≡ Open place) × (start ≤ place)
+  IsRuleOfGroup r = (index : ℕ) × (known_of known r ≡ Open index) × (start ≤ index)
 
   -- the greatest sum of the first n productions
   record Most (n : ℕ) : Type 0 where
     most : ℕ
     lower : CostAtLeast (HasProduction g) cost path start most
     cap : min most 65536 ≤ x.top
-    kept : (q : ℕ) → q < n → ((place : ℕ) → known_of known (nth_production g q).rule ≡ Open place → start ≤ place → IsDead (HasProduction g) (nth_production g q).symbols ⊎ IsKept most (nth_production g q).symbols)
+    kept : (q : ℕ) → q < n → ((index : ℕ) → known_of known (nth_production g q).rule ≡ Open index → start ≤ index → IsUnproductive (HasProduction g) (nth_production g q).symbols ⊎ IsKept most (nth_production g q).symbols)
 
   find_most : (n : ℕ) → n ≤ length g.productions → Most n
   find_most zero le = record { most = 0; lower = (none_reached g cost known path start group).costs; cap = omega arith; kept = λ q lt. absurd (omega (arith, lt)) }
@@ -87,20 +87,20 @@ module _ (g : Grammar) (is : IsGrammar g) (cost : ℕ → ℕ) (known : List Kno
           most = before.most;
           lower = before.lower;
           cap = before.cap;
-          kept = λ q lt. below_more (λ q. (place : ℕ) → known_of known (nth_production g q).rule ≡ Open place → start ≤ place → IsDead (HasProduction g) (nth_production g q).symbols ⊎ IsKept before.most (nth_production g q).symbols)
-              n before.kept (λ place e le. absurd (out place e le)) q (omega (arith, lt));
+          kept = λ q lt. below_more (λ q. (index : ℕ) → known_of known (nth_production g q).rule ≡ Open index → start ≤ index → IsUnproductive (HasProduction g) (nth_production g q).symbols ⊎ IsKept before.most (nth_production g q).symbols)
+              n before.kept (λ index e le. absurd (out index e le)) q (omega (arith, lt));
         }
         | inl h ↦ one_more n le before h
       ]
     where
       one_more : (n : ℕ) → suc n ≤ length g.productions → Most n → IsRuleOfGroup (nth_production g n).rule → Most (suc n)
       one_more n le before h = elim (under h.0 h.2 at.0 p.symbols has) [
-        | inl dead ↦ with_row before.most before.lower before.cap (omega arith) (inl dead)
+        | inl unproductive ↦ with_sequence before.most before.lower before.cap (omega arith) (inl unproductive)
         | inr u ↦
-            let b = beside g is cost known path start group h.0 h.2 at.0 p.symbols has u.live u.outer u.inner u.is in
+            let b = beside g is cost known path start group h.0 h.2 at.0 p.symbols has u.productive u.outer u.inner u.is in
             let cut = b.cut in
             let little = u.little in
-            let row : (most : ℕ) → b.rest ≤ most → IsDead (HasProduction g) p.symbols ⊎ IsKept most p.symbols = λ most few. inr (record {
+            let sequence : (most : ℕ) → b.rest ≤ most → IsUnproductive (HasProduction g) p.symbols ⊎ IsKept most p.symbols = λ most few. inr (record {
               inner = u.inner;
               rest = b.rest;
               read = u.is.read;
@@ -109,10 +109,10 @@ module _ (g : Grammar) (is : IsGrammar g) (cost : ℕ → ℕ) (known : List Kno
               few = elim u.few [ inl none ↦ inl none | inr k ↦ inr (let free = k.0 in omega (arith, cut, free), k.1) ];
             }) in
             elim (cases_lt before.most b.rest) [
-              | inl less ↦ with_row b.rest (λ j le' lt'. at_least_fewer (HasProduction g) cost _ (b.rest + 0 * u.inner) b.rest (omega arith)
-                  (costs_beside g is cost known path start group h.0 h.2 at.0 p.symbols has u.live u.outer u.inner u.is 0 (none_reached g cost known path start group).costs j le' lt'))
-                  (omega (arith, cut, little)) (omega (arith, less)) (row b.rest (omega arith))
-              | inr more ↦ with_row before.most before.lower before.cap (omega arith) (row before.most more)
+              | inl less ↦ with_sequence b.rest (λ j le' lt'. at_least_fewer (HasProduction g) cost _ (b.rest + 0 * u.inner) b.rest (omega arith)
+                  (costs_beside g is cost known path start group h.0 h.2 at.0 p.symbols has u.productive u.outer u.inner u.is 0 (none_reached g cost known path start group).costs j le' lt'))
+                  (omega (arith, cut, little)) (omega (arith, less)) (sequence b.rest (omega arith))
+              | inr more ↦ with_sequence before.most before.lower before.cap (omega arith) (sequence before.most more)
             ]
       ]
         where
@@ -120,27 +120,27 @@ module _ (g : Grammar) (is : IsGrammar g) (cost : ℕ → ℕ) (known : List Kno
           p = nth_production g n
 
           at : (h.0 < length path) × (get_or path h.0 0 ≡ (nth_production g n).rule)
-          at = group.places (nth_production g n).rule h.0 h.1
+          at = group.positions (nth_production g n).rule h.0 h.1
 
           has : HasProduction g (get_or path h.0 0) (nth_production g n).symbols
           has = subst (λ r. HasProduction g r (nth_production g n).symbols) (sym at.1) (Contains-get_or g.productions n _ (omega (arith, le)))
 
-          with_row : (most : ℕ) → CostAtLeast (HasProduction g) cost path start most → min most 65536 ≤ x.top → before.most ≤ most
-              → IsDead (HasProduction g) (nth_production g n).symbols ⊎ IsKept most (nth_production g n).symbols → Most (suc n)
-          with_row most lower limit more row = record {
+          with_sequence : (most : ℕ) → CostAtLeast (HasProduction g) cost path start most → min most 65536 ≤ x.top → before.most ≤ most
+              → IsUnproductive (HasProduction g) (nth_production g n).symbols ⊎ IsKept most (nth_production g n).symbols → Most (suc n)
+          with_sequence most lower limit more sequence = record {
             most = most;
             lower = lower;
             cap = limit;
-            kept = λ q lt. below_more (λ q. (place : ℕ) → known_of known (nth_production g q).rule ≡ Open place → start ≤ place → IsDead (HasProduction g) (nth_production g q).symbols ⊎ IsKept most (nth_production g q).symbols)
-                n (λ q lt' place e le'. kept_more before.most most more (nth_production g q).symbols (before.kept q lt' place e le')) (λ place e le'. row) q (omega (arith, lt));
+            kept = λ q lt. below_more (λ q. (index : ℕ) → known_of known (nth_production g q).rule ≡ Open index → start ≤ index → IsUnproductive (HasProduction g) (nth_production g q).symbols ⊎ IsKept most (nth_production g q).symbols)
+                n (λ q lt' index e le'. kept_more before.most most more (nth_production g q).symbols (before.kept q lt' index e le')) (λ index e le'. sequence) q (omega (arith, lt));
           }
 
   module _ (m : Most (length g.productions)) (grows : (x.twice && ltb 0 x.top) ≡ false) where
     abbrev costs : ℕ → ℕ
     costs r = known_cost start m.most (large g is cost known path start group r) (known_of known r)
 
-    row_little : (a : List Sym) → IsKept m.most a → sum_by (weigh cost costs) a ≤ m.most
-    row_little a h =
+    sequence_little : (a : List Sym) → IsKept m.most a → sum_by (weigh cost costs) a ≤ m.most
+    sequence_little a h =
         let whole = h.whole m.most in
         let little = h.little in
         elim h.few [
@@ -160,14 +160,14 @@ module _ (g : Grammar) (is : IsGrammar g) (cost : ℕ → ℕ) (known : List Kno
     -- no sentence of the group's rules costs more
     bound : (i : ℕ) → start ≤ i → i < length path → (w : List ℕ) → Yields (HasProduction g) (Rule (get_or path i 0) ∷ []) w → cost_of cost w ≤ m.most
     bound i le lt w tree =
-        let all = row_most (HasProduction g) cost costs (IsRead cost known start) (λ r w' read tree'.
+        let all = sequence_most (HasProduction g) cost costs (IsRead cost known start) (λ r w' read tree'.
         elim (known_bound (HasProduction g) cost start m.most r (known_of known r) (group.so r) read.0 read.1
-        ((symbols : List Sym) → HasProduction g r symbols → IsDead (HasProduction g) symbols ⊎ IsKept m.most symbols) (λ place e le' symbols has.
-        subst (λ (p : Production). (place : ℕ) → known_of known p.rule ≡ Open place → start ≤ place → IsDead (HasProduction g) p.symbols ⊎ IsKept m.most p.symbols)
-        (get_or_default g.productions has.0 _ _ has.1 ∙ has.2) (m.kept has.0 has.1) place e le') w' tree') [
+        ((symbols : List Sym) → HasProduction g r symbols → IsUnproductive (HasProduction g) symbols ⊎ IsKept m.most symbols) (λ index e le' symbols has.
+        subst (λ (p : Production). (index : ℕ) → known_of known p.rule ≡ Open index → start ≤ index → IsUnproductive (HasProduction g) p.symbols ⊎ IsKept m.most p.symbols)
+        (get_or_default g.productions has.0 _ _ has.1 ∙ has.2) (m.kept has.0 has.1) index e le') w' tree') [
           | inl f ↦ inl (λ symbols has. elim (f.0 symbols has) [
-            | inl dead ↦ inl dead
-            | inr kept ↦ inr (kept.read, subst (λ n. sum_by (weigh cost costs) symbols ≤ n) (sym f.1) (row_little symbols kept))
+            | inl unproductive ↦ inl unproductive
+            | inr kept ↦ inr (kept.read, subst (λ n. sum_by (weigh cost costs) symbols ≤ n) (sym f.1) (sequence_little symbols kept))
           ])
           | inr few ↦ inr few
         ]) tree (All-cons (IsRead cost known start) (Rule (get_or path i 0)) [] (
@@ -219,7 +219,7 @@ module _ (g : Grammar) (is : IsGrammar g) (cost : ℕ → ℕ) (known : List Kno
         let cap = m.cap in
         let le' = top_below m e i le lt in
         subst (Means (HasProduction g) cost (get_or path i 0)) (sym (ap (λ b. cond b (Ok None) (cond (leb x.top 65535) (Ok (Some x.top)) (Err CostTooLarge))) e))
-        (elim (leb_tells x.top 65535) [
+        (elim (leb_shows x.top 65535) [
           | inl h ↦ subst (Means (HasProduction g) cost (get_or path i 0)) (sym (ap (λ b. cond b (Ok (Some x.top)) (Err CostTooLarge)) h.0))
               (let small = h.1 in let same : m.most ≡ x.top = omega (arith, cap, le', small) in
               (subst (Greatest (HasProduction g) cost (get_or path i 0)) same (greatest m e i le lt), small))

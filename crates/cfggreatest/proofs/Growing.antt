@@ -14,23 +14,23 @@ use Rattle.derivation.specs.declared.errors.CostError.TheVariants.{NoSentence}
 use Rattle.derivation.proofs.Concatenation.{derives_trans, derives_left, derives_right, derives_production, step_production}
 use Rattle.derivation.proofs.Cycles.{cycle_unbounds}
 use Rattle.derivation.proofs.Trees.{trees_from_derivation, trees_join, derivation_from_trees}
-use Rattle.cfgtables.proofs.Placed.{owner}
-use Rattle.cfggreatest.specs.GreatestCosts.{AreTold, Means}
+use Rattle.cfgtables.proofs.Located.{owner}
+use Rattle.cfggreatest.specs.GreatestCosts.{AreGreatestCosts, Means}
 use Rattle.cfggreatest.specs.Inner.AtLeast.{weigh}
 use Rattle.cfggreatest.proofs.Bounded.{missing, missing_less}
-use Rattle.cfggreatest.proofs.Telling.{exactly}
+use Rattle.cfggreatest.proofs.Reporting.{exactly}
 
 module _ (P : ℕ → List Sym → Type 0) (cost : ℕ → ℕ) where
   -- l derives a list that contains a, beside symbols that yield words which cost n or more in total
   record Around (l a : List Sym) (n : ℕ) : Type 0 where
     before : List Sym
     after : List Sym
-    front : List ℕ
+    prefix : List ℕ
     back : List ℕ
     leads : Derives P l (before ++ (a ++ after))
-    first : Yields P before front
+    first : Yields P before prefix
     second : Yields P after back
-    enough : n ≤ cost_of cost front + cost_of cost back
+    enough : n ≤ cost_of cost prefix + cost_of cost back
 
   -- what leads to a also leads to b, with m more beside it
   abbrev Moves : List Sym → List Sym → ℕ → Type 0
@@ -40,7 +40,7 @@ module _ (P : ℕ → List Sym → Type 0) (cost : ℕ → ℕ) where
   to_first a b v tree l n k le c = record {
     before = c.before;
     after = b ++ c.after;
-    front = c.front;
+    prefix = c.prefix;
     back = v ++ c.back;
     leads = subst (λ x. Derives P l (c.before ++ x)) (append_assoc a b c.after) c.leads;
     first = c.first;
@@ -52,19 +52,19 @@ module _ (P : ℕ → List Sym → Type 0) (cost : ℕ → ℕ) where
   to_second a b u tree l n k le c = record {
     before = c.before ++ a;
     after = c.after;
-    front = c.front ++ u;
+    prefix = c.prefix ++ u;
     back = c.back;
     leads = subst (Derives P l) (ap (λ x. c.before ++ x) (append_assoc a b c.after) ∙ sym (append_assoc c.before a (b ++ c.after))) c.leads;
     first = trees_join P c.first tree;
     second = c.second;
-    enough = let e = c.enough in omega (arith, le, e, sum_by-append cost c.front u);
+    enough = let e = c.enough in omega (arith, le, e, sum_by-append cost c.prefix u);
   }
 
   into : (r : ℕ) (symbols : List Sym) → P r symbols → Moves (Rule r ∷ []) symbols 0
   into r symbols has l n k le c = record {
     before = c.before;
     after = c.after;
-    front = c.front;
+    prefix = c.prefix;
     back = c.back;
     leads = derives_trans P c.leads (derives_left P c.before (derives_right P c.after (derives_production P r symbols has)));
     first = c.first;
@@ -76,7 +76,7 @@ module _ (P : ℕ → List Sym → Type 0) (cost : ℕ → ℕ) where
   here l = record {
     before = [];
     after = [];
-    front = [];
+    prefix = [];
     back = [];
     leads = subst (Derives P l) (sym (append-nil l)) none;
     first = empty;
@@ -96,16 +96,16 @@ module _ (P : ℕ → List Sym → Type 0) (cost : ℕ → ℕ) where
       middle = l;
       u = c.before;
       v = c.after;
-      word = c.front ++ c.back;
+      word = c.prefix ++ c.back;
       first = step_production P x l has;
       around = c.leads;
       gives = derivation_from_trees P (trees_join P c.first c.second);
-      grows = let e = c.enough in omega (arith, e, sum_by-append cost c.front c.back);
+      grows = let e = c.enough in omega (arith, e, sum_by-append cost c.prefix c.back);
     },
     record {
       before = m.before;
       after = m.after;
-      word = m.front ++ (w ++ m.back);
+      word = m.prefix ++ (w ++ m.back);
       leads = m.leads;
       gives = derivation_from_trees P (trees_join P m.first (trees_join P tree m.second));
     },
@@ -215,8 +215,8 @@ module _ (g : Grammar) (cost : ℕ → ℕ) (is : IsGrammar g) (root : ℕ) wher
   -- into the first rule: r is marked if anything beside it costs something
   through : (x : ℕ) (symbols a : List Sym) (u w : List ℕ) → HasProduction g x symbols → Yields (HasProduction g) symbols u → Searched symbols u
       → Yields (HasProduction g) a w → Searched a w → Searched (Rule x ∷ a) (u ++ w)
-  through x symbols a u w has tree below behind rest n s r c new t =
-      let move : Moves (HasProduction g) cost (Rule x ∷ a) (Rule x ∷ []) (cost_of cost w) = to_first (HasProduction g) cost (Rule x ∷ []) a w behind in
+  through x symbols a u w has tree below later rest n s r c new t =
+      let move : Moves (HasProduction g) cost (Rule x ∷ a) (Rule x ∷ []) (cost_of cost w) = to_first (HasProduction g) cost (Rule x ∷ []) a w later in
       let down : Walks (Rule x ∷ []) (suc n) = moved (Rule x ∷ a) (Rule x ∷ []) (cost_of cost w) (suc n) move s in
       elim (cases_eq (c + cost_of cost w) 0) [
         | inl alone ↦ elim (enter x symbols u has tree below (suc n) down) [
@@ -261,13 +261,13 @@ module _ (g : Grammar) (cost : ℕ → ℕ) (is : IsGrammar g) (root : ℕ) wher
   unbounded_if_meets = (unbounded_meets, λ h. cycle_unbounds (HasProduction g) cost root h.0 h.2 h.1)
 
 -- so results that are true are `None` exactly if the rule meets a growing cycle
-pub are_told : (g : Grammar) (cost : ℕ → ℕ) → IsGrammar g → (answers : List (Result (Option ℕ) CostError)) → length answers ≡ g.rules
-    → ((r : ℕ) → r < g.rules → Means (HasProduction g) cost r (get_or answers r (Err NoSentence))) → AreTold g cost answers
-are_told g cost is answers rules means = record {
+pub are_settled : (g : Grammar) (cost : ℕ → ℕ) → IsGrammar g → (results : List (Result (Option ℕ) CostError)) → length results ≡ g.rules
+    → ((r : ℕ) → r < g.rules → Means (HasProduction g) cost r (get_or results r (Err NoSentence))) → AreGreatestCosts g cost results
+are_settled g cost is results rules means = record {
   rules = rules;
   means = means;
   cycles = λ r lt.
-      let told = exactly (HasProduction g) cost r (get_or answers r (Err NoSentence)) (Ok None) (means r lt) in
+      let settled = exactly (HasProduction g) cost r (get_or results r (Err NoSentence)) (Ok None) (means r lt) in
       let meets = unbounded_if_meets g cost is r in
-      (λ e. meets.0 (told.0 e), λ h. told.1 (meets.1 h));
+      (λ e. meets.0 (settled.0 e), λ h. settled.1 (meets.1 h));
 }

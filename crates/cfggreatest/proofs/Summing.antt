@@ -9,7 +9,7 @@ use Rattle.cfggreatest.specs.Inner.AtLeast.{weigh}
 use Rattle.cfggreatest.specs.Inner.Known.{known_cost, known_of, read_known, read_symbol}
 use Rattle.cfggreatest.specs.Inner.Sums.{IsRead, IsSum}
 use Rattle.cfggreatest.specs.declared.sums.Known.{Known}
-use Rattle.cfggreatest.specs.declared.sums.Known.TheVariants.{New, Open, Told}
+use Rattle.cfggreatest.specs.declared.sums.Known.TheVariants.{New, Open, Settled}
 use Rattle.cfggreatest.specs.declared.sums.Stop.{Stop}
 use Rattle.cfggreatest.specs.declared.sums.Stop.TheVariants.{Leads}
 
@@ -21,25 +21,25 @@ record CostsOutside (costs : ℕ → ℕ) (c : ℕ) : Type 0 where
 
 known_outside : (start r large : ℕ) → 65535 < large → (k : Known) (c : ℕ) → read_known start r k ≡ Ok (Some c) → CostsOutside (λ n. known_cost start n large k) c
 known_outside start r large many New c e = absurd (cc)
-known_outside start r large many (Open place) c e = by (ltb place start) e
+known_outside start r large many (Open index) c e = by (ltb index start) e
   where
-    by : (b : Bool) → (let read : Result (Option ℕ) Stop = cond b (Err (Leads r)) (Ok None) in read) ≡ Ok (Some c) → CostsOutside (λ n. known_cost start n large (Open place)) c
+    by : (b : Bool) → (let read : Result (Option ℕ) Stop = cond b (Err (Leads r)) (Ok None) in read) ≡ Ok (Some c) → CostsOutside (λ n. known_cost start n large (Open index)) c
     by true e = absurd (cc)
     by false e = absurd (cc)
-known_outside start r large many (Told (Ok None)) c e = absurd (cc)
-known_outside start r large many (Told (Ok (Some d))) c e = record { rest = d; cut = ap (λ n. min n 65536) (let same : c ≡ d = cc in same); all = λ k. refl }
-known_outside start r large many (Told (Err f)) c e = record { rest = large; cut = (let same : c ≡ 65536 = cc in omega (arith, same)); all = λ k. refl }
+known_outside start r large many (Settled (Ok None)) c e = absurd (cc)
+known_outside start r large many (Settled (Ok (Some d))) c e = record { rest = d; cut = ap (λ n. min n 65536) (let same : c ≡ d = cc in same); all = λ k. refl }
+known_outside start r large many (Settled (Err f)) c e = record { rest = large; cut = (let same : c ≡ 65536 = cc in omega (arith, same)); all = λ k. refl }
 
 known_inside : (start r large n : ℕ) (k : Known) → read_known start r k ≡ Ok None → known_cost start n large k ≡ n
 known_inside start r large n New e = absurd (cc)
-known_inside start r large n (Open place) e = by (ltb place start) e
+known_inside start r large n (Open index) e = by (ltb index start) e
   where
     by : (b : Bool) → (let read : Result (Option ℕ) Stop = cond b (Err (Leads r)) (Ok None) in read) ≡ Ok None → cond b 0 n ≡ n
     by true e = absurd (cc)
     by false e = refl
-known_inside start r large n (Told (Ok None)) e = absurd (cc)
-known_inside start r large n (Told (Ok (Some d))) e = absurd (cc)
-known_inside start r large n (Told (Err f)) e = absurd (cc)
+known_inside start r large n (Settled (Ok None)) e = absurd (cc)
+known_inside start r large n (Settled (Ok (Some d))) e = absurd (cc)
+known_inside start r large n (Settled (Err f)) e = absurd (cc)
 
 module _ (cost : ℕ → ℕ) (known : List Known) (start : ℕ) where
   pub sum_none : IsSum cost known start [] 0 0

@@ -7,20 +7,20 @@ use Rattle.std.proofs.lemmas.List.Sums.{sum_by-set}
 use Rattle.lemmas.proofs.Elements.{get_or-set}
 use Rattle.derivation.specs.Grammar.{Sym, Rule, Token, Grammar, IsGrammar, IsSymbolOf, HasProduction}
 use Rattle.derivation.proofs.Trees.{trees_from_derivation}
-use Rattle.cfgtables.proofs.Placed.{all_symbols}
+use Rattle.cfgtables.proofs.Located.{all_symbols}
 use Rattle.derivation.specs.declared.errors.CostError.{CostError}
 use Rattle.derivation.specs.declared.errors.CostError.TheVariants.{NoSentence}
 use Rattle.cfggreatest.specs.GreatestCosts.{Means}
 use Rattle.cfggreatest.specs.Inner.AtLeast.{HasWord, IsAbove}
 use Rattle.cfggreatest.specs.Inner.Groups.{AreGroups, IsLast}
-use Rattle.cfggreatest.specs.Inner.Known.{AreTrue, IsLiveSymbol, count_new, is_dead, is_inside, is_outside, known_of, no_rule}
-use Rattle.cfggreatest.specs.Inner.Live.{HaveSentences, is_live}
+use Rattle.cfggreatest.specs.Inner.Known.{AreTrue, IsProductiveSymbol, count_new, is_unproductive, is_inside, is_outside, known_of, no_rule}
+use Rattle.cfggreatest.specs.Inner.Productive.{HaveSentences, is_productive}
 use Rattle.cfggreatest.specs.Inner.Sums.{IsGroup}
-use Rattle.cfggreatest.specs.Inner.Walk.{CanTell, GoesOn, IsEdge, IsEdgeTo, IsLedOut, IsWalk, IsWayOut, Steps, TellsNoMore, first_known, left_to_do}
+use Rattle.cfggreatest.specs.Inner.Walk.{CanSettle, GoesOn, IsEdge, IsEdgeTo, IsLedOut, IsWalk, IsWayOut, Steps, SettlesNoMore, first_known, left_to_do}
 use Rattle.cfggreatest.specs.declared.sums.Known.{Known}
-use Rattle.cfggreatest.specs.declared.sums.Known.TheVariants.{New, Open, Told}
+use Rattle.cfggreatest.specs.declared.sums.Known.TheVariants.{New, Open, Settled}
 use Rattle.cfggreatest.specs.declared.walk.Walk.{Walk}
-use Rattle.cfggreatest.proofs.AtLeast.{at_least_rule, row_above}
+use Rattle.cfggreatest.proofs.AtLeast.{at_least_rule, sequence_above}
 use Rattle.cfggreatest.proofs.Pathing.{above_all, below_last, groups_fewer, groups_joined, groups_more, no_groups}
 
 module _ (g : Grammar) where
@@ -31,17 +31,17 @@ module _ (g : Grammar) where
   above_then a b c h k cost n i = h cost n (k cost n i)
 
   -- edges lead from a rule to those of a production, if these all may be productive
-  pub edges_from : (is : IsGrammar g) (known : List Known) → ((r : ℕ) → is_dead (known_of known r) ≡ false → HasWord (HasProduction g) (Rule r ∷ []))
-      → (rule : ℕ) → rule < g.rules → (a : List Sym) → HasProduction g rule a → All (IsLiveSymbol known) a → All (IsEdgeTo g rule) a
-  edges_from is known lives rule within a has live k d lt = by (get_or a k d) (all_symbols g _ is has k d lt) (λ r e. (k, lt, get_or_default a k (Rule r) d lt ∙ e))
+  pub edges_from : (is : IsGrammar g) (known : List Known) → ((r : ℕ) → is_unproductive (known_of known r) ≡ false → HasWord (HasProduction g) (Rule r ∷ []))
+      → (rule : ℕ) → rule < g.rules → (a : List Sym) → HasProduction g rule a → All (IsProductiveSymbol known) a → All (IsEdgeTo g rule) a
+  edges_from is known have_words rule within a has productive k d lt = by (get_or a k d) (all_symbols g _ is has k d lt) (λ r e. (k, lt, get_or_default a k (Rule r) d lt ∙ e))
     where
       by : (s : Sym) → IsSymbolOf g s → ((r : ℕ) → s ≡ Rule r → Contains a (Rule r)) → IsEdgeTo g rule s
       by (Token t) within' at = tt
       by (Rule x) within' at = record {
         from = within;
         to = within';
-        above = λ cost n h. at_least_rule (HasProduction g) cost rule a n has (row_above (HasProduction g) a x (at x refl)
-            (λ r among. lives r (subst (IsLiveSymbol known) among.2 (live among.0 (Rule r) among.1))) cost n h);
+        above = λ cost n h. at_least_rule (HasProduction g) cost rule a n has (sequence_above (HasProduction g) a x (at x refl)
+            (λ r among. have_words r (subst (IsProductiveSymbol known) among.2 (productive among.0 (Rule r) among.1))) cost n h);
       }
 
 -- a search whose rules and path stayed the same
@@ -50,8 +50,8 @@ pub regrouped : (g : Grammar) (old new : Walk) → IsWalk g old → new ≡ reco
 regrouped g old new walk rest groups edges = subst (IsWalk g) (sym rest) (record {
   grammar = walk.grammar;
   rules = walk.rules;
-  lives = walk.lives;
-  places = walk.places;
+  have_words = walk.have_words;
+  positions = walk.positions;
   path = walk.path;
   groups = groups;
   edges = edges;
@@ -62,40 +62,40 @@ edges_less g old new walk rest edges =
     subst (IsWalk g) (sym rest) (regrouped g old (record old { edges = new.edges }) walk refl walk.groups edges)
 
 -- groups of the path are joined, until none begins after the index
-pub record JoinsGroups (place : ℕ) (old new : Walk) : Type 0 where
+pub record JoinsGroups (index : ℕ) (old new : Walk) : Type 0 where
   pub rest : new ≡ record old { starts = new.starts }
   pub fewer : (new.starts ≡ old.starts) ⊎ (length new.starts.items < length old.starts.items)
-  pub groups : (g : Grammar) (rule : ℕ) → IsWalk g old → IsWayOut g old rule → known_of old.known.items rule ≡ Open place
+  pub groups : (g : Grammar) (rule : ℕ) → IsWalk g old → IsWayOut g old rule → known_of old.known.items rule ≡ Open index
       → AreGroups (IsAbove (HasProduction g)) old.path.items new.starts.items
 
-pub joins_more : (place : ℕ) (old mid new : Walk) → JoinsGroups place old mid → (start : ℕ) → IsLast mid.starts.items start → place < start
+pub joins_more : (index : ℕ) (old mid new : Walk) → JoinsGroups index old mid → (start : ℕ) → IsLast mid.starts.items start → index < start
     → new ≡ record mid { starts = new.starts } → new.starts.items ≡ take (length mid.starts.items - 1) mid.starts.items
-    → JoinsGroups place old new
-joins_more place old mid new j start last before rest starts = record {
+    → JoinsGroups index old new
+joins_more index old mid new j start last before rest starts = record {
   rest = rest ∙ ap (λ (x : Walk). record x { starts = new.starts }) j.rest;
   fewer = inr (let some = last.some in let less = ap length starts in let len = length-take-le (length mid.starts.items - 1) mid.starts.items (omega arith) in elim j.fewer [
     | inl same ↦ omega (arith, some, less, len, ap (λ v. length v.items) same)
     | inr fewer ↦ omega (arith, some, less, len, fewer)
   ]);
   groups = λ g rule walk out e.
-      let at = walk.places rule place e in
+      let at = walk.positions rule index e in
       subst (AreGroups (IsAbove (HasProduction g)) old.path.items) (sym starts)
-      (groups_joined (IsAbove (HasProduction g)) old.path.items mid.starts.items (j.groups g rule walk out e) start last place before at.0 (above_then g)
+      (groups_joined (IsAbove (HasProduction g)) old.path.items mid.starts.items (j.groups g rule walk out e) start last index before at.0 (above_then g)
       (λ i lt. subst (IsAbove (HasProduction g) (get_or old.path.items i 0)) (sym at.1) (out.above i lt)));
 }
 
 -- all groups after the index were joined
-pub joined : (g : Grammar) (place rule : ℕ) (old new : Walk) → IsWalk g old → IsWayOut g old rule → known_of old.known.items rule ≡ Open place → JoinsGroups place old new
-    → ((start : ℕ) → IsLast new.starts.items start → start ≤ place) → GoesOn g old new
-joined g place rule old new walk out e j no_more = record {
+pub joined : (g : Grammar) (index rule : ℕ) (old new : Walk) → IsWalk g old → IsWayOut g old rule → known_of old.known.items rule ≡ Open index → JoinsGroups index old new
+    → ((start : ℕ) → IsLast new.starts.items start → start ≤ index) → GoesOn g old new
+joined g index rule old new walk out e j no_more = record {
   walk = subst (IsWalk g) (sym j.rest) (regrouped g old (record old { starts = new.starts }) walk refl (j.groups g rule walk out e) walk.edges);
-  told = λ r answer told. ap (λ (x : Walk). known_of x.known.items r) (sym j.rest) ∙ told;
+  settled = λ r answer settled. ap (λ (x : Walk). known_of x.known.items r) (sym j.rest) ∙ settled;
   less = elim j.fewer [
     | inr fewer ↦ omega (arith, fewer, ap (λ (x : Walk). sum_by count_new x.known.items) j.rest)
     | inl same ↦
-        let among = (walk.places rule place e).0 in
+        let among = (walk.positions rule index e).0 in
         let last : IsLast old.starts.items (get_or old.starts.items (length old.starts.items - 1) 0) = record { some = walk.groups.some (omega (arith, among)); at = refl } in
-        let before = out.before place _ e last in
+        let before = out.before index _ e last in
         let le = no_more _ (subst (λ v. IsLast v.items (get_or old.starts.items (length old.starts.items - 1) 0)) (sym same) last) in
         absurd (omega (arith, before, le))
   ];
@@ -103,48 +103,48 @@ joined g place rule old new walk out e j no_more = record {
 
 -- before the first step
 pub first_walk : (g : Grammar) (bits : List Bool) (rules : ℕ) (x : Walk) → IsGrammar g → rules ≡ g.rules → HaveSentences g bits → length x.known.items ≡ rules
-    → ((r : ℕ) → r < rules → known_of x.known.items r ≡ first_known (is_live bits r)) → x.path.items ≡ [] → x.starts.items ≡ [] → x.edges.items ≡ []
+    → ((r : ℕ) → r < rules → known_of x.known.items r ≡ first_known (is_productive bits r)) → x.path.items ≡ [] → x.starts.items ≡ [] → x.edges.items ≡ []
     → IsWalk g x × ((cost : ℕ → ℕ) → AreTrue g cost x.known.items)
 first_walk g bits rules x is e have len each path starts edges = (
   record {
     grammar = is;
     rules = len ∙ e;
-    lives = λ r alive. have.say.lives r (is_on (is_live bits r) (ap is_dead (sym (at r)) ∙ alive));
-    places = λ r place here. absurd (is_closed place (is_live bits r) (sym (at r) ∙ here));
+    have_words = λ r alive. have.say.have_words r (is_on (is_productive bits r) (ap is_unproductive (sym (at r)) ∙ alive));
+    positions = λ r index here. absurd (is_closed index (is_productive bits r) (sym (at r) ∙ here));
     path = λ i lt. absurd (omega (arith, lt, ap length path));
     groups = subst (λ l. AreGroups (IsAbove (HasProduction g)) l x.starts.items) (sym path) (subst (AreGroups (IsAbove (HasProduction g)) []) (sym starts) (no_groups (IsAbove (HasProduction g))));
     edges = subst (All (IsEdge g)) (sym edges) (All-nil (IsEdge g));
   },
-  λ cost r answer told. let h = is_told answer (is_live bits r) (sym (at r) ∙ told) in
+  λ cost r answer settled. let h = is_settled answer (is_productive bits r) (sym (at r) ∙ settled) in
       subst (Means (HasProduction g) cost r) h.1 (λ w s. have.none r h.0 w (trees_from_derivation (HasProduction g) (Rule r ∷ []) w s)),
 )
   where
-    at : (r : ℕ) → known_of x.known.items r ≡ first_known (is_live bits r)
+    at : (r : ℕ) → known_of x.known.items r ≡ first_known (is_productive bits r)
     at r = elim (cases_lt r rules) [
       | inl lt ↦ each r lt
       | inr past ↦ get_or_past x.known.items r no_rule (omega (arith, past, len))
           ∙ ap first_known (sym (get_or_past bits r false (let all = have.say.rules in omega (arith, past, all, e))))
     ]
 
-    is_on : (b : Bool) → is_dead (first_known b) ≡ false → b ≡ true
+    is_on : (b : Bool) → is_unproductive (first_known b) ≡ false → b ≡ true
     is_on true alive = refl
     is_on false alive = absurd (true≢false alive)
 
-    is_closed : (place : ℕ) (b : Bool) → first_known b ≡ Open place → ⊥
-    is_closed place true here = cc
-    is_closed place false here = cc
+    is_closed : (index : ℕ) (b : Bool) → first_known b ≡ Open index → ⊥
+    is_closed index true here = cc
+    is_closed index false here = cc
 
-    is_told : (answer : Result (Option ℕ) CostError) (b : Bool) → first_known b ≡ Told answer → (b ≡ false) × (Err NoSentence ≡ answer)
-    is_told answer true told = absurd (cc)
-    is_told answer false told = (refl, (cc))
+    is_settled : (answer : Result (Option ℕ) CostError) (b : Bool) → first_known b ≡ Settled answer → (b ≡ false) × (Err NoSentence ≡ answer)
+    is_settled answer true settled = absurd (cc)
+    is_settled answer false settled = (refl, (cc))
 
 -- the rules from the start of the group up to an index got this result
-pub record TellsSome (start place : ℕ) (answer : Result (Option ℕ) CostError) (old new : Walk) : Type 0 where
+pub record SettlesSome (start index : ℕ) (answer : Result (Option ℕ) CostError) (old new : Walk) : Type 0 where
   pub rest : new ≡ record old { known = new.known }
   pub len : length new.known.items ≡ length old.known.items
   pub each : (r : ℕ) → (known_of new.known.items r ≡ known_of old.known.items r)
-      ⊎ ((known_of new.known.items r ≡ Told answer) × (i : ℕ) × (start ≤ i) × (i < place) × (get_or old.path.items i 0 ≡ r))
-  pub told : (i : ℕ) → start ≤ i → i < place → known_of new.known.items (get_or old.path.items i 0) ≡ Told answer
+      ⊎ ((known_of new.known.items r ≡ Settled answer) × (i : ℕ) × (start ≤ i) × (i < index) × (get_or old.path.items i 0 ≡ r))
+  pub settled : (i : ℕ) → start ≤ i → i < index → known_of new.known.items (get_or old.path.items i 0) ≡ Settled answer
   pub fewer : sum_by count_new new.known.items ≤ sum_by count_new old.known.items
 
 -- a rule that was not entered begins a group at the end of the path
@@ -155,20 +155,20 @@ pub entered : (g : Grammar) (rule : ℕ) (old new : Walk) → IsWalk g old → I
 entered g rule old new walk out fresh known path starts edges = record {
   walk = record {
     grammar = walk.grammar;
-    rules = ap length known ∙ length-set old.known.items rule (Open place) ∙ walk.rules;
-    lives = λ r alive. elim (at r) [
-      | inl e ↦ walk.lives r (ap is_dead (sym e) ∙ alive)
+    rules = ap length known ∙ length-set old.known.items rule (Open index) ∙ walk.rules;
+    have_words = λ r alive. elim (at r) [
+      | inl e ↦ walk.have_words r (ap is_unproductive (sym e) ∙ alive)
       | inr h ↦ subst (λ q. HasWord (HasProduction g) (Rule q ∷ [])) (sym h.0) out.word
     ];
-    places = λ r p here. subst (λ l. (p < length l) × (get_or l p 0 ≡ r)) (sym path) (elim (at r) [
-      | inl e ↦ let h = walk.places r p (sym e ∙ here) in
+    positions = λ r p here. subst (λ l. (p < length l) × (get_or l p 0 ≡ r)) (sym path) (elim (at r) [
+      | inl e ↦ let h = walk.positions r p (sym e ∙ here) in
           (let lt = h.0 in omega (arith, lt, length_push old.path.items rule), get_or_append_left old.path.items (rule ∷ []) 0 p h.0 ∙ h.1)
       | inr h ↦
-          let both : Open place ≡ Open p = sym h.1 ∙ here in
-          let same : place ≡ p = cc in
+          let both : Open index ≡ Open p = sym h.1 ∙ here in
+          let same : index ≡ p = cc in
           (omega (arith, same, length_push old.path.items rule), get_or_push old.path.items rule 0 p same ∙ sym h.0)
     ]);
-    path = λ i lt. elim (cases_lt i place) [
+    path = λ i lt. elim (cases_lt i index) [
       | inl before ↦
           let h = walk.path i before in
           let here = ap (λ l. get_or l i 0) path ∙ get_or_append_left old.path.items (rule ∷ []) 0 i before in
@@ -180,7 +180,7 @@ entered g rule old new walk out fresh known path starts edges = record {
             ],
           )
       | inr past ↦
-          let last : i ≡ place = omega (arith, past, lt, ap length path, length_push old.path.items rule) in
+          let last : i ≡ index = omega (arith, past, lt, ap length path, length_push old.path.items rule) in
           let here = ap (λ l. get_or l i 0) path ∙ get_or_push old.path.items rule 0 i (sym last) in
           subst (λ r. (r < g.rules) × (known_of new.known.items r ≡ Open i)) (sym here) (out.rule, put ∙ ap Open (sym last))
     ];
@@ -188,18 +188,18 @@ entered g rule old new walk out fresh known path starts edges = record {
         (groups_more (IsAbove (HasProduction g)) old.path.items old.starts.items walk.groups rule (above_same g rule) out.above));
     edges = edges;
   };
-  told = λ r answer told. elim (at r) [
-    | inl e ↦ sym e ∙ told
-    | inr h ↦ let no : Open place ≡ Told answer = sym h.1 ∙ told in absurd (cc)
+  settled = λ r answer settled. elim (at r) [
+    | inl e ↦ sym e ∙ settled
+    | inr h ↦ let no : Open index ≡ Settled answer = sym h.1 ∙ settled in absurd (cc)
   ];
   less =
-      let sum = sum_by-set count_new old.known.items rule (Open place) no_rule within in
+      let sum = sum_by-set count_new old.known.items rule (Open index) no_rule within in
       let was : count_new (known_of old.known.items rule) ≡ 1 = ap count_new fresh in
-      omega (arith, sum, was, ap (sum_by count_new) known, ap length starts, length_push old.starts.items place);
+      omega (arith, sum, was, ap (sum_by count_new) known, ap length starts, length_push old.starts.items index);
 }
   where
-    place : ℕ
-    place = length old.path.items
+    index : ℕ
+    index = length old.path.items
 
     within : rule < length old.known.items
     within = let lt = out.rule in let rules = walk.rules in omega (arith, lt, rules)
@@ -214,141 +214,141 @@ entered g rule old new walk out fresh known path starts edges = record {
     ]
 
 -- a rule outside the last group, to which a rule of that group leads
-outside_untold : (start : ℕ) (k : Known) → is_outside start k ≡ true → (is_dead k ≡ false) × ((place : ℕ) → k ≡ Open place → place < start)
-    × ((answer : Result (Option ℕ) CostError) → k ≡ Told answer → ⊥)
-outside_untold start New e = (refl, (λ place h. absurd (cc)), (λ answer h. cc))
-outside_untold start (Open p) e = (refl, (λ place h. let same : p ≡ place = cc in subst (λ n. n < start) same (ltb-true p start e)), (λ answer h. cc))
-outside_untold start (Told a) e = absurd (true≢false (sym e))
+outside_unsettled : (start : ℕ) (k : Known) → is_outside start k ≡ true → (is_unproductive k ≡ false) × ((index : ℕ) → k ≡ Open index → index < start)
+    × ((answer : Result (Option ℕ) CostError) → k ≡ Settled answer → ⊥)
+outside_unsettled start New e = (refl, (λ index h. absurd (cc)), (λ answer h. cc))
+outside_unsettled start (Open p) e = (refl, (λ index h. let same : p ≡ index = cc in subst (λ n. n < start) same (ltb-true p start e)), (λ answer h. cc))
+outside_unsettled start (Settled a) e = absurd (true≢false (sym e))
 
-pub way_out : (g : Grammar) (x : Walk) (start place r : ℕ) → IsWalk g x → IsLast x.starts.items start → start ≤ place → place < length x.path.items
-    → r < g.rules → is_outside start (known_of x.known.items r) ≡ true → IsAbove (HasProduction g) (get_or x.path.items place 0) r → IsWayOut g x r
-way_out g x start place r walk last le lt within outside above =
-    let h = outside_untold start (known_of x.known.items r) outside in record {
+pub way_out : (g : Grammar) (x : Walk) (start index r : ℕ) → IsWalk g x → IsLast x.starts.items start → start ≤ index → index < length x.path.items
+    → r < g.rules → is_outside start (known_of x.known.items r) ≡ true → IsAbove (HasProduction g) (get_or x.path.items index 0) r → IsWayOut g x r
+way_out g x start index r walk last le lt within outside above =
+    let h = outside_unsettled start (known_of x.known.items r) outside in record {
       rule = within;
-      word = walk.lives r h.0;
-      above = above_all (IsAbove (HasProduction g)) x.path.items x.starts.items walk.groups (above_then g) start last place r le lt above;
+      word = walk.have_words r h.0;
+      above = above_all (IsAbove (HasProduction g)) x.path.items x.starts.items walk.groups (above_then g) start last index r le lt above;
       before = λ p s e last'. let at = last.at in let at' = last'.at in let below = h.1 p e in omega (arith, at, at', below);
-      untold = h.2;
+      unsettled = h.2;
     }
 
-inside_place : (start : ℕ) (k : Known) → is_inside start k ≡ true → (place : ℕ) × (k ≡ Open place) × (start ≤ place)
-inside_place start New e = absurd (true≢false (sym e))
-inside_place start (Open p) e = (p, refl, leb-true start p e)
-inside_place start (Told a) e = absurd (true≢false (sym e))
+inside_position : (start : ℕ) (k : Known) → is_inside start k ≡ true → (index : ℕ) × (k ≡ Open index) × (start ≤ index)
+inside_position start New e = absurd (true≢false (sym e))
+inside_position start (Open p) e = (p, refl, leb-true start p e)
+inside_position start (Settled a) e = absurd (true≢false (sym e))
 
 pub led_out : (g : Grammar) (x : Walk) (start r : ℕ) → IsWalk g x → IsLast x.starts.items start → IsLedOut g start x.known.items r → IsWayOut g x r
 led_out g x start r walk last led =
-    let h = inside_place start (known_of x.known.items led.from) led.inside in
-    let at = walk.places led.from h.0 h.1 in
+    let h = inside_position start (known_of x.known.items led.from) led.inside in
+    let at = walk.positions led.from h.0 h.1 in
     way_out g x start h.0 r walk last h.2 at.0 led.rule led.outside (subst (λ q. IsAbove (HasProduction g) q r) (sym at.1) led.above)
 
 -- if the path is empty, any rule that has no result
 pub root_out : (g : Grammar) (x : Walk) (r : ℕ) → IsWalk g x → length x.starts.items ≡ 0 → r < g.rules
-    → ((answer : Result (Option ℕ) CostError) → known_of x.known.items r ≡ Told answer → ⊥) → IsWayOut g x r
-root_out g x r walk none within untold = record {
+    → ((answer : Result (Option ℕ) CostError) → known_of x.known.items r ≡ Settled answer → ⊥) → IsWayOut g x r
+root_out g x r walk none within unsettled = record {
   rule = within;
-  word = walk.lives r (alive (known_of x.known.items r) refl);
+  word = walk.have_words r (alive (known_of x.known.items r) refl);
   above = λ i lt. let some = walk.groups.some (omega (arith, lt)) in absurd (omega (arith, some, none));
   before = λ p s e last. let some = last.some in absurd (omega (arith, some, none));
-  untold = untold;
+  unsettled = unsettled;
 }
   where
-    alive : (k : Known) → known_of x.known.items r ≡ k → is_dead k ≡ false
+    alive : (k : Known) → known_of x.known.items r ≡ k → is_unproductive k ≡ false
     alive New e = refl
     alive (Open p) e = refl
-    alive (Told a) e = absurd (untold a e)
+    alive (Settled a) e = absurd (unsettled a e)
 
 -- the last group is a group
 pub last_group : (g : Grammar) (cost : ℕ → ℕ) (x : Walk) (start : ℕ) → IsWalk g x → AreTrue g cost x.known.items → IsLast x.starts.items start
     → IsGroup g cost x.known.items x.path.items start
 last_group g cost x start walk so last = record {
   so = so;
-  lives = walk.lives;
-  places = walk.places;
-  members = λ i le lt. let h = walk.path i lt in (h.1, walk.lives _ (ap is_dead h.1));
+  have_words = walk.have_words;
+  positions = walk.positions;
+  members = λ i le lt. let h = walk.path i lt in (h.1, walk.have_words _ (ap is_unproductive h.1));
   above = λ i j le lt le' lt'. walk.groups.chain i j lt lt' (λ k among _. let below = below_last (IsAbove (HasProduction g)) x.path.items x.starts.items walk.groups start last k among in omega (arith, below, le'));
 }
 
 pub start_within : (g : Grammar) (x : Walk) (start : ℕ) → IsWalk g x → IsLast x.starts.items start → start < length x.path.items
 start_within g x start walk last = let some = last.some in let at = last.at in let h = walk.groups.within (length x.starts.items - 1) (omega (arith, some)) in omega (arith, h, at)
 
-pub true_still : (g : Grammar) (cost : ℕ → ℕ) (old new : Walk) → TellsNoMore old new → AreTrue g cost old.known.items → AreTrue g cost new.known.items
-true_still g cost old new no_more so r answer told = so r answer (no_more r answer told)
+pub true_still : (g : Grammar) (cost : ℕ → ℕ) (old new : Walk) → SettlesNoMore old new → AreTrue g cost old.known.items → AreTrue g cost new.known.items
+true_still g cost old new no_more so r answer settled = so r answer (no_more r answer settled)
 
 -- one more rule got this result
-pub tells_none : (start : ℕ) (answer : Result (Option ℕ) CostError) (x : Walk) → TellsSome start start answer x x
-tells_none start answer x = record {
+pub settles_none : (start : ℕ) (answer : Result (Option ℕ) CostError) (x : Walk) → SettlesSome start start answer x x
+settles_none start answer x = record {
   rest = refl;
   len = refl;
   each = λ r. inl refl;
-  told = λ i le lt. absurd (omega (arith, le, lt));
+  settled = λ i le lt. absurd (omega (arith, le, lt));
   fewer = omega arith;
 }
 
-pub tells_more : (start place : ℕ) (answer : Result (Option ℕ) CostError) (old mid new : Walk) → start ≤ place → TellsSome start place answer old mid
-    → (rule : ℕ) → rule ≡ get_or old.path.items place 0 → rule < length mid.known.items → new ≡ record mid { known = new.known }
-    → new.known.items ≡ slice_set mid.known.items rule (Told answer) → TellsSome start (place + 1) answer old new
-tells_more start place answer old mid new le t rule at within rest known = record {
+pub settles_more : (start index : ℕ) (answer : Result (Option ℕ) CostError) (old mid new : Walk) → start ≤ index → SettlesSome start index answer old mid
+    → (rule : ℕ) → rule ≡ get_or old.path.items index 0 → rule < length mid.known.items → new ≡ record mid { known = new.known }
+    → new.known.items ≡ slice_set mid.known.items rule (Settled answer) → SettlesSome start (index + 1) answer old new
+settles_more start index answer old mid new le t rule at within rest known = record {
   rest = rest ∙ ap (λ (x : Walk). record x { known = new.known }) t.rest;
-  len = ap length known ∙ length-set mid.known.items rule (Told answer) ∙ t.len;
+  len = ap length known ∙ length-set mid.known.items rule (Settled answer) ∙ t.len;
   each = λ r. elim (now r) [
     | inl e ↦ elim (t.each r) [
       | inl h ↦ inl (e ∙ h)
       | inr h ↦ inr (e ∙ h.0, h.1, h.2, let lt = h.3 in omega (arith, lt), h.4)
     ]
-    | inr h ↦ inr (h.1, place, le, omega arith, sym at ∙ sym h.0)
+    | inr h ↦ inr (h.1, index, le, omega arith, sym at ∙ sym h.0)
   ];
-  told = λ i le' lt. elim (now (get_or old.path.items i 0)) [
+  settled = λ i le' lt. elim (now (get_or old.path.items i 0)) [
     | inr h ↦ h.1
-    | inl e ↦ elim (cases_lt i place) [
-      | inl before ↦ e ∙ t.told i le' before
+    | inl e ↦ elim (cases_lt i index) [
+      | inl before ↦ e ∙ t.settled i le' before
       | inr past ↦
-          let same : i ≡ place = omega (arith, past, lt) in
+          let same : i ≡ index = omega (arith, past, lt) in
           let here : get_or old.path.items i 0 ≡ rule = ap (λ n. get_or old.path.items n 0) same ∙ sym at in
-          ap (known_of new.known.items) here ∙ ap (λ l. known_of l rule) known ∙ get_or-set_same mid.known.items rule (Told answer) no_rule within
+          ap (known_of new.known.items) here ∙ ap (λ l. known_of l rule) known ∙ get_or-set_same mid.known.items rule (Settled answer) no_rule within
     ]
   ];
   fewer =
-      let sum = sum_by-set count_new mid.known.items rule (Told answer) no_rule within in
+      let sum = sum_by-set count_new mid.known.items rule (Settled answer) no_rule within in
       let fewer = t.fewer in
       omega (arith, sum, fewer, ap (sum_by count_new) known);
 }
   where
-    now : (r : ℕ) → (known_of new.known.items r ≡ known_of mid.known.items r) ⊎ ((r ≡ rule) × (known_of new.known.items r ≡ Told answer))
-    now r = elim (get_or-set mid.known.items rule r (Told answer) no_rule) [
+    now : (r : ℕ) → (known_of new.known.items r ≡ known_of mid.known.items r) ⊎ ((r ≡ rule) × (known_of new.known.items r ≡ Settled answer))
+    now r = elim (get_or-set mid.known.items rule r (Settled answer) no_rule) [
       | inl e ↦ inl (ap (λ l. known_of l r) known ∙ e)
       | inr h ↦ inr (h.0, ap (λ l. known_of l r) known ∙ h.1)
     ]
 
 -- the whole last group got this result, and left the path
-pub told_walk : (g : Grammar) (cost : ℕ → ℕ) (start place : ℕ) (answer : Result (Option ℕ) CostError) (old mid new : Walk) → IsWalk g old → IsLast old.starts.items start
-    → CanTell g cost old start answer → TellsSome start place answer old mid → place ≡ length old.path.items → new.known ≡ mid.known → new.edges ≡ mid.edges
+pub settled_walk : (g : Grammar) (cost : ℕ → ℕ) (start index : ℕ) (answer : Result (Option ℕ) CostError) (old mid new : Walk) → IsWalk g old → IsLast old.starts.items start
+    → CanSettle g cost old start answer → SettlesSome start index answer old mid → index ≡ length old.path.items → new.known ≡ mid.known → new.edges ≡ mid.edges
     → new.path.items ≡ take start mid.path.items → new.starts.items ≡ take (length mid.starts.items - 1) mid.starts.items
     → Steps g cost old new
-told_walk g cost start place answer old mid new walk last can t past known edges path starts = record {
+settled_walk g cost start index answer old mid new walk last can t past known edges path starts = record {
   walk = record {
     grammar = walk.grammar;
     rules = ap length all ∙ t.len ∙ walk.rules;
-    lives = λ r alive. elim (now r) [
-      | inl e ↦ walk.lives r (ap is_dead (sym e) ∙ alive)
-      | inr h ↦ let m = walk.path h.1 (h.3) in subst (λ q. HasWord (HasProduction g) (Rule q ∷ [])) h.4 (walk.lives _ (ap is_dead m.1))
+    have_words = λ r alive. elim (now r) [
+      | inl e ↦ walk.have_words r (ap is_unproductive (sym e) ∙ alive)
+      | inr h ↦ let m = walk.path h.1 (h.3) in subst (λ q. HasWord (HasProduction g) (Rule q ∷ [])) h.4 (walk.have_words _ (ap is_unproductive m.1))
     ];
-    places = λ r p here. elim (now r) [
+    positions = λ r p here. elim (now r) [
       | inl e ↦
-          let h = walk.places r p (sym e ∙ here) in
+          let h = walk.positions r p (sym e ∙ here) in
           elim (cases_lt p start) [
-            | inl before ↦ subst (λ l. (p < length l) × (get_or l p 0 ≡ r)) (sym front)
+            | inl before ↦ subst (λ l. (p < length l) × (get_or l p 0 ≡ r)) (sym prefix)
                 (omega (arith, before, len), get_or-take start old.path.items p 0 before ∙ h.1)
-            | inr behind ↦
-                let told : Open p ≡ Told answer = sym here ∙ ap (known_of new.known.items) (sym h.1) ∙ ap (λ l. known_of l (get_or old.path.items p 0)) all
-                ∙ t.told p behind (let lt = h.0 in omega (arith, lt, past)) in absurd (cc)
+            | inr after ↦
+                let settled : Open p ≡ Settled answer = sym here ∙ ap (known_of new.known.items) (sym h.1) ∙ ap (λ l. known_of l (get_or old.path.items p 0)) all
+                ∙ t.settled p after (let lt = h.0 in omega (arith, lt, past)) in absurd (cc)
           ]
-      | inr h ↦ let no : Told answer ≡ Open p = sym h.0 ∙ here in absurd (cc)
+      | inr h ↦ let no : Settled answer ≡ Open p = sym h.0 ∙ here in absurd (cc)
     ];
     path = λ i lt.
-        let before : i < start = omega (arith, lt, ap length front, len) in
+        let before : i < start = omega (arith, lt, ap length prefix, len) in
         let h = walk.path i (omega (arith, before, within)) in
-        let here = ap (λ l. get_or l i 0) front ∙ get_or-take start old.path.items i 0 before in
+        let here = ap (λ l. get_or l i 0) prefix ∙ get_or-take start old.path.items i 0 before in
         subst (λ r. (r < g.rules) × (known_of new.known.items r ≡ Open i)) (sym here) (
           h.0,
           elim (now (get_or old.path.items i 0)) [
@@ -359,14 +359,14 @@ told_walk g cost start place answer old mid new walk last can t past known edges
                 let le = k.2 in absurd (omega (arith, before, same, le))
           ],
         );
-    groups = subst (λ l. AreGroups (IsAbove (HasProduction g)) l new.starts.items) (sym front) (subst (AreGroups (IsAbove (HasProduction g)) (take start old.path.items)) (sym fewer)
+    groups = subst (λ l. AreGroups (IsAbove (HasProduction g)) l new.starts.items) (sym prefix) (subst (AreGroups (IsAbove (HasProduction g)) (take start old.path.items)) (sym fewer)
         (groups_fewer (IsAbove (HasProduction g)) old.path.items old.starts.items walk.groups start last));
     edges = subst (λ v. All (IsEdge g) v.items) (sym (edges ∙ ap (λ (x : Walk). x.edges) t.rest)) walk.edges;
   };
-  so = λ r a told. elim (now r) [
-    | inl e ↦ can.so r a (sym e ∙ told)
+  so = λ r a settled. elim (now r) [
+    | inl e ↦ can.so r a (sym e ∙ settled)
     | inr h ↦
-        let both : Told answer ≡ Told a = sym h.0 ∙ told in
+        let both : Settled answer ≡ Settled a = sym h.0 ∙ settled in
         let same : answer ≡ a = cc in
         subst (Means (HasProduction g) cost r) same (subst (λ q. Means (HasProduction g) cost q answer) h.4 (can.means h.1 h.2 h.3))
   ];
@@ -379,8 +379,8 @@ told_walk g cost start place answer old mid new walk last can t past known edges
     all : new.known.items ≡ mid.known.items
     all = ap (λ v. v.items) known
 
-    front : new.path.items ≡ take start old.path.items
-    front = path ∙ ap (λ (x : Walk). take start x.path.items) t.rest
+    prefix : new.path.items ≡ take start old.path.items
+    prefix = path ∙ ap (λ (x : Walk). take start x.path.items) t.rest
 
     fewer : new.starts.items ≡ take (length old.starts.items - 1) old.starts.items
     fewer = starts ∙ ap (λ (x : Walk). take (length x.starts.items - 1) x.starts.items) t.rest
@@ -392,7 +392,7 @@ told_walk g cost start place answer old mid new walk last can t past known edges
     len = length-take-le start old.path.items (omega (arith, within))
 
     now : (r : ℕ) → (known_of new.known.items r ≡ known_of old.known.items r)
-        ⊎ ((known_of new.known.items r ≡ Told answer) × (i : ℕ) × (start ≤ i) × (i < length old.path.items) × (get_or old.path.items i 0 ≡ r))
+        ⊎ ((known_of new.known.items r ≡ Settled answer) × (i : ℕ) × (start ≤ i) × (i < length old.path.items) × (get_or old.path.items i 0 ≡ r))
     now r = elim (t.each r) [
       | inl e ↦ inl (ap (λ l. known_of l r) all ∙ e)
       | inr h ↦ inr (ap (λ l. known_of l r) all ∙ h.0, h.1, h.2, (let lt = h.3 in omega (arith, lt, past)), h.4)
@@ -403,6 +403,6 @@ pub steps_on : (g : Grammar) (cost : ℕ → ℕ) (old mid new : Walk) → AreTr
     → GoesOn g mid new → Steps g cost old new
 steps_on g cost old mid new so rest goes = record {
   walk = goes.walk;
-  so = true_still g cost mid new goes.told (subst (λ (x : Walk). AreTrue g cost x.known.items) (sym rest) so);
+  so = true_still g cost mid new goes.settled (subst (λ (x : Walk). AreTrue g cost x.known.items) (sym rest) so);
   less = let less = goes.less in omega (arith, less, ap left_to_do rest);
 }

@@ -15,8 +15,8 @@ Means P cost r (Ok (Some c)) = Greatest P cost r c × (c ≤ 65535)
 Means P cost r (Err CostTooLarge) = (n : ℕ) × Greatest P cost r n × (65535 < n)
 
 -- the result for each rule of a grammar is true, and it is `None` exactly if the rule meets a growing cycle
-pub record AreTold (g : Grammar) (cost : ℕ → ℕ) (answers : List (Result (Option ℕ) CostError)) : Type 0 where
-  pub rules : length answers ≡ g.rules
-  pub means : (r : ℕ) → r < g.rules → Means (HasProduction g) cost r (slice_index_or answers r (Err NoSentence))
+pub record AreGreatestCosts (g : Grammar) (cost : ℕ → ℕ) (results : List (Result (Option ℕ) CostError)) : Type 0 where
+  pub rules : length results ≡ g.rules
+  pub means : (r : ℕ) → r < g.rules → Means (HasProduction g) cost r (slice_index_or results r (Err NoSentence))
   pub cycles : (r : ℕ) → r < g.rules
-      → (slice_index_or answers r (Err NoSentence) ≡ Ok None) ↔ MeetsGrowingCycle (HasProduction g) cost r
+      → (slice_index_or results r (Err NoSentence) ≡ Ok None) ↔ MeetsGrowingCycle (HasProduction g) cost r

@@ -1,9 +1,9 @@
 //! The greatest cost of each rule's sentences.
 
 ghost use Rattle.std.specs.Prelude.{◌≡◌, ◌≤◌, All, IfOk, length, slice_index};
-ghost use Rattle.cfggreatest.specs.GreatestCosts.{AreTold};
+ghost use Rattle.cfggreatest.specs.GreatestCosts.{AreGreatestCosts};
 
-use crate::live::Live;
+use crate::productive::Productive;
 use crate::walk::Walk;
 use cfgindex::Storage;
 use cfgtables::Tables;
@@ -27,14 +27,14 @@ pub fn greatest_costs<S: Storage, T: Tables<S>>(
 ) -> Result<Vec<Result<Option<u16>, CostError>>, AllocError>
     requires costs { length costs.now ≡ (T.grammar grm.now).tokens }
     requires positive { All (λ c. 1 ≤ c) costs.now }
-    ensures { IfOk result (λ x. AreTold (T.grammar grm.now) (slice_index costs.now) x.items) }
+    ensures { IfOk result (λ x. AreGreatestCosts (T.grammar grm.now) (slice_index costs.now) x.items) }
 {
-    let live = Live::new(alloc, grm)?;
+    let productive = Productive::new(alloc, grm)?;
     let rules_len = grm.rules_len().0.to_usize();
-    let mut walk = Walk::new(alloc, &live, rules_len)?;
-    let mut answers = Vec::new(alloc);
+    let mut walk = Walk::new(alloc, &productive, rules_len)?;
+    let mut results = Vec::new(alloc);
     for rule in 0..rules_len {
-        answers.push(walk.answer(grm, costs, rule)?)?;
+        results.push(walk.answer(grm, costs, rule)?)?;
     }
-    Ok(answers)
+    Ok(results)
 }

@@ -3,7 +3,7 @@
 
 pub mod greatest;
 pub mod laws;
-mod live;
+mod productive;
 mod sums;
 mod walk;
 

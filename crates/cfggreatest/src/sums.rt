@@ -8,10 +8,10 @@ ghost use Rattle.std.specs.Prelude.{slice_index};
 ghost use Rattle.derivation.specs.Grammar.{HasProduction};
 ghost use Rattle.cfgtables.specs.NumberedSymbols.{sym_of};
 ghost use Rattle.derivation.specs.CostLists.{IsListed};
-ghost use Rattle.cfggreatest.specs.Inner.Known.{IsLiveSymbol, group_answer, is_dead, known_of, read_answer};
+ghost use Rattle.cfggreatest.specs.Inner.Known.{IsProductiveSymbol, group_answer, is_unproductive, known_of, read_answer};
 ghost use Rattle.cfggreatest.specs.Inner.Known.{read_known, read_symbol};
 ghost use Rattle.cfggreatest.specs.Inner.Sums.{AreNoLess, AreReached, AreUnder, IsGroup, IsStopped, IsSum, StopsAt};
-ghost use Rattle.cfggreatest.specs.Inner.Sums.{StopsRow, TakesRow};
+ghost use Rattle.cfggreatest.specs.Inner.Sums.{StopsSequence, TakesSequence};
 
 use cfgindex::{RIdx, Storage, Symbol, to_storage};
 use cfgtables::Tables;
@@ -28,7 +28,7 @@ pub(crate) enum Known {
     /// It is on the path, at this index.
     Open(usize),
     /// Its result.
-    Told(Result<Option<u16>, CostError>),
+    Settled(Result<Option<u16>, CostError>),
 }
 
 /// Why the sum of a group was stopped.
@@ -42,7 +42,7 @@ pub(crate) enum Stop {
 
 /// What a list of symbols costs.
 #[derive(Drop)]
-struct RowSum {
+struct SequenceSum {
     /// What the symbols outside the group cost, cut down.
     outer: u32,
     /// How many symbols are rules of the group.
@@ -84,32 +84,32 @@ impl Sums {
 }
 
 /// Whether the rule's result is that it is unproductive.
-fn is_dead(known: Known) -> bool
-    ensures { result ≡ is_dead known }
+fn is_unproductive(known: Known) -> bool
+    ensures { result ≡ is_unproductive known }
 {
-    matches!(known, Known::Told(Err(CostError::NoSentence)))
+    matches!(known, Known::Settled(Err(CostError::NoSentence)))
 }
 
 /// Whether a symbol is a token or a rule that may be productive.
-fn is_live<S: Storage>(known: &[Known], symbol: Symbol<S>) -> bool
+fn is_productive<S: Storage>(known: &[Known], symbol: Symbol<S>) -> bool
     requires { (tokens : ℕ) × IsListed (length known.now) tokens (sym_of S.number symbol) }
-    ensures { MatchBool result (IsLiveSymbol known.now (sym_of S.number symbol))
-        (IsLiveSymbol known.now (sym_of S.number symbol) → ⊥) }
+    ensures { MatchBool result (IsProductiveSymbol known.now (sym_of S.number symbol))
+        (IsProductiveSymbol known.now (sym_of S.number symbol) → ⊥) }
 {
     match symbol {
-        Symbol::Rule(rule) => !is_dead(known[usize::from(rule)]),
+        Symbol::Rule(rule) => !is_unproductive(known[usize::from(rule)]),
         Symbol::Token(_) => true,
     }
 }
 
 /// Whether each rule among the symbols may be productive.
-pub(crate) fn are_live<S: Storage>(known: &[Known], symbols: &[Symbol<S>]) -> bool
+pub(crate) fn are_productive<S: Storage>(known: &[Known], symbols: &[Symbol<S>]) -> bool
     requires { (tokens : ℕ) × All (IsListed (length known.now) tokens) (map (sym_of S.number) symbols.now) }
-    ensures { MatchBool result (All (IsLiveSymbol known.now) (map (sym_of S.number) symbols.now))
-        (All (IsLiveSymbol known.now) (map (sym_of S.number) symbols.now) → ⊥) }
+    ensures { MatchBool result (All (IsProductiveSymbol known.now) (map (sym_of S.number) symbols.now))
+        (All (IsProductiveSymbol known.now) (map (sym_of S.number) symbols.now) → ⊥) }
 {
     for symbol in symbols {
-        if !is_live(known, *symbol) {
+        if !is_productive(known, *symbol) {
             return false;
         }
     }
@@ -117,7 +117,7 @@ pub(crate) fn are_live<S: Storage>(known: &[Known], symbols: &[Symbol<S>]) -> bo
 }
 
 /// What a rule with this result adds to a sum, cut down.
-fn told_cost(answer: Result<Option<u16>, CostError>) -> Result<Option<u32>, Stop>
+fn settled_cost(answer: Result<Option<u16>, CostError>) -> Result<Option<u32>, Stop>
     ensures { result ≡ read_answer answer }
 {
     match answer {
@@ -134,9 +134,9 @@ fn rule_cost(known: &[Known], start: usize, rule: usize) -> Result<Option<u32>, 
 {
     match known[rule] {
         Known::New => Err(Stop::Leads(rule)),
-        Known::Open(place) if place < start => Err(Stop::Leads(rule)),
+        Known::Open(index) if index < start => Err(Stop::Leads(rule)),
         Known::Open(_) => Ok(None),
-        Known::Told(answer) => told_cost(answer),
+        Known::Settled(answer) => settled_cost(answer),
     }
 }
 
@@ -164,12 +164,12 @@ fn cut_sum(first: u32, second: u32) -> u32
 }
 
 /// What the symbols cost in total, without the rules of the group that begins at this index.
-fn row_sum<S: Storage>(
+fn sequence_sum<S: Storage>(
     known: &[Known],
     costs: &[u8],
     start: usize,
     symbols: &[Symbol<S>],
-) -> Result<RowSum, Stop>
+) -> Result<SequenceSum, Stop>
     requires { All (IsListed (length known.now) (length costs.now)) (map (sym_of S.number) symbols.now) }
     ensures { MatchResult result
         (λ sum. IsSum (slice_index costs.now) known.now start (map (sym_of S.number) symbols.now) sum.outer sum.inner)
@@ -183,11 +183,11 @@ fn row_sum<S: Storage>(
             None => inner += 1,
         }
     }
-    Ok(RowSum { outer, inner })
+    Ok(SequenceSum { outer, inner })
 }
 
 /// Adds the sum of a production, if it has words.
-fn take_row<S: Storage>(
+fn take_sequence<S: Storage>(
     known: &[Known],
     costs: &[u8],
     start: usize,
@@ -196,18 +196,18 @@ fn take_row<S: Storage>(
 ) -> Result<(), Stop>
     requires { All (IsListed (length known.now) (length costs.now)) (map (sym_of S.number) symbols.now) }
     ensures { MatchResult result
-        (λ _. TakesRow (slice_index costs.now) known.now start (map (sym_of S.number) symbols.now) sums.old sums.new)
-        (StopsRow (slice_index costs.now) known.now start (map (sym_of S.number) symbols.now)) }
+        (λ _. TakesSequence (slice_index costs.now) known.now start (map (sym_of S.number) symbols.now) sums.old sums.new)
+        (StopsSequence (slice_index costs.now) known.now start (map (sym_of S.number) symbols.now)) }
 {
-    if !are_live(known, symbols) {
+    if !are_productive(known, symbols) {
         return Ok(());
     }
-    let row = row_sum(known, costs, start, symbols)?;
-    if row.inner > 0 && row.outer > 0 {
+    let sequence = sequence_sum(known, costs, start, symbols)?;
+    if sequence.inner > 0 && sequence.outer > 0 {
         return Err(Stop::Grows);
     }
-    sums.top = sums.top.max(row.outer);
-    sums.twice = sums.twice || row.inner > 1;
+    sums.top = sums.top.max(sequence.outer);
+    sums.twice = sums.twice || sequence.inner > 1;
     Ok(())
 }
 
@@ -218,27 +218,27 @@ fn take_rule<S: Storage, T: Tables<S>>(
     costs: &[u8],
     path: &[usize],
     start: usize,
-    place: usize,
+    index: usize,
     sums: &mut Sums,
 ) -> Result<(), Stop>
     requires known { length known.now ≡ (T.grammar grm.now).rules }
     requires costs { length costs.now ≡ (T.grammar grm.now).tokens }
     requires group { IsGroup (T.grammar grm.now) (slice_index costs.now) known.now path.now start }
-    requires behind { start ≤ place }
-    requires within { place < length path.now }
+    requires after { start ≤ index }
+    requires within { index < length path.now }
     requires reached { AreReached (HasProduction (T.grammar grm.now)) (slice_index costs.now) path.now start sums.old }
     ensures reached { OnOk result
         (AreReached (HasProduction (T.grammar grm.now)) (slice_index costs.now) path.now start sums.new) }
     ensures under { OnOk result (AreUnder (HasProduction (T.grammar grm.now)) (slice_index costs.now) path.now start
-        known.now (slice_index path.now place) sums.new) }
+        known.now (slice_index path.now index) sums.new) }
     ensures more { OnOk result (AreNoLess sums.old sums.new) }
     ensures stopped { IfErr result (IsStopped (HasProduction (T.grammar grm.now)) (slice_index costs.now) path.now start
         (T.grammar grm.now).rules known.now) }
 {
     grm.invariant_holds();
-    let places = grm.rule_to_prods(RIdx(to_storage(path[place])));
-    for p in places {
-        take_row(known, costs, start, grm.prod(*p), sums)?;
+    let positions = grm.rule_to_prods(RIdx(to_storage(path[index])));
+    for p in positions {
+        take_sequence(known, costs, start, grm.prod(*p), sums)?;
     }
     Ok(())
 }
@@ -262,8 +262,8 @@ pub(crate) fn group_sums<S: Storage, T: Tables<S>>(
         (T.grammar grm.now).rules known.now) }
 {
     let mut sums = Sums::new();
-    for place in start..path.len() {
-        take_rule(grm, known, costs, path, start, place, &mut sums)?;
+    for index in start..path.len() {
+        take_rule(grm, known, costs, path, start, index, &mut sums)?;
     }
     Ok(sums)
 }

@@ -9,14 +9,14 @@ ghost use Rattle.derivation.specs.Grammar.{Grammar, HasProduction, IsGrammar, Ru
 ghost use Rattle.cfgtables.specs.NumberedSymbols.{sym_of};
 ghost use Rattle.cfggreatest.specs.GreatestCosts.{Means};
 ghost use Rattle.cfggreatest.specs.Inner.Groups.{IsLast};
-ghost use Rattle.cfggreatest.specs.Inner.Known.{AreTrue, is_dead, is_inside, is_outside, known_of};
+ghost use Rattle.cfggreatest.specs.Inner.Known.{AreTrue, is_unproductive, is_inside, is_outside, known_of};
 ghost use Rattle.cfggreatest.specs.Inner.AtLeast.{HasWord};
-ghost use Rattle.cfggreatest.specs.Inner.Live.{HaveSentences};
-ghost use Rattle.cfggreatest.specs.Inner.Walk.{CanTell, GoesOn, IsEdge, IsEdgeTo, IsLedOut, IsWalk};
+ghost use Rattle.cfggreatest.specs.Inner.Productive.{HaveSentences};
+ghost use Rattle.cfggreatest.specs.Inner.Walk.{CanSettle, GoesOn, IsEdge, IsEdgeTo, IsLedOut, IsWalk};
 ghost use Rattle.cfggreatest.specs.Inner.Walk.{IsWayOut, Steps, first_known};
 
-use crate::live::Live;
-use crate::sums::{Known, Stop, are_live, group_sums};
+use crate::productive::Productive;
+use crate::sums::{Known, Stop, are_productive, group_sums};
 use cfgindex::{RIdx, Storage, Symbol, to_storage};
 use cfgtables::Tables;
 use derivation::CostError;
@@ -36,13 +36,13 @@ pub(crate) struct Walk {
 }
 
 /// What is known of a rule before the search.
-fn first_known(live: bool) -> Known
-    ensures { result ≡ first_known live }
+fn first_known(productive: bool) -> Known
+    ensures { result ≡ first_known productive }
 {
-    if live {
+    if productive {
         Known::New
     } else {
-        Known::Told(Err(CostError::NoSentence))
+        Known::Settled(Err(CostError::NoSentence))
     }
 }
 
@@ -79,16 +79,16 @@ fn push_edges<S: Storage, T: Tables<S>>(
     edges: &mut Vec<(usize, usize)>,
 ) -> Result<(), AllocError>
     requires known { length known.now ≡ (T.grammar grm.now).rules }
-    requires lives { (r : ℕ) → is_dead (known_of known.now r) ≡ false → HasWord (HasProduction (T.grammar grm.now)) (Rule r ∷ []) }
+    requires have_words { (r : ℕ) → is_unproductive (known_of known.now r) ≡ false → HasWord (HasProduction (T.grammar grm.now)) (Rule r ∷ []) }
     requires rule { rule < (T.grammar grm.now).rules }
     requires edges { All (IsEdge (T.grammar grm.now)) edges.old.items }
     ensures { OnOk result (All (IsEdge (T.grammar grm.now)) edges.new.items) }
 {
     grm.invariant_holds();
-    let places = grm.rule_to_prods(RIdx(to_storage(rule)));
-    for p in places {
+    let positions = grm.rule_to_prods(RIdx(to_storage(rule)));
+    for p in positions {
         let symbols = grm.prod(*p);
-        if are_live(known, symbols) {
+        if are_productive(known, symbols) {
             push_symbols(edges, rule, symbols)?;
         }
     }
@@ -101,13 +101,17 @@ impl Walk {
     /// # Errors
     ///
     /// Out of memory.
-    pub(crate) fn new(alloc: Global, live: &Live, rules: usize) -> Result<Self, AllocError>
-        ensures { IfOk result (λ x. (g : Grammar) → IsGrammar g → rules ≡ g.rules → HaveSentences g live.now
+    pub(crate) fn new(
+        alloc: Global,
+        productive: &Productive,
+        rules: usize,
+    ) -> Result<Self, AllocError>
+        ensures { IfOk result (λ x. (g : Grammar) → IsGrammar g → rules ≡ g.rules → HaveSentences g productive.now
             → IsWalk g x × ((cost : ℕ → ℕ) → AreTrue g cost x.known.items)) }
     {
         let mut known = Vec::new(alloc);
         for rule in 0..rules {
-            known.push(first_known(live.has(rule)))?;
+            known.push(first_known(productive.has(rule)))?;
         }
         Ok(Walk {
             known,
@@ -135,30 +139,30 @@ impl Walk {
         requires fresh { known_of self.old.known.items rule ≡ Known.New }
         ensures { OnOk result (GoesOn (T.grammar grm.now) self.old self.new) }
     {
-        let place = self.path.len();
-        self.known[rule] = Known::Open(place);
+        let index = self.path.len();
+        self.known[rule] = Known::Open(index);
         self.path.push(rule)?;
-        self.starts.push(place)?;
+        self.starts.push(index)?;
         push_edges(grm, &self.known, rule, &mut self.edges)
     }
 
     /// Whether a group begins after this index.
-    fn begins_behind(&self, place: usize) -> bool
-        ensures behind { result ≡ true → (start : ℕ) × IsLast self.now.starts.items start × (place < start) }
-        ensures no_more { result ≡ false → (start : ℕ) → IsLast self.now.starts.items start → start ≤ place }
+    fn begins_after(&self, index: usize) -> bool
+        ensures after { result ≡ true → (start : ℕ) × IsLast self.now.starts.items start × (index < start) }
+        ensures no_more { result ≡ false → (start : ℕ) → IsLast self.now.starts.items start → start ≤ index }
     {
         match self.last_start() {
-            Some(start) => place < start,
+            Some(start) => index < start,
             None => false,
         }
     }
 
     /// Joins the groups after this index to the one that contains it.
-    fn join(&mut self, place: usize)
+    fn join(&mut self, index: usize)
         ensures { (g : Grammar) (rule : ℕ) → IsWalk g self.old → IsWayOut g self.old rule
-            → known_of self.old.known.items rule ≡ Known.Open place → GoesOn g self.old self.new }
+            → known_of self.old.known.items rule ≡ Known.Open index → GoesOn g self.old self.new }
     {
-        while self.begins_behind(place) {
+        while self.begins_after(index) {
             self.starts.truncate(self.starts.len() - 1);
         }
     }
@@ -175,11 +179,11 @@ impl Walk {
     {
         match self.known[rule] {
             Known::New => self.enter(grm, rule),
-            Known::Open(place) => {
-                self.join(place);
+            Known::Open(index) => {
+                self.join(index);
                 Ok(())
             }
-            Known::Told(_) => Ok(()),
+            Known::Settled(_) => Ok(()),
         }
     }
 
@@ -189,7 +193,7 @@ impl Walk {
         ensures { result ≡ is_inside start (known_of self.now.known.items rule) }
     {
         match self.known[rule] {
-            Known::Open(place) => place >= start,
+            Known::Open(index) => index >= start,
             _ => false,
         }
     }
@@ -201,8 +205,8 @@ impl Walk {
     {
         match self.known[rule] {
             Known::New => true,
-            Known::Open(place) => place < start,
-            Known::Told(_) => false,
+            Known::Open(index) => index < start,
+            Known::Settled(_) => false,
         }
     }
 
@@ -228,15 +232,15 @@ impl Walk {
     }
 
     /// Gives this result to each rule of the last group, which leaves the path.
-    fn tell(&mut self, start: usize, answer: Result<Option<u16>, CostError>)
+    fn settle(&mut self, start: usize, answer: Result<Option<u16>, CostError>)
         requires walk { (g : Grammar) × IsWalk g self.old }
         requires last { IsLast self.old.starts.items start }
-        ensures { (g : Grammar) (cost : ℕ → ℕ) → IsWalk g self.old → CanTell g cost self.old start answer
+        ensures { (g : Grammar) (cost : ℕ → ℕ) → IsWalk g self.old → CanSettle g cost self.old start answer
             → Steps g cost self.old self.new }
     {
-        for place in start..self.path.len() {
-            let rule = self.path[place];
-            self.known[rule] = Known::Told(answer);
+        for index in start..self.path.len() {
+            let rule = self.path[index];
+            self.known[rule] = Known::Settled(answer);
         }
         self.path.truncate(start);
         self.starts.truncate(self.starts.len() - 1);
@@ -260,8 +264,8 @@ impl Walk {
         ensures { OnOk result (Steps (T.grammar grm.now) (slice_index costs.now) self.old self.new) }
     {
         match group_sums(grm, &self.known, costs, &self.path, start) {
-            Ok(sums) => self.tell(start, sums.answer()),
-            Err(Stop::Grows) => self.tell(start, Ok(None)),
+            Ok(sums) => self.settle(start, sums.answer()),
+            Err(Stop::Grows) => self.settle(start, Ok(None)),
             Err(Stop::Leads(rule)) => self.follow(grm, rule)?,
         }
         Ok(())
@@ -282,7 +286,7 @@ impl Walk {
         requires walk { IsWalk (T.grammar grm.now) self.old }
         requires so { AreTrue (T.grammar grm.now) (slice_index costs.now) self.old.known.items }
         requires rule { rule < (T.grammar grm.now).rules }
-        requires untold { (answer : Result (Option ℕ) CostError) → known_of self.old.known.items rule ≡ Known.Told answer → ⊥ }
+        requires unsettled { (answer : Result (Option ℕ) CostError) → known_of self.old.known.items rule ≡ Known.Settled answer → ⊥ }
         ensures { OnOk result (Steps (T.grammar grm.now) (slice_index costs.now) self.old self.new) }
     {
         let Some(start) = self.last_start() else {
@@ -314,7 +318,7 @@ impl Walk {
         ensures means { IfOk result (Means (HasProduction (T.grammar grm.now)) (slice_index costs.now) rule) }
     {
         loop {
-            if let Known::Told(answer) = self.known[rule] {
+            if let Known::Settled(answer) = self.known[rule] {
                 return Ok(answer);
             }
             self.step(grm, costs, rule)?;

@@ -1,2 +1,2 @@
-pub mod HeaderAnswers
+pub mod HeaderResults
 pub mod SectionHeader

@@ -7,7 +7,7 @@ use Rattle.cfgmarks.specs.declared.markmap.behavior.MergeBehavior.TheVariants.{M
 use Rattle.cfgmarks.specs.declared.markmap.marked.Marked.{Marked}
 use Rattle.cfgmarks.specs.declared.markmap.MarkMap.{MarkMap}
 use Rattle.cfgmarks.specs.Marks.{marks, unmarked, entry_at}
-use Rattle.cfgwords.specs.Text.{place}
+use Rattle.cfgwords.specs.Text.{offset_of}
 use Rattle.cfgerrors.specs.HeaderErrors.{ShownError}
 use Rattle.cfgkinds.specs.declared.value.HeaderValue.{HeaderValue}
 use Rattle.cfgkinds.specs.Values.{ShownHeaderValue, header_value_view}
@@ -32,13 +32,13 @@ pub record IsHeaderOf (entries : List Entry) (header : MarkMap (String Global) (
 -- What is returned for a section in a text of len bytes: a header and the offset after the section, or errors. Running out of memory says
 -- nothing.
 abbrev pub IsSectionAnswer : ℕ → Result (MarkMap (String Global) (HeaderValue Span) × ℕ) HeaderFault → Result (List Entry × List ℕ) (List (ShownError Span)) → Type 0
-IsSectionAnswer len (Ok (header, offset)) (Ok (entries, rest)) = IsHeaderOf entries header × (offset ≡ place len rest)
+IsSectionAnswer len (Ok (header, offset)) (Ok (entries, rest)) = IsHeaderOf entries header × (offset ≡ offset_of len rest)
 IsSectionAnswer len (Ok answer) (Err errors) = ⊥
 IsSectionAnswer len (Err faults.OutOfMemory) expected = Unit {0}
 IsSectionAnswer len (Err (faults.Errors errors)) (Ok expected) = ⊥
 IsSectionAnswer len (Err (faults.Errors errors)) (Err expected) = errors_view errors.items ≡ expected
 
 -- What is returned for the section of a text is what its reading gives, of which there is exactly one.
-abbrev pub AnswersSection : Bool → List ℕ → Result (MarkMap (String Global) (HeaderValue Span) × ℕ) HeaderFault → Type 0
-AnswersSection required text result = (entries : List Entry) (end : Result (List ℕ) Fault) → IsSection required text entries end
+abbrev pub ReturnsSection : Bool → List ℕ → Result (MarkMap (String Global) (HeaderValue Span) × ℕ) HeaderFault → Type 0
+ReturnsSection required text result = (entries : List Entry) (end : Result (List ℕ) Fault) → IsSection required text entries end
     → IsSectionAnswer (length text) result (section_answer entries end)

@@ -2,11 +2,11 @@
 
 ghost use Rattle.std.specs.Prelude.{◌≡◌, length, drop, IfOk, IfErr};
 ghost use Rattle.std.specs.Str.{IsCharBoundary};
-ghost use Rattle.cfgwords.specs.Places.{IsPiece};
+ghost use Rattle.cfgwords.specs.TextSpans.{IsPiece};
 ghost use Rattle.cfgsection.specs.SectionRefusal.{ListsErrors};
-ghost use Rattle.cfgsection.specs.SectionPlaces.{IsFaultAt};
-ghost use Rattle.cfgsection.specs.SectionReads.{AnswersEntry, HasOneSection};
-ghost use Rattle.cfgheader.specs.Headers.{AnswersSection};
+ghost use Rattle.cfgsection.specs.SectionOffsets.{IsFaultAt};
+ghost use Rattle.cfgsection.specs.SectionReads.{ReturnsEntry, HasOneSection};
+ghost use Rattle.cfgheader.specs.Headers.{ReturnsSection};
 
 use crate::of_entries::{Header, header_of};
 use cfgbase::Span;
@@ -42,9 +42,9 @@ impl<'a> GrmtoolsSectionParser<'a> {
     /// then the one that stopped the reading, if there is one; at least one error. Or running out of memory.
     pub fn parse(&self, alloc: Global) -> Result<(Header<Span>, usize), HeaderFault>
         ensures one { HasOneSection self.now.required self.now.src.now }
-        ensures answer { AnswersSection self.now.required self.now.src.now result }
+        ensures answer { ReturnsSection self.now.required self.now.src.now result }
         ensures end { IfOk result (λ x. IsCharBoundary self.now.src.now x.1) }
-        ensures fault_places { IfErr result (IsFaultAt self.now.src.now) }
+        ensures fault_offsets { IfErr result (IsFaultAt self.now.src.now) }
         ensures listed { IfErr result ListsErrors }
     {
         let (entries, rest) = section_entries(alloc, self.src, self.required)?;
@@ -65,9 +65,9 @@ impl<'a> GrmtoolsSectionParser<'a> {
         i: usize,
     ) -> Result<(String, Span, Value<Span>, usize), HeaderFault>
         requires { IsCharBoundary self.now.src.now i }
-        ensures answer { AnswersEntry (length self.now.src.now) (drop i self.now.src.now) result }
-        ensures places { IfOk result (λ x. IsPiece self.now.src.now x.1 × IsCharBoundary self.now.src.now x.3) }
-        ensures fault_places { IfErr result (IsFaultAt self.now.src.now) }
+        ensures answer { ReturnsEntry (length self.now.src.now) (drop i self.now.src.now) result }
+        ensures offsets { IfOk result (λ x. IsPiece self.now.src.now x.1 × IsCharBoundary self.now.src.now x.3) }
+        ensures fault_offsets { IfErr result (IsFaultAt self.now.src.now) }
         ensures listed { IfErr result ListsErrors }
     {
         entry_at(alloc, self.src, i)

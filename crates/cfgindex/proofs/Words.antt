@@ -226,8 +226,8 @@ filled_all len true some = (words_filled len _ _ 1 some (omega arith) fits full 
   where
     last : (2 ^ 64 - 1) / 2 ^ (63 - (len - 1) % 64) ≡ 2 ^ ((len - 1) % 64 + 1) - 1
     last =
-        let places : 64 - (63 - (len - 1) % 64) ≡ (len - 1) % 64 + 1 = omega arith in
-        ones_shr 64 (63 - (len - 1) % 64) (omega arith) ∙ ap (λ n. 2 ^ n - 1) places
+        let positions : 64 - (63 - (len - 1) % 64) ≡ (len - 1) % 64 + 1 = omega arith in
+        ones_shr 64 (63 - (len - 1) % 64) (omega arith) ∙ ap (λ n. 2 ^ n - 1) positions
 
     fits : (2 ^ 64 - 1) / 2 ^ (63 - (len - 1) % 64) < 2 ^ 64
     fits = omega (arith, div-le_self (2 ^ 64 - 1) (2 ^ (63 - (len - 1) % 64)))

@@ -42,7 +42,7 @@ pub fn productions_are_their_numbers<T: Storage>()
 
 /// Indices of symbols are equal exactly if they store the same number, and are ordered by that number. A clone holds a
 /// clone of what is stored, and a hash is fed what the stored value feeds it.
-pub fn places_are_their_numbers<T: Storage>()
+pub fn positions_are_their_numbers<T: Storage>()
     ensures equal { (a b : SIdx T) → IsTrue (⟦<SIdx<T> as PartialEq>⟧.eq a b) ↔ (a ≡ b) }
     ensures number { (a b : SIdx T) → (a ≡ b) ↔ (T.number a.0 ≡ T.number b.0) }
     ensures order { (a b : SIdx T) → ⟦<SIdx<T> as Ord>⟧.cmp a b ≡ nat_cmp (T.number a.0) (T.number b.0) }

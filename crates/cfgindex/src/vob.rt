@@ -164,8 +164,8 @@ fn filled(bit: bool) -> u64
 fn fill(words: &mut [u64], word: u64)
     ensures { words.new ≡ replicate (length words.old) word }
 {
-    for place in 0..words.len() {
-        words[place] = word;
+    for index in 0..words.len() {
+        words[index] = word;
     }
 }
 
@@ -195,10 +195,10 @@ pub fn or_words(words: &mut [u64], others: &[u64]) -> bool
     ensures changed { MatchBool result (words.new ≢ words.old) (words.new ≡ words.old) }
 {
     let mut changed = false;
-    for place in 0..words.len() {
-        let word = words[place];
-        let joined = word | others[place];
-        words[place] = joined;
+    for index in 0..words.len() {
+        let word = words[index];
+        let joined = word | others[index];
+        words[index] = joined;
         changed |= joined != word;
     }
     changed

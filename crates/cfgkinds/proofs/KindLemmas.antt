@@ -16,39 +16,39 @@ kind_unless-wrong [] kind some = absurd (some refl)
 kind_unless-wrong (x ∷ wrong) None some = refl
 kind_unless-wrong (x ∷ wrong) (Some kind) some = refl
 
-not_empty : {A : Type 0} (front : List A) (x : A) (back : List A) → (front ++ x ∷ []) ++ back ≢ []
+not_empty : {A : Type 0} (prefix : List A) (x : A) (back : List A) → (prefix ++ x ∷ []) ++ back ≢ []
 not_empty [] x back none = cc
-not_empty (y ∷ front) x back none = cc
+not_empty (y ∷ prefix) x back none = cc
 
 -- running out of memory is a possible result if something is wrong
-pub want_of_memory : {T : Type 0} (is_clone : T → T → Type 0) (r : Result YaccKind (KindFault T)) (kind : Result YaccKind (List T)) (wrong : List T)
+pub out_of_memory : {T : Type 0} (is_clone : T → T → Type 0) (r : Result YaccKind (KindFault T)) (kind : Result YaccKind (List T)) (wrong : List T)
     → IsErrAnd r (λ fault. fault ≡ OutOfMemory) → kind ≡ Err wrong → IfErr r (λ fault. Refuses is_clone kind fault)
-want_of_memory is_clone (Ok named) kind wrong h is = tt
-want_of_memory is_clone (Err fault) kind wrong h is = subst (Refuses is_clone kind) (sym h) (wrong, is)
+out_of_memory is_clone (Ok named) kind wrong h is = tt
+out_of_memory is_clone (Err fault) kind wrong h is = subst (Refuses is_clone kind) (sym h) (wrong, is)
 
 module _ {T : Type 0} (parts : List (Option (Bor T))) (i : ℕ) (part : Option (Bor T)) (within : i < length parts) (there : part ≡ get_or parts i part) where
   -- the wrong ones
-  abbrev pub told : List (Option (Bor T)) → List T
-  told those = filter_map (λ p. p) (map option_copied those)
+  abbrev pub reported : List (Option (Bor T)) → List T
+  reported those = filter_map (λ p. p) (map option_copied those)
 
-  told_more : told (take (i + 1) parts) ≡ told (take i parts) ++ option_to_list (option_copied part)
-  told_more =
-      ap told (take_more parts i part within ∙ ap (λ p. take i parts ++ p ∷ []) (sym there))
+  reported_more : reported (take (i + 1) parts) ≡ reported (take i parts) ++ option_to_list (option_copied part)
+  reported_more =
+      ap reported (take_more parts i part within ∙ ap (λ p. take i parts ++ p ∷ []) (sym there))
       ∙ ap (filter_map (λ p. p)) (map-append option_copied (take i parts) (part ∷ []))
       ∙ filter_map-push (λ p. p) (map option_copied (take i parts)) (option_copied part)
 
-  pub told_pushed : (place : Bor T) → part ≡ Some place → told (take (i + 1) parts) ≡ told (take i parts) ++ place.now ∷ []
-  told_pushed place is = told_more ∙ ap (λ p. told (take i parts) ++ option_to_list (option_copied p)) is
+  pub reported_pushed : (location : Bor T) → part ≡ Some location → reported (take (i + 1) parts) ≡ reported (take i parts) ++ location.now ∷ []
+  reported_pushed location is = reported_more ∙ ap (λ p. reported (take i parts) ++ option_to_list (option_copied p)) is
 
-  pub told_passed : part ≡ None → told (take (i + 1) parts) ≡ told (take i parts)
-  told_passed is = told_more ∙ ap (λ p. told (take i parts) ++ option_to_list (option_copied p)) is ∙ append-nil (told (take i parts))
+  pub reported_passed : part ≡ None → reported (take (i + 1) parts) ≡ reported (take i parts)
+  reported_passed is = reported_more ∙ ap (λ p. reported (take i parts) ++ option_to_list (option_copied p)) is ∙ append-nil (reported (take i parts))
 
-  pub told_some : (place : Bor T) → part ≡ Some place → told parts ≢ []
-  told_some place is none =
+  pub reported_some : (location : Bor T) → part ≡ Some location → reported parts ≢ []
+  reported_some location is none =
       let rest = drop (i + 1) parts in
-      let whole : told parts ≡ (told (take i parts) ++ place.now ∷ []) ++ told rest =
-      ap told (sym (take-append-drop (i + 1) parts))
+      let whole : reported parts ≡ (reported (take i parts) ++ location.now ∷ []) ++ reported rest =
+      ap reported (sym (take-append-drop (i + 1) parts))
       ∙ ap (filter_map (λ p. p)) (map-append option_copied (take (i + 1) parts) rest)
       ∙ filter_map-append (λ p. p) (map option_copied (take (i + 1) parts)) (map option_copied rest)
-      ∙ ap (λ front. front ++ told rest) (told_pushed place is) in
-      not_empty (told (take i parts)) place.now (told rest) (sym whole ∙ none)
+      ∙ ap (λ prefix. prefix ++ reported rest) (reported_pushed location is) in
+      not_empty (reported (take i parts)) location.now (reported rest) (sym whole ∙ none)

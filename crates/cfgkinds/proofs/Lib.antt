@@ -1,6 +1,6 @@
 mod KindLemmas
-pub mod KindPlaces
+pub mod KindOffsets
 mod SameLemmas
 mod ValueKinds
 mod ValueLemmas
-pub mod ValuePlaces
+pub mod ValueOffsets

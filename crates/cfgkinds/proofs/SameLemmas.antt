@@ -8,47 +8,47 @@ use Rattle.std.specs.Str.{bytes_eq}
 use Rattle.std.proofs.Math.Numerals.{add-one}
 use Rattle.std.proofs.Math.Seq.{drop-cons}
 use lib.Pointwise.{bytes_decides}
-use Rattle.cfgkinds.specs.Values.{Placed, ShownNamespaced, ShownSetting, ShownSettings, Unitary, Constructor, Number, Text, Array, no_settings, setting}
-use Rattle.cfgkinds.specs.Values.{placed_view, setting_view, settings_view}
+use Rattle.cfgkinds.specs.Values.{Located, ShownNamespaced, ShownSetting, ShownSettings, Unitary, Constructor, Number, Text, Array, no_settings, setting}
+use Rattle.cfgkinds.specs.Values.{located_view, setting_view, settings_view}
 use Rattle.cfgkinds.specs.declared.value.Setting.{Setting}
-use Rattle.cfgkinds.specs.SameValues.{IsIdentity, same_placed, same_namespaced, same_setting, same_settings, setting_itself}
+use Rattle.cfgkinds.specs.SameValues.{IsIdentity, same_located, same_namespaced, same_setting, same_settings, setting_itself}
 
 -- both names are compared
 module _ {T : Type 0} (eq : T → T → Bool) where
-  abbrev both_named : Option (Placed T) → Placed T → ShownNamespaced T
+  abbrev both_named : Option (Located T) → Located T → ShownNamespaced T
   both_named given member = record { namespace = given; member = member }
 
-  both_compared : (given other : Option (Placed T)) (m n : Placed T) → (option_eq (same_placed eq) given other && same_placed eq m n) ≡ same_namespaced eq (both_named given m) (both_named other n)
-  both_compared None None m n = sym (and-true (same_placed eq m n))
-  both_compared None (Some other) m n = sym (and-false (same_placed eq m other))
-  both_compared (Some given) None m n = sym (and-false (same_placed eq given n))
-  both_compared (Some given) (Some other) m n = λ i. same_placed eq given other && sym (and-true (same_placed eq m n)) i
+  both_compared : (given other : Option (Located T)) (m n : Located T) → (option_eq (same_located eq) given other && same_located eq m n) ≡ same_namespaced eq (both_named given m) (both_named other n)
+  both_compared None None m n = sym (and-true (same_located eq m n))
+  both_compared None (Some other) m n = sym (and-false (same_located eq m other))
+  both_compared (Some given) None m n = sym (and-false (same_located eq given n))
+  both_compared (Some given) (Some other) m n = λ i. same_located eq given other && sym (and-true (same_located eq m n)) i
 
   -- the namespaces, as the code represents them
   pub same_namespaces : (given other : Option (String Global × T))
-      → option_eq (λ x y. string_eq x.0 y.0 && eq x.1 y.1) given other ≡ option_eq (same_placed eq) (option_map placed_view given) (option_map placed_view other)
+      → option_eq (λ x y. string_eq x.0 y.0 && eq x.1 y.1) given other ≡ option_eq (same_located eq) (option_map located_view given) (option_map located_view other)
   same_namespaces None None = refl
   same_namespaces None (Some other) = refl
   same_namespaces (Some given) None = refl
   same_namespaces (Some given) (Some other) = refl
 
-  pub same_both : (a b : ShownNamespaced T) → (option_eq (same_placed eq) a.namespace b.namespace && same_placed eq a.member b.member) ≡ same_namespaced eq a b
+  pub same_both : (a b : ShownNamespaced T) → (option_eq (same_located eq) a.namespace b.namespace && same_located eq a.member b.member) ≡ same_namespaced eq a b
   same_both a b = both_compared a.namespace b.namespace a.member b.member
 
 module _ {T : Type 0} (eq : T → T → Bool) (is : IsIdentity eq) where
-  placed-eq : (a b : Placed T) → same_placed eq a b ≡ true → a ≡ b
-  placed-eq a b h =
+  located-eq : (a b : Located T) → same_located eq a b ≡ true → a ≡ b
+  located-eq a b h =
       let both = and_parts (bytes_eq a.0 b.0) (eq a.1 b.1) h in
       λ i. ((bytes_decides a.0 b.0).0 both.0 i, (is a.1 b.1).0 both.1 i)
 
-  named-eq : (given other : Option (Placed T)) (m n : Placed T) → (option_eq (same_placed eq) given other && same_placed eq m n) ≡ true
+  named-eq : (given other : Option (Located T)) (m n : Located T) → (option_eq (same_located eq) given other && same_located eq m n) ≡ true
       → both_named eq given m ≡ both_named eq other n
-  named-eq None None m n h = ap (both_named eq None) (placed-eq m n h)
+  named-eq None None m n h = ap (both_named eq None) (located-eq m n h)
   named-eq None (Some other) m n h = absurd (false≢true h)
   named-eq (Some given) None m n h = absurd (false≢true h)
   named-eq (Some given) (Some other) m n h =
-      let both = and_parts (same_placed eq given other) (same_placed eq m n) h in
-      λ i. both_named eq (Some (placed-eq given other both.0 i)) (placed-eq m n both.1 i)
+      let both = and_parts (same_located eq given other) (same_located eq m n) h in
+      λ i. both_named eq (Some (located-eq given other both.0 i)) (located-eq m n both.1 i)
 
   namespaced-eq : (a b : ShownNamespaced T) → same_namespaced eq a b ≡ true → a ≡ b
   namespaced-eq a b h = named-eq a.namespace b.namespace a.member b.member (same_both eq a b ∙ h)
@@ -81,7 +81,7 @@ module _ {T : Type 0} (eq : T → T → Bool) (is : IsIdentity eq) where
   pub same_setting_iff : (a b : ShownSetting T) → IsTrue (same_setting eq a b) ↔ (a ≡ b)
   same_setting_iff a b = (
     setting-eq a b,
-    λ e. subst (λ s. same_setting eq a s ≡ true) e (setting_itself eq (λ place. (is place place).1 refl) a),
+    λ e. subst (λ s. same_setting eq a s ≡ true) e (setting_itself eq (λ location. (is location location).1 refl) a),
   )
 
 -- lists of settings of different lengths differ

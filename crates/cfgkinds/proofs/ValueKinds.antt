@@ -4,7 +4,7 @@ use Rattle.std.specs.Prelude.{◌≢◌, ℕ}
 use Rattle.std.specs.Str.{bytes_eq}
 use Rattle.cfgbase.specs.Locations.{location_view}
 use Rattle.cfgbase.specs.declared.span.Location.{Location}
-use Rattle.cfgkinds.specs.Values.{Placed, ShownValue, Flag, Given, Unitary, Constructor, Number, Text, Array, map_placed, map_value}
+use Rattle.cfgkinds.specs.Values.{Located, ShownValue, Flag, Given, Unitary, Constructor, Number, Text, Array, map_located, map_value}
 use Rattle.cfgkinds.specs.YaccKinds.{action_namespace, judged, kind_namespace, kind_of_value, kind_unless, original_kind, plain_kind, value_of_kind, wrong_member, wrong_namespace, wrong_parts}
 use Rattle.cfgkinds.specs.declared.kind.YaccKind.{YaccKind}
 use Rattle.cfgkinds.specs.declared.kind.YaccKind.TheVariants.{Original, Grmtools, Eco}
@@ -19,15 +19,15 @@ kind_only-Ok (Ok named) kind e = cc
 kind_only-Ok (Err wrong) kind e = cc
 
 module _ {S T : Type 0} (f : S → T) where
-  namespace_along : (wanted : List ℕ) (given : Option (Placed S)) → wrong_namespace wanted (option_map (map_placed f) given) ≡ option_map f (wrong_namespace wanted given)
-  namespace_along wanted None = refl
-  namespace_along wanted (Some given) = go (bytes_eq given.0 wanted)
+  namespace_along : (expected : List ℕ) (given : Option (Located S)) → wrong_namespace expected (option_map (map_located f) given) ≡ option_map f (wrong_namespace expected given)
+  namespace_along expected None = refl
+  namespace_along expected (Some given) = go (bytes_eq given.0 expected)
     where
-      go : (right : Bool) → wrong_member right (map_placed f given) ≡ option_map f (wrong_member right given)
+      go : (right : Bool) → wrong_member right (map_located f given) ≡ option_map f (wrong_member right given)
       go true = refl
       go false = refl
 
-  member_along : (known : Bool) (given : Placed S) → wrong_member known (map_placed f given) ≡ option_map f (wrong_member known given)
+  member_along : (known : Bool) (given : Located S) → wrong_member known (map_located f given) ≡ option_map f (wrong_member known given)
   member_along true given = refl
   member_along false given = refl
 
@@ -35,11 +35,11 @@ module _ {S T : Type 0} (f : S → T) where
   judged_along [] None = refl
   judged_along [] (Some kind) = refl
   judged_along (None ∷ parts) kind = judged_along parts kind
-  judged_along (Some place ∷ parts) kind = refl
+  judged_along (Some location ∷ parts) kind = refl
 
   -- the same kind, whatever the locations of its parts
   kind_along : (value : ShownValue S) → kind_only (kind_of_value (map_value f value)) ≡ kind_only (kind_of_value value)
-  kind_along (Flag on place) = refl
+  kind_along (Flag on location) = refl
   kind_along (Given (Unitary name)) =
       let kind = plain_kind name.member.0 in
       ap (λ parts. kind_only (judged parts kind)) (λ i. namespace_along kind_namespace name.namespace i ∷ member_along (is_some kind) name.member i ∷ [])
@@ -51,8 +51,8 @@ module _ {S T : Type 0} (f : S → T) where
       (λ i. namespace_along kind_namespace ctor.namespace i ∷ member_along original ctor.member i
       ∷ namespace_along action_namespace arg.namespace i ∷ member_along (is_some kind) arg.member i ∷ [])
       ∙ judged_along (wrong_parts kind_namespace original ctor ++ wrong_parts action_namespace (is_some kind) arg) kind
-  kind_along (Given (Number number place)) = refl
-  kind_along (Given (Text text place)) = refl
+  kind_along (Given (Number number location)) = refl
+  kind_along (Given (Text text location)) = refl
   kind_along (Given (Array inside opens closes)) = refl
 
 comes_back : (kind : YaccKind) → kind_only (kind_of_value (value_of_kind kind)) ≡ Some kind
@@ -68,34 +68,34 @@ kind_back kind value e =
     (sym (kind_along location_view value) ∙ ap (λ v. kind_only (kind_of_value v)) e ∙ comes_back kind)
 
 module _ {T : Type 0} where
-  wrong_there : (front : List (Option T)) (place : T) → filter_map (λ p. p) (front ++ Some place ∷ []) ≢ []
-  wrong_there [] place none = cc
-  wrong_there (None ∷ front) place none = wrong_there front place none
-  wrong_there (Some other ∷ front) place none = cc
+  wrong_there : (prefix : List (Option T)) (location : T) → filter_map (λ p. p) (prefix ++ Some location ∷ []) ≢ []
+  wrong_there [] location none = cc
+  wrong_there (None ∷ prefix) location none = wrong_there prefix location none
+  wrong_there (Some other ∷ prefix) location none = cc
 
   -- if there is no kind, the name is unknown
-  unknown_there : {A : Type 0} (kind : Option A) (front : List (Option T)) (name : Placed T) → is_some kind ≡ false → filter_map (λ p. p) (front ++ wrong_member (is_some kind) name ∷ []) ≢ []
-  unknown_there None front name e = wrong_there front name.1
-  unknown_there (Some kind) front name e = cc
+  unknown_there : {A : Type 0} (kind : Option A) (prefix : List (Option T)) (name : Located T) → is_some kind ≡ false → filter_map (λ p. p) (prefix ++ wrong_member (is_some kind) name ∷ []) ≢ []
+  unknown_there None prefix name e = wrong_there prefix name.1
+  unknown_there (Some kind) prefix name e = cc
 
-  refusal : (wrong : List T) (kind : Option YaccKind) (told : List T) → kind_unless wrong kind ≡ Err told → (is_some kind ≡ false → wrong ≢ []) → told ≢ []
-  refusal [] None told e some none = some refl refl
-  refusal [] (Some kind) told e some none = cc
-  refusal (x ∷ wrong) None told e some none = cc
-  refusal (x ∷ wrong) (Some kind) told e some none = cc
+  refusal : (wrong : List T) (kind : Option YaccKind) (reported : List T) → kind_unless wrong kind ≡ Err reported → (is_some kind ≡ false → wrong ≢ []) → reported ≢ []
+  refusal [] None reported e some none = some refl refl
+  refusal [] (Some kind) reported e some none = cc
+  refusal (x ∷ wrong) None reported e some none = cc
+  refusal (x ∷ wrong) (Some kind) reported e some none = cc
 
-  pub refusal_somewhere : (value : ShownValue T) (told : List T) → kind_of_value value ≡ Err told → told ≢ []
-  refusal_somewhere (Flag on place) told e = refusal (place ∷ []) None told e (λ none. wrong_there [] place)
-  refusal_somewhere (Given (Unitary name)) told e =
+  pub refusal_somewhere : (value : ShownValue T) (reported : List T) → kind_of_value value ≡ Err reported → reported ≢ []
+  refusal_somewhere (Flag on location) reported e = refusal (location ∷ []) None reported e (λ none. wrong_there [] location)
+  refusal_somewhere (Given (Unitary name)) reported e =
       let kind = plain_kind name.member.0 in
-      refusal (filter_map (λ p. p) (wrong_parts kind_namespace (is_some kind) name)) kind told e
+      refusal (filter_map (λ p. p) (wrong_parts kind_namespace (is_some kind) name)) kind reported e
       (λ none. unknown_there kind (wrong_namespace kind_namespace name.namespace ∷ []) name.member none)
-  refusal_somewhere (Given (Constructor ctor arg)) told e =
+  refusal_somewhere (Given (Constructor ctor arg)) reported e =
       let original = bytes_eq ctor.member.0 (codes "original") in
       let kind = original_kind arg.member.0 in
-      refusal (filter_map (λ p. p) (wrong_parts kind_namespace original ctor ++ wrong_parts action_namespace (is_some kind) arg)) kind told e
+      refusal (filter_map (λ p. p) (wrong_parts kind_namespace original ctor ++ wrong_parts action_namespace (is_some kind) arg)) kind reported e
       (λ none. unknown_there kind
       (wrong_namespace kind_namespace ctor.namespace ∷ wrong_member original ctor.member ∷ wrong_namespace action_namespace arg.namespace ∷ []) arg.member none)
-  refusal_somewhere (Given (Number number place)) told e = refusal (place ∷ []) None told e (λ none. wrong_there [] place)
-  refusal_somewhere (Given (Text text place)) told e = refusal (place ∷ []) None told e (λ none. wrong_there [] place)
-  refusal_somewhere (Given (Array inside opens closes)) told e = refusal (opens ∷ []) None told e (λ none. wrong_there [] opens)
+  refusal_somewhere (Given (Number number location)) reported e = refusal (location ∷ []) None reported e (λ none. wrong_there [] location)
+  refusal_somewhere (Given (Text text location)) reported e = refusal (location ∷ []) None reported e (λ none. wrong_there [] location)
+  refusal_somewhere (Given (Array inside opens closes)) reported e = refusal (opens ∷ []) None reported e (λ none. wrong_there [] opens)

@@ -16,11 +16,11 @@ module _ {T : Type 0} where
   view_applied ctor arg =
       ap setting_view (sym (rolls-Constructor ctor arg)) ∙ fold-roll-Setting T (ShownSetting T) setting_step (Setting-F.Constructor ctor arg)
 
-  pub view_number : (number : ℕ) (place : T) → setting_view (rust.Num number place) ≡ Number number place
-  view_number number place = ap setting_view (sym (rolls-Num number place)) ∙ fold-roll-Setting T (ShownSetting T) setting_step (Setting-F.Num number place)
+  pub view_number : (number : ℕ) (location : T) → setting_view (rust.Num number location) ≡ Number number location
+  view_number number location = ap setting_view (sym (rolls-Num number location)) ∙ fold-roll-Setting T (ShownSetting T) setting_step (Setting-F.Num number location)
 
-  pub view_text : (text : String Global) (place : T) → setting_view (rust.String text place) ≡ Text (string_bytes text) place
-  view_text text place = ap setting_view (sym (rolls-String text place)) ∙ fold-roll-Setting T (ShownSetting T) setting_step (Setting-F.String text place)
+  pub view_text : (text : String Global) (location : T) → setting_view (rust.String text location) ≡ Text (string_bytes text) location
+  view_text text location = ap setting_view (sym (rolls-String text location)) ∙ fold-roll-Setting T (ShownSetting T) setting_step (Setting-F.String text location)
 
   pub view_array : (settings : Vec (Setting T) Global) (opens closes : T) → setting_view (rust.Array settings opens closes) ≡ Array (settings_view settings.items) opens closes
   view_array settings opens closes =

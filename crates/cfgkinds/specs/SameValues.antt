@@ -6,22 +6,22 @@ use Rattle.std.specs.Cmp.{IsPartialEquivalence, IsEquivalence, equiv, nat_eq_equ
 use Rattle.std.specs.Cmp.Lexicographic.{pointwise, lists_per, nat_list_eq_equiv}
 use Rattle.std.specs.Option.{option_to_list}
 use Rattle.std.specs.Str.{bytes_eq}
-use Rattle.cfgkinds.specs.Values.{Placed, ShownNamespaced, ShownSetting, ShownSettings, ShownValue, ShownHeaderValue, Flag, Given, Unitary, Constructor, Number, Text, Array, no_settings, setting}
+use Rattle.cfgkinds.specs.Values.{Located, ShownNamespaced, ShownSetting, ShownSettings, ShownValue, ShownHeaderValue, Flag, Given, Unitary, Constructor, Number, Text, Array, no_settings, setting}
 
 -- a location is equal only to itself
 abbrev pub IsIdentity : {T : Type 0} → (T → T → Bool) → Type 0
 IsIdentity {T} eq = (p q : T) → IsTrue (eq p q) ↔ (p ≡ q)
 
 -- the names, the namespace first
-abbrev pub names : {T : Type 0} → ShownNamespaced T → List (Placed T)
+abbrev pub names : {T : Type 0} → ShownNamespaced T → List (Located T)
 names name = option_to_list name.namespace ++ name.member ∷ []
 
 module _ {T : Type 0} (eq : T → T → Bool) where
-  abbrev pub same_placed : Placed T → Placed T → Bool
-  same_placed a b = bytes_eq a.0 b.0 && eq a.1 b.1
+  abbrev pub same_located : Located T → Located T → Bool
+  same_located a b = bytes_eq a.0 b.0 && eq a.1 b.1
 
   abbrev pub same_namespaced : ShownNamespaced T → ShownNamespaced T → Bool
-  same_namespaced a b = pointwise same_placed (names a) (names b)
+  same_namespaced a b = pointwise same_located (names a) (names b)
 
   abbrev mutual
     pub same_setting : ShownSetting T → ShownSetting T → Bool
@@ -48,22 +48,22 @@ module _ {T : Type 0} (eq : T → T → Bool) where
   same_value _ _ = false
 
   abbrev pub same_header_value : ShownHeaderValue T → ShownHeaderValue T → Bool
-  same_header_value a b = eq a.place b.place && same_value a.value b.value
+  same_header_value a b = eq a.location b.location && same_value a.value b.value
 
 -- a partial equivalence if `==` of the locations is one
 module _ {T : Type 0} {eq : T → T → Bool} where
-  placed_per : IsPartialEquivalence eq → IsPartialEquivalence (same_placed eq)
-  placed_per per = and_per (on_per (λ n. n.0) (partial_equiv_from_equiv nat_list_eq_equiv)) (on_per (λ n. n.1) per)
+  located_per : IsPartialEquivalence eq → IsPartialEquivalence (same_located eq)
+  located_per per = and_per (on_per (λ n. n.0) (partial_equiv_from_equiv nat_list_eq_equiv)) (on_per (λ n. n.1) per)
 
   namespaced_per : IsPartialEquivalence eq → IsPartialEquivalence (same_namespaced eq)
-  namespaced_per per = on_per names (lists_per (placed_per per))
+  namespaced_per per = on_per names (lists_per (located_per per))
 
   mutual
     setting_symm : IsPartialEquivalence eq → (a b : ShownSetting T) → same_setting eq a b ≡ same_setting eq b a
     setting_symm per (Unitary a) (Unitary b) = (namespaced_per per).symm a b
     setting_symm per (Constructor ctor arg) (Constructor other by) = λ i. (namespaced_per per).symm ctor other i && (namespaced_per per).symm arg by i
     setting_symm per (Number m p) (Number n q) = λ i. nat_eq_equiv.symm m n i && per.symm p q i
-    setting_symm per (Text s p) (Text t q) = (placed_per per).symm (s, p) (t, q)
+    setting_symm per (Text s p) (Text t q) = (located_per per).symm (s, p) (t, q)
     setting_symm per (Array xs p q) (Array ys r s) = λ i. settings_symm per xs ys i && per.symm p r i && per.symm q s i
     setting_symm per a b = refl
 
@@ -83,7 +83,7 @@ module _ {T : Type 0} {eq : T → T → Bool} where
         let left = and_parts (m == n) (eq p q) h in
         let right = and_parts (n == o) (eq q r) k in
         and_from _ _ ((partial_equiv_from_equiv nat_eq_equiv).trans m n o left.0 right.0) (per.trans p q r left.1 right.1)
-    setting_trans per (Text s p) (Text t q) (Text u r) h k = (placed_per per).trans (s, p) (t, q) (u, r) h k
+    setting_trans per (Text s p) (Text t q) (Text u r) h k = (located_per per).trans (s, p) (t, q) (u, r) h k
     setting_trans per (Array xs p q) (Array ys r s) (Array zs t u) h k =
         let left = and_parts (same_settings eq xs ys && eq p r) (eq q s) h in
         let right = and_parts (same_settings eq ys zs && eq r t) (eq s u) k in
@@ -110,20 +110,20 @@ module _ {T : Type 0} {eq : T → T → Bool} where
   same_setting_per per = record { symm = setting_symm per; trans = setting_trans per }
 
 -- and an equivalence if `==` of the locations is one
-module _ {T : Type 0} (eq : T → T → Bool) (itself : (place : T) → eq place place ≡ true) where
-  placed_itself : (name : Placed T) → same_placed eq name name ≡ true
-  placed_itself name = and_from _ _ (nat_list_eq_equiv.refl name.0) (itself name.1)
+module _ {T : Type 0} (eq : T → T → Bool) (itself : (location : T) → eq location location ≡ true) where
+  located_itself : (name : Located T) → same_located eq name name ≡ true
+  located_itself name = and_from _ _ (nat_list_eq_equiv.refl name.0) (itself name.1)
 
-  names_itself : (given : List (Placed T)) → pointwise (same_placed eq) given given ≡ true
+  names_itself : (given : List (Located T)) → pointwise (same_located eq) given given ≡ true
   names_itself [] = refl
-  names_itself (name ∷ given) = and_from _ _ (placed_itself name) (names_itself given)
+  names_itself (name ∷ given) = and_from _ _ (located_itself name) (names_itself given)
 
   mutual
     pub setting_itself : (s : ShownSetting T) → same_setting eq s s ≡ true
     setting_itself (Unitary a) = names_itself (names a)
     setting_itself (Constructor f a) = and_from _ _ (names_itself (names f)) (names_itself (names a))
     setting_itself (Number n p) = and_from _ _ (nat_eq_equiv.refl n) (itself p)
-    setting_itself (Text s p) = placed_itself (s, p)
+    setting_itself (Text s p) = located_itself (s, p)
     setting_itself (Array xs p q) = and_from _ _ (and_from _ _ (settings_itself xs) (itself p)) (itself q)
 
     pub settings_itself : (xs : ShownSettings T) → same_settings eq xs xs ≡ true

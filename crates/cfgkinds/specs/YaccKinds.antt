@@ -4,7 +4,7 @@ use Rattle.std.specs.List.{AllZip, filter_map}
 use Rattle.std.specs.Str.{bytes_eq}
 use Rattle.cfgbase.specs.Locations.{Origin, InWords}
 use Rattle.cfgerrors.specs.HeaderErrors.{InvalidEntry, error_kind_view}
-use Rattle.cfgkinds.specs.Values.{Placed, ShownNamespaced, ShownValue, Given, Unitary, Constructor, value_place}
+use Rattle.cfgkinds.specs.Values.{Located, ShownNamespaced, ShownValue, Given, Unitary, Constructor, value_offset}
 use Rattle.cfgkinds.specs.declared.kind.YaccKind.{YaccKind}
 use Rattle.cfgkinds.specs.declared.kind.YaccKind.TheVariants.{Original, Grmtools, Eco}
 use Rattle.cfgkinds.specs.declared.kind.YaccOriginalActionKind.{YaccOriginalActionKind}
@@ -38,17 +38,17 @@ original_kind name =
 
 module _ {T : Type 0} where
   -- the location of a namespace other than the permitted one
-  abbrev pub wrong_namespace : List ℕ → Option (Placed T) → Option T
-  wrong_namespace wanted None = None
-  wrong_namespace wanted (Some given) = if bytes_eq given.0 wanted then None else Some given.1
+  abbrev pub wrong_namespace : List ℕ → Option (Located T) → Option T
+  wrong_namespace expected None = None
+  wrong_namespace expected (Some given) = if bytes_eq given.0 expected then None else Some given.1
 
   -- the location of an unknown name
-  abbrev pub wrong_member : Bool → Placed T → Option T
+  abbrev pub wrong_member : Bool → Located T → Option T
   wrong_member known given = if known then None else Some given.1
 
   -- what is wrong with the two parts of a name, each judged by itself
   abbrev pub wrong_parts : List ℕ → Bool → ShownNamespaced T → List (Option T)
-  wrong_parts wanted known name = wrong_namespace wanted name.namespace ∷ wrong_member known name.member ∷ []
+  wrong_parts expected known name = wrong_namespace expected name.namespace ∷ wrong_member known name.member ∷ []
 
   abbrev pub kind_unless : List T → Option YaccKind → Result YaccKind (List T)
   kind_unless [] (Some kind) = Ok kind
@@ -68,7 +68,7 @@ module _ {T : Type 0} where
       judged
       (wrong_parts kind_namespace (bytes_eq ctor.member.0 (codes "original")) ctor ++ wrong_parts action_namespace (is_some kind) arg)
       kind
-  kind_of_value value = judged (Some (value_place value) ∷ []) None
+  kind_of_value value = judged (Some (value_offset value) ∷ []) None
 
   -- a refusal gives clones of the locations, or says that there is no memory for them
   abbrev pub Refuses : (T → T → Type 0) → Result YaccKind (List T) → KindFault T → Type 0

@@ -87,7 +87,7 @@ fn wrong_parts<'a, T>(
     ensures member { option_copied result.1 ≡ wrong_member known (namespaced_view name.now).member }
 {
     let wrong_namespace = match &name.namespace {
-        Some((given, place)) if given.as_str() != namespace => Some(place),
+        Some((given, location)) if given.as_str() != namespace => Some(location),
         _ => None,
     };
     let wrong_member = if known { None } else { Some(&name.member.1) };
@@ -105,8 +105,8 @@ fn judged<T: Clone + Drop>(
 {
     let mut locations = Vec::new(alloc);
     for part in parts {
-        let Some(place) = *part else { continue };
-        locations.push(place.clone()?)?;
+        let Some(location) = *part else { continue };
+        locations.push(location.clone()?)?;
     }
     match kind {
         Some(kind) if locations.is_empty() => Ok(kind),
@@ -155,8 +155,8 @@ fn named(alloc: Global, namespace: &str, name: &str) -> Result<Namespaced<Locati
     ensures { IfOk result (λ both. map_namespaced location_view (namespaced_view both)
         ≡ name_of_kind namespace.now name.now) }
 {
-    let namespace = placed(alloc, namespace)?;
-    let member = placed(alloc, name)?;
+    let namespace = located(alloc, namespace)?;
+    let member = located(alloc, name)?;
     Ok(Namespaced {
         namespace: Some(namespace),
         member,
@@ -164,9 +164,9 @@ fn named(alloc: Global, namespace: &str, name: &str) -> Result<Namespaced<Locati
 }
 
 /// A name and its location, as made from a kind.
-fn placed(alloc: Global, name: &str) -> Result<(String, Location), AllocError>
-    ensures name { IfOk result (λ placed. string_bytes placed.0 ≡ name.now) }
-    ensures place { IfOk result (λ placed. location_view placed.1 ≡ from_kind) }
+fn located(alloc: Global, name: &str) -> Result<(String, Location), AllocError>
+    ensures name { IfOk result (λ located. string_bytes located.0 ≡ name.now) }
+    ensures location { IfOk result (λ located. location_view located.1 ≡ from_kind) }
 {
     let name = String::from_str(alloc, name)?;
     let words = String::from_str(alloc, "From<YaccKind>")?;

@@ -17,14 +17,14 @@ use crate::kind::{YaccKind, YaccOriginalActionKind};
 use crate::value::{HeaderValue, Namespaced, Value};
 
 /// Two kinds of Yacc are equal exactly if they are the same. A clone equals its source and allocates nothing.
-pub fn yacc_kinds_are_told_apart()
+pub fn yacc_kinds_are_distinct()
     ensures equal { (a b : YaccKind) → IsTrue (⟦<YaccKind as PartialEq>⟧.eq a b) ↔ (a ≡ b) }
     ensures clone { (a b : YaccKind) → ⟦<YaccKind as Clone>⟧.is_clone a b → b ≡ a }
     ensures cloned { (a : YaccKind) → ⟦<YaccKind as Clone>⟧.is_infallible a }
 {}
 
 /// Two kinds of actions are equal exactly if they are the same. A clone equals its source and allocates nothing.
-pub fn action_kinds_are_told_apart()
+pub fn action_kinds_are_distinct()
     ensures equal { (a b : YaccOriginalActionKind)
         → IsTrue (⟦<YaccOriginalActionKind as PartialEq>⟧.eq a b) ↔ (a ≡ b) }
     ensures clone { (a b : YaccOriginalActionKind) → ⟦<YaccOriginalActionKind as Clone>⟧.is_clone a b
@@ -39,7 +39,7 @@ pub fn kinds_come_back()
 {}
 
 /// If a value names no kind, some part of it is wrong.
-pub fn refusals_have_places<T>()
+pub fn refusals_have_offsets<T>()
     ensures { (value : ShownValue T) (wrong : List T) → kind_of_value value ≡ Err wrong → wrong ≢ [] }
 {}
 

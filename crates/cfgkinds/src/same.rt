@@ -42,11 +42,11 @@ fn is_same<T: PartialEq>(setting: &Setting<T>, other: &Setting<T>) -> bool
                 arg: inside,
             },
         ) => { is_same_name(ctor, other) && is_same_name(arg, inside) }
-        (Setting::Num(number, place), Setting::Num(other, there)) => {
-            number == other && place == there
+        (Setting::Num(number, location), Setting::Num(other, there)) => {
+            number == other && location == there
         }
-        (Setting::String(text, place), Setting::String(other, there)) => {
-            text == other && place == there
+        (Setting::String(text, location), Setting::String(other, there)) => {
+            text == other && location == there
         }
         (Setting::Array(settings, opens, closes), Setting::Array(others, starts, ends)) => {
             are_same(settings, others) && opens == starts && closes == ends

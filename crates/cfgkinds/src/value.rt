@@ -41,18 +41,18 @@ pub enum Value<T> {
 }
 
 impl<T> Value<T> {
-    ghost use Rattle.cfgkinds.specs.Values.{value_view, value_place};
+    ghost use Rattle.cfgkinds.specs.Values.{value_view, value_offset};
 
     /// The location that represents the value in an error: of an array its opening bracket's, of a name that of the
     /// name without its namespace, and of a name that is applied to another the other's.
     pub fn primary_location(&self) -> &T
-        ensures { result.now ≡ value_place (value_view self.now) }
+        ensures { result.now ≡ value_offset (value_view self.now) }
     {
         match self {
-            Value::Flag(_, place)
-            | Value::Setting(Setting::Num(_, place))
-            | Value::Setting(Setting::String(_, place))
-            | Value::Setting(Setting::Array(_, place, _)) => place,
+            Value::Flag(_, location)
+            | Value::Setting(Setting::Num(_, location))
+            | Value::Setting(Setting::String(_, location))
+            | Value::Setting(Setting::Array(_, location, _)) => location,
             Value::Setting(Setting::Unitary(name)) => &name.member.1,
             Value::Setting(Setting::Constructor { arg, .. }) => &arg.member.1,
         }

@@ -10,7 +10,7 @@ use Rattle.derivation.proofs.Concatenation.{derives_trans, derives_production}
 use Rattle.derivation.proofs.Costs.{least_is_one}
 use Rattle.derivation.proofs.Trees.{trees_from_derivation, derivation_from_trees}
 use Rattle.cfgtables.specs.Openings.{nth_production}
-use Rattle.cfgtables.proofs.Placed.{at_place}
+use Rattle.cfgtables.proofs.Located.{at_position}
 use Rattle.derivation.specs.Sums.{sum_of, symbol_cost}
 use Rattle.cfgleast.specs.Inner.Numbers.{IsNumberedBelow}
 use Rattle.derivation.specs.CostLists.{rule_cost}
@@ -18,9 +18,9 @@ use Rattle.cfgleast.specs.Certificate.{IsChosenBelow, rule_choice}
 use Rattle.cfgleast.specs.Inner.Settled.{AreSettled}
 use Rattle.derivation.specs.declared.errors.CostError.{CostError}
 use Rattle.derivation.specs.declared.errors.CostError.TheVariants.{NoSentence, CostTooLarge}
-use Rattle.cfgleast.specs.Generator.{IsTooDear, AnswersLeast, IsLeastProduction}
+use Rattle.cfgleast.specs.Generator.{IsTooLarge, ReturnsLeast, IsLeastProduction}
 use Rattle.derivation.proofs.Sums.{plus_zero}
-use Rattle.derivation.proofs.Made.{made_row, cut_over}
+use Rattle.derivation.proofs.Made.{made_sequence, cut_over}
 use Rattle.cfgleast.proofs.TreeSums.{Choice, reached}
 use Rattle.cfgleast.proofs.Bounds.{IsAtMostCut, CoversCut, lower_bound_cut}
 use Rattle.cfgleast.proofs.Certified.{number_of, number, numbered_below}
@@ -46,9 +46,9 @@ module _ (g : Grammar) (cost : ℕ → ℕ) (least : List (Option ℕ)) (choices
       record {
         symbols = (nth_production g p).symbols;
         sum = by.sum.total;
-        has = at_place g p _ by.place (sym by.owner) refl;
+        has = at_position g p _ by.index (sym by.owner) refl;
         sum_is = by.sum.is;
-        stands = λ k h. omega (arith, by.sum.cut, h);
+        holds = λ k h. omega (arith, by.sum.cut, h);
         below = All-weaker (IsChosenBelow choices m) (IsNumberedBelow (number choices) (number choices r))
             (λ s k. subst (λ x. IsNumberedBelow (number choices) x s) (sym (ap number_of by.choice)) (numbered_below choices m s k)) _ by.below;
       }
@@ -58,7 +58,7 @@ module _ (g : Grammar) (cost : ℕ → ℕ) (least : List (Option ℕ)) (choices
   some_sentence r c e =
       let made = reached (HasProduction g) cost (symbol_cost cost (rule_cost least)) (λ c n. min c 65536 ≡ min n 65536) (cut_over cost (rule_cost least) 65536)
       (number choices) chosen r c e in
-      (made.word, derivation_from_trees (HasProduction g) made.tree, made.stands)
+      (made.word, derivation_from_trees (HasProduction g) made.tree, made.holds)
 
   no_less : (r c : ℕ) → rule_cost least r ≡ Some c → (w : List ℕ) → Sentence (HasProduction g) r w → c ≤ cost_of cost w
   no_less r c e w s =
@@ -72,37 +72,37 @@ module _ (g : Grammar) (cost : ℕ → ℕ) (least : List (Option ℕ)) (choices
       let (w, s, cut) = some_sentence r c e in
       ((w, s, (omega (arith, cut, small))), no_less r c e)
 
-  pub dear_settled : (r c : ℕ) → rule_cost least r ≡ Some c → 65535 < c → IsTooDear (HasProduction g) cost r
-  dear_settled r c e large =
+  pub too_large_settled : (r c : ℕ) → rule_cost least r ≡ Some c → 65535 < c → IsTooLarge (HasProduction g) cost r
+  too_large_settled r c e large =
       let (w, s, cut) = some_sentence r c e in
       ((w, s), λ v t. let more = no_less r c e v t in omega (arith, more, large))
 
   -- the result for a rule
-  pub answers_none : (r : ℕ) → rule_cost least r ≡ None → AnswersLeast (HasProduction g) cost r (Err NoSentence)
-  answers_none r e = let none = λ (w : List ℕ) (s : Sentence (HasProduction g) r w). none-some _ (sym e ∙ (below r w s).is) in record {
+  pub results_none : (r : ℕ) → rule_cost least r ≡ None → ReturnsLeast (HasProduction g) cost r (Err NoSentence)
+  results_none r e = let none = λ (w : List ℕ) (s : Sentence (HasProduction g) r w). none-some _ (sym e ∙ (below r w s).is) in record {
     least = tt;
     found = λ c l small. absurd (none l.0.0 l.0.1);
     none = ((λ h. none), (λ h. refl));
-    dear = ((λ h. let no : ◌≡◌ {A = Result ℕ CostError} (Err NoSentence) (Err CostTooLarge) = h in absurd (cc)), (λ h. absurd (none h.0.0 h.0.1)));
+    too_large = ((λ h. let no : ◌≡◌ {A = Result ℕ CostError} (Err NoSentence) (Err CostTooLarge) = h in absurd (cc)), (λ h. absurd (none h.0.0 h.0.1)));
   }
 
-  pub answers_cost : (r c : ℕ) → rule_cost least r ≡ Some c → c ≤ 65535 → AnswersLeast (HasProduction g) cost r (Ok c)
-  answers_cost r c e small = let l = least_settled r c e small in record {
+  pub results_cost : (r c : ℕ) → rule_cost least r ≡ Some c → c ≤ 65535 → ReturnsLeast (HasProduction g) cost r (Ok c)
+  results_cost r c e small = let l = least_settled r c e small in record {
     least = l;
     found = λ d k within. ap Ok (least_is_one (HasProduction g) cost r c d l k);
     none = ((λ h. let no : ◌≡◌ {A = Result ℕ CostError} (Ok c) (Err NoSentence) = h in absurd (cc)), (λ h. absurd (h l.0.0 l.0.1)));
-    dear = (
+    too_large = (
       (λ h. let no : ◌≡◌ {A = Result ℕ CostError} (Ok c) (Err CostTooLarge) = h in absurd (cc)),
       (λ h. let more = h.1 l.0.0 l.0.1 in absurd (omega (arith, more, l.0.2, small))),
     );
   }
 
-  pub answers_dear : (r c : ℕ) → rule_cost least r ≡ Some c → 65535 < c → AnswersLeast (HasProduction g) cost r (Err CostTooLarge)
-  answers_dear r c e large = let dear = dear_settled r c e large in record {
+  pub results_too_large : (r c : ℕ) → rule_cost least r ≡ Some c → 65535 < c → ReturnsLeast (HasProduction g) cost r (Err CostTooLarge)
+  results_too_large r c e large = let too_large = too_large_settled r c e large in record {
     least = tt;
-    found = λ d l small. let more = dear.1 l.0.0 l.0.1 in absurd (omega (arith, more, l.0.2, small));
-    none = ((λ h. let no : ◌≡◌ {A = Result ℕ CostError} (Err CostTooLarge) (Err NoSentence) = h in absurd (cc)), (λ h. absurd (h dear.0.0 dear.0.1)));
-    dear = ((λ h. dear), (λ h. refl));
+    found = λ d l small. let more = too_large.1 l.0.0 l.0.1 in absurd (omega (arith, more, l.0.2, small));
+    none = ((λ h. let no : ◌≡◌ {A = Result ℕ CostError} (Err CostTooLarge) (Err NoSentence) = h in absurd (cc)), (λ h. absurd (h too_large.0.0 too_large.0.1)));
+    too_large = ((λ h. too_large), (λ h. refl));
   }
 
   -- the production that settled a rule derives a sentence of the least cost
@@ -111,18 +111,18 @@ module _ (g : Grammar) (cost : ℕ → ℕ) (least : List (Option ℕ)) (choices
       let (p', m', by, lt) = state.chosen.chosen r c e in
       let pairs : ◌≡◌ {A = ℕ × ℕ} (p', m') (p, m) = sym (same_Some _ _ (sym k ∙ by.choice)) in
       let same : p' ≡ p = ap (λ (x : ℕ × ℕ). x.0) pairs in
-      let made = made_row (HasProduction g) cost (symbol_cost cost (rule_cost least)) (λ c n. min c 65536 ≡ min n 65536) (cut_over cost (rule_cost least) 65536)
+      let made = made_sequence (HasProduction g) cost (symbol_cost cost (rule_cost least)) (λ c n. min c 65536 ≡ min n 65536) (cut_over cost (rule_cost least) 65536)
       (λ s. Unit {0}) (λ q d _ f. reached (HasProduction g) cost (symbol_cost cost (rule_cost least)) (λ c n. min c 65536 ≡ min n 65536)
       (cut_over cost (rule_cost least) 65536) (number choices) chosen q d f) (nth_production g p').symbols by.sum.total (λ i d h. tt) by.sum.is in
-      let has = at_place g p' (record { rule = r; symbols = (nth_production g p').symbols }) by.place (sym by.owner) refl in
+      let has = at_position g p' (record { rule = r; symbols = (nth_production g p').symbols }) by.index (sym by.owner) refl in
       let derived = derivation_from_trees (HasProduction g) made.tree in
       subst (IsLeastProduction g cost r) same (record {
-        place = by.place;
+        index = by.index;
         owner = by.owner;
         word = made.word;
         derived = derived;
         minimal = (
           derives_trans (HasProduction g) (derives_production (HasProduction g) r (nth_production g p').symbols has) derived,
-          λ v s. let more = no_less r c e v s in omega (arith, by.sum.cut, made.stands, small, more),
+          λ v s. let more = no_less r c e v s in omega (arith, by.sum.cut, made.holds, small, more),
         );
       })

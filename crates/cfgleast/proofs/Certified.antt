@@ -12,7 +12,7 @@ use Rattle.derivation.specs.Tree.{Yields, opened}
 use Rattle.derivation.proofs.Trees.{trees_from_derivation, derivation_from_trees}
 use Rattle.derivation.specs.Costs.{Least}
 use Rattle.cfgtables.specs.Openings.{nth_production}
-use Rattle.cfgtables.proofs.Placed.{same_production, at_place}
+use Rattle.cfgtables.proofs.Located.{same_production, at_position}
 use Rattle.derivation.specs.Sums.{symbol_cost}
 use Rattle.cfgleast.specs.Inner.Numbers.{IsNumberedBelow}
 use Rattle.derivation.specs.CostLists.{IsListed, rule_cost}
@@ -24,12 +24,12 @@ use Rattle.cfgleast.proofs.Bounds.{IsAtMost, Covers, lower_bound, exactly_over}
 
 module _ (g : Grammar) (costs : List ℕ) (least : List (Option ℕ)) where
   -- one more production
-  pub covered_more : (n place rule : ℕ) (symbols : List Sym) → n < length g.productions → place ≡ n
-      → rule ≡ (nth_production g place).rule → symbols ≡ (nth_production g place).symbols
+  pub covered_more : (n index rule : ℕ) (symbols : List Sym) → n < length g.productions → index ≡ n
+      → rule ≡ (nth_production g index).rule → symbols ≡ (nth_production g index).symbols
       → All (IsCoveredInRange costs least) (take n g.productions) → IsCoveredInRange costs least (record { rule = rule; symbols = symbols })
       → All (IsCoveredInRange costs least) (take (n + 1) g.productions)
-  covered_more n place rule symbols within at owner holds all here = All-more (IsCoveredInRange costs least) g.productions n _ within all
-      (subst (IsCoveredInRange costs least) (same_production _ (nth_production g place) owner holds ∙ ap (nth_production g) at) here)
+  covered_more n index rule symbols within at owner holds all here = All-more (IsCoveredInRange costs least) g.productions n _ within all
+      (subst (IsCoveredInRange costs least) (same_production _ (nth_production g index) owner holds ∙ ap (nth_production g) at) here)
 
   -- one of them, as it is read
   pub covered_here : (n rule : ℕ) (symbols : List Sym) → n < length g.productions → rule ≡ (nth_production g n).rule → symbols ≡ (nth_production g n).symbols
@@ -111,9 +111,9 @@ module _ (g : Grammar) (costs : List ℕ) (least : List (Option ℕ)) (choices :
   choice_from r c (Some choice) e h = record {
     symbols = (nth_production g choice.0).symbols;
     sum = c;
-    has = at_place g choice.0 _ h.place (sym h.owner) refl;
+    has = at_position g choice.0 _ h.index (sym h.owner) refl;
     sum_is = h.sum;
-    stands = λ n k. k;
+    valid = λ n k. k;
     below = All-weaker (IsChosenBelow choices choice.1) (IsNumberedBelow (number choices) (number choices r))
         (λ s k. subst (λ n. IsNumberedBelow (number choices) n s) (sym (ap number_of e)) (numbered_below choices choice.1 s k)) _ h.below;
   }
@@ -128,7 +128,7 @@ module _ (g : Grammar) (costs : List ℕ) (least : List (Option ℕ)) (choices :
   certified_sentence r c e =
       let made = reached (HasProduction g) (slice_index costs) (symbol_cost (slice_index costs) (rule_cost least)) (λ c n. c ≡ n)
       (exactly_over (slice_index costs) (rule_cost least)) (number choices) chosen r c e in
-      (made.word, derivation_from_trees (HasProduction g) made.tree, sym made.stands)
+      (made.word, derivation_from_trees (HasProduction g) made.tree, sym made.valid)
 
 -- a rule's cost and choice, as lists show them, and what shows them
 module _ (g : Grammar) (costs : List ℕ) (least : List (Option ℕ)) (choices : List (Option (ℕ × ℕ))) (r c : ℕ) (choice : ℕ × ℕ)

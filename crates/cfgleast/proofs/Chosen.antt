@@ -13,7 +13,7 @@ use Rattle.derivation.specs.CostLists.{rule_cost}
 use Rattle.cfgleast.specs.Certificate.{IsChosenBelow, rule_choice}
 use Rattle.cfgleast.specs.Inner.Open.{IsCutSum}
 use Rattle.cfgleast.specs.Inner.Settled.{unsettled, IsSettledBy, AreChosen}
-use Rattle.cfgleast.proofs.Gains.{Gains, HasCost, all_have_costs, rule_gained, row_kept}
+use Rattle.cfgleast.proofs.Gains.{Gains, HasCost, all_have_costs, rule_gained, sequence_kept}
 
 module _ (g : Grammar) (cost : ℕ → ℕ) where
   none_chosen : AreChosen g cost (replicate g.rules None) (replicate g.rules None) 0
@@ -48,10 +48,10 @@ module _ (g : Grammar) (cost : ℕ → ℕ) where
       others = λ q. elim (get_or-set least r q (Some c) None) [ inl e ↦ inl e | inr e ↦ inr e.0 ];
     }
 
-    module _ (c p : ℕ) (place : p < length g.productions) (owner : (nth_production g p).rule ≡ r)
+    module _ (c p : ℕ) (index : p < length g.productions) (owner : (nth_production g p).rule ≡ r)
         (sum : IsCutSum cost (rule_cost least) (nth_production g p).symbols c) where
       sum_stays : (a : List Sym) (d : ℕ) → IsCutSum cost (rule_cost least) a d → IsCutSum cost (rule_cost (slice_set least r (Some c))) a d
-      sum_stays a d h = record { total = h.total; is = row_kept cost (rule_cost least) (rule_cost (slice_set least r (Some c))) r c (gains_one c) a h.total h.is; cut = h.cut }
+      sum_stays a d h = record { total = h.total; is = sequence_kept cost (rule_cost least) (rule_cost (slice_set least r (Some c))) r c (gains_one c) a h.total h.is; cut = h.cut }
 
       choice_stays : (q : ℕ) (choice : ℕ × ℕ) → rule_choice choices q ≡ Some choice → rule_choice (slice_set choices r (Some (p, n))) q ≡ Some choice
       choice_stays q choice e = elim (get_or-set choices r q (Some (p, n)) None) [
@@ -77,7 +77,7 @@ module _ (g : Grammar) (cost : ℕ → ℕ) where
       settled_stays : (q d p' m : ℕ) → IsSettledBy g cost least choices q d p' m → IsSettledBy g cost (slice_set least r (Some c)) (slice_set choices r (Some (p, n))) q d p' m
       settled_stays q d p' m by = record {
         choice = choice_stays q (p', m) by.choice;
-        place = by.place;
+        index = by.index;
         owner = by.owner;
         sum = sum_stays _ d by.sum;
         below = All-weaker (IsChosenBelow choices m) (IsChosenBelow (slice_set choices r (Some (p, n))) m) (below_stays m) _ by.below;
@@ -86,7 +86,7 @@ module _ (g : Grammar) (cost : ℕ → ℕ) where
       settled_now : IsSettledBy g cost (slice_set least r (Some c)) (slice_set choices r (Some (p, n))) r c p n
       settled_now = record {
         choice = get_or-set_same choices r (Some (p, n)) None (subst (λ m. r < m) (sym state.listed) within);
-        place = place;
+        index = index;
         owner = owner;
         sum = sum_stays _ c sum;
         below = All-weaker (HasCost (symbol_cost cost (rule_cost least))) (IsChosenBelow (slice_set choices r (Some (p, n))) n) below_now _

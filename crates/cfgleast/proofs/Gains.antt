@@ -80,8 +80,8 @@ module _ (cost : ℕ → ℕ) (old new : ℕ → Option ℕ) (r c : ℕ) (gains 
     | inr k ↦ inr (omega (arith, k.1))
   ]
 
-  pub row_kept : (a : List Sym) (n : ℕ) → sum_of (symbol_cost cost old) a ≡ Some n → sum_of (symbol_cost cost new) a ≡ Some n
-  row_kept a n e = sum_kept (symbol_cost cost old) (symbol_cost cost new) symbol_kept a n e
+  pub sequence_kept : (a : List Sym) (n : ℕ) → sum_of (symbol_cost cost old) a ≡ Some n → sum_of (symbol_cost cost new) a ≡ Some n
+  sequence_kept a n e = sum_kept (symbol_cost cost old) (symbol_cost cost new) symbol_kept a n e
 
-  pub row_gained : (a : List Sym) (n : ℕ) → sum_of (symbol_cost cost new) a ≡ Some n → (sum_of (symbol_cost cost old) a ≡ Some n) ⊎ (c ≤ n)
-  row_gained a n e = sum_gained (symbol_cost cost old) (symbol_cost cost new) c symbol_gained a n e
+  pub sequence_gained : (a : List Sym) (n : ℕ) → sum_of (symbol_cost cost new) a ≡ Some n → (sum_of (symbol_cost cost old) a ≡ Some n) ⊎ (c ≤ n)
+  sequence_gained a n e = sum_gained (symbol_cost cost old) (symbol_cost cost new) c symbol_gained a n e

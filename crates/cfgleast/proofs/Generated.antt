@@ -15,11 +15,11 @@ use Rattle.derivation.specs.declared.errors.CostError.TheVariants.{NoSentence, C
 use Rattle.derivation.specs.Sums.{sum_of, symbol_cost}
 use Rattle.derivation.specs.CostLists.{rule_cost}
 use Rattle.cfgleast.specs.Certificate.{IsCovered, IsReached, IsChosenBelow, IsShown, claim_of, choice_of, rule_choice}
-use Rattle.cfgleast.specs.Generator.{CostTables, IsGenerator, AnswersLeast, HasNone, IsLeastProduction, IsTooDear, up_to_limit, where_some, cost_answer, choice_answer, token_cost}
+use Rattle.cfgleast.specs.Generator.{CostTables, IsGenerator, ReturnsLeast, HasNone, IsLeastProduction, IsTooLarge, up_to_limit, where_some, cost_answer, choice_answer, token_cost}
 use Rattle.derivation.proofs.Sums.{plus_parts, plus_both}
-use Rattle.derivation.proofs.Rows.{item_shown}
+use Rattle.derivation.proofs.Sequences.{item_shown}
 use Rattle.cfgleast.proofs.Gains.{HasCost, all_have_costs, sum_kept}
-use Rattle.cfgleast.proofs.Answered.{answers_none, answers_cost, answers_dear, least_production}
+use Rattle.cfgleast.proofs.Answered.{results_none, results_cost, results_too_large, least_production}
 
 module _ (x : CostTables) (n : ℕ) (is : IsGenerator x n) where
   -- the entry of a rule, as it is read
@@ -29,19 +29,19 @@ module _ (x : CostTables) (n : ℕ) (is : IsGenerator x n) where
       get_or_default x.least r None entry (subst (λ m. r < m) (sym is.settled.chosen.costs) within)
       ∙ sym (subst (λ l. entry ≡ get_or l r entry) same at)
 
-  pub reads_none : (r : ℕ) → rule_cost x.least r ≡ None → AnswersLeast (HasProduction x.grammar) (token_cost x) r (Err NoSentence)
-  reads_none r e = answers_none x.grammar (token_cost x) x.least x.choices n is.settled r e
+  pub reads_none : (r : ℕ) → rule_cost x.least r ≡ None → ReturnsLeast (HasProduction x.grammar) (token_cost x) r (Err NoSentence)
+  reads_none r e = results_none x.grammar (token_cost x) x.least x.choices n is.settled r e
 
-  pub reads_cost : (r c : ℕ) → rule_cost x.least r ≡ Some c → c ≤ 65535 → AnswersLeast (HasProduction x.grammar) (token_cost x) r (Ok c)
-  reads_cost r c e small = answers_cost x.grammar (token_cost x) x.least x.choices n is.settled r c e small
+  pub reads_cost : (r c : ℕ) → rule_cost x.least r ≡ Some c → c ≤ 65535 → ReturnsLeast (HasProduction x.grammar) (token_cost x) r (Ok c)
+  reads_cost r c e small = results_cost x.grammar (token_cost x) x.least x.choices n is.settled r c e small
 
-  pub reads_dear : (r c : ℕ) → rule_cost x.least r ≡ Some c → 65535 < c → AnswersLeast (HasProduction x.grammar) (token_cost x) r (Err CostTooLarge)
-  reads_dear r c e large = answers_dear x.grammar (token_cost x) x.least x.choices n is.settled r c e large
+  pub reads_too_large : (r c : ℕ) → rule_cost x.least r ≡ Some c → 65535 < c → ReturnsLeast (HasProduction x.grammar) (token_cost x) r (Err CostTooLarge)
+  reads_too_large r c e large = results_too_large x.grammar (token_cost x) x.least x.choices n is.settled r c e large
 
 -- a cost that is returned is that of the table, and at most 65535
 pub answered_some : (o : Option ℕ) (c : ℕ) → up_to_limit o ≡ Some c → (o ≡ Some c) × (c ≤ 65535)
 answered_some None c e = let no : None ≡ Some c = e in absurd (cc)
-answered_some (Some d) c e = elim (leb_tells d 65535) [
+answered_some (Some d) c e = elim (leb_shows d 65535) [
   | inl h ↦ let is : d ≡ c = same_Some _ _ (sym (ap (λ b. cond b (Some d) None) h.0) ∙ e) in (ap Some is, omega (arith, is, h.1))
   | inr h ↦ let no : None ≡ Some c = sym (ap (λ b. cond b (Some d) None) h.0) ∙ e in absurd (cc)
 ]
@@ -71,13 +71,13 @@ module _ (x : CostTables) (n : ℕ) (is : IsGenerator x n) where
   -- the entry of a rule in the list of choices
   pub choice_shown : {S : Type 0} (value : S → ℕ) (items : List (Option (PIdx S × ℕ))) (r i : ℕ) (entry : Option (PIdx S × ℕ)) → map (choice_of value) items ≡ x.choices
       → r < x.grammar.rules → i ≡ r → entry ≡ get_or items i entry → rule_choice x.choices r ≡ choice_of value entry
-  choice_shown value items r i entry shown within at stands =
+  choice_shown value items r i entry shown within at holds =
       item_shown (choice_of value) items x.choices r entry None shown (subst (λ m. r < m) (sym is.settled.chosen.listed) within)
-      (subst (λ m. entry ≡ get_or items m entry) at stands)
+      (subst (λ m. entry ≡ get_or items m entry) at holds)
 
   -- a rule whose cost is returned has a choice
   pub choice_none : {S : Type 0} (value : S → ℕ) (r c : ℕ) (entry : Option (PIdx S × ℕ)) → Some c ≡ cost_answer x r → rule_choice x.choices r ≡ choice_of value entry
-      → (entry ≡ None) ↔ (HasNone (HasProduction x.grammar) r ⊎ IsTooDear (HasProduction x.grammar) (token_cost x) r)
+      → (entry ≡ None) ↔ (HasNone (HasProduction x.grammar) r ⊎ IsTooLarge (HasProduction x.grammar) (token_cost x) r)
   choice_none value r c entry answer shown =
       let known = answered_some (rule_cost x.least r) c (sym answer) in
       let small = known.1 in
@@ -86,7 +86,7 @@ module _ (x : CostTables) (n : ℕ) (is : IsGenerator x n) where
         (λ e. let no : ◌≡◌ {A = Option (ℕ × ℕ)} None (Some (p, m)) = sym (shown ∙ ap (choice_of value) e) ∙ by.choice in absurd (cc)),
         (λ h. elim h [
           | inl none ↦ absurd (none least.0.0 least.0.1)
-          | inr dear ↦ let more = dear.1 least.0.0 least.0.1 in absurd (omega (arith, more, least.0.2, small))
+          | inr too_large ↦ let more = too_large.1 least.0.0 least.0.1 in absurd (omega (arith, more, least.0.2, small))
         ]),
       )
 
@@ -121,8 +121,8 @@ module _ (x : CostTables) (n : ℕ) (is : IsGenerator x n) where
                   ∙ some_answered (rule_cost x.least (nth_production x.grammar p).rule) d set (omega (arith, low, small)))) (omega (arith, low, small)))
             ]
 
-    pub answers_covered : All (IsCovered x.costs least) x.grammar.productions
-    answers_covered = All-from_get_or (IsCovered x.costs least) x.grammar.productions (record { rule = 0; symbols = [] }) covered_at
+    pub results_covered : All (IsCovered x.costs least) x.grammar.productions
+    results_covered = All-from_get_or (IsCovered x.costs least) x.grammar.productions (record { rule = 0; symbols = [] }) covered_at
 
     module _ (choices : List (Option (ℕ × ℕ))) (chosen : (r : ℕ) → r < x.grammar.rules → rule_choice choices r ≡ choice_answer x r) where
       choice_some : (r c : ℕ) → rule_cost least r ≡ Some c → rule_choice choices r ≡ rule_choice x.choices r
@@ -144,20 +144,20 @@ module _ (x : CostTables) (n : ℕ) (is : IsGenerator x n) where
           let sum = sum_within (symbol_cost (token_cost x) (rule_cost x.least)) (symbol_cost (token_cost x) (rule_cost least)) 65535 answer_some symbols c (by.sum.is ∙ ap Some total) small in
           let costs = all_have_costs (symbol_cost (token_cost x) (rule_cost least)) symbols c sum in
           subst (λ o. IsSomeAnd o (λ choice. IsShown x.grammar x.costs least choices (claim_of r c choice))) (sym (choice_some r c e ∙ by.choice)) (record {
-            place = by.place;
+            index = by.index;
             owner = by.owner;
             sum = sum;
             below = λ k d h. below_some m _ (costs k d h) (by.below k d h);
           })
 
-      pub answers_reached : EachIndex least (IsReached x.grammar x.costs least choices)
-      answers_reached r within = go (rule_cost least r) refl
+      pub results_reached : EachIndex least (IsReached x.grammar x.costs least choices)
+      results_reached r within = go (rule_cost least r) refl
         where
           go : (o : Option ℕ) → rule_cost least r ≡ o → IfSome o (λ c. IsSomeAnd (rule_choice choices r) (λ choice. IsShown x.grammar x.costs least choices (claim_of r c choice)))
           go None e = tt
           go (Some c) e = reached_cost r c e
 
 -- why no cost is returned
-pub refused : (P : ℕ → List Sym → Type 0) (cost : ℕ → ℕ) (r : ℕ) (e : CostError) → AnswersLeast P cost r (Err e) → HasNone P r ⊎ IsTooDear P cost r
+pub refused : (P : ℕ → List Sym → Type 0) (cost : ℕ → ℕ) (r : ℕ) (e : CostError) → ReturnsLeast P cost r (Err e) → HasNone P r ⊎ IsTooLarge P cost r
 refused P cost r NoSentence h = inl (h.none.0 refl)
-refused P cost r CostTooLarge h = inr (h.dear.0 refl)
+refused P cost r CostTooLarge h = inr (h.too_large.0 refl)

@@ -12,7 +12,7 @@ use Rattle.cfgtables.specs.Openings.{nth_production}
 use Rattle.cfgleast.specs.declared.partial.Partial.{Partial}
 use Rattle.derivation.specs.Sums.{sum_of, symbol_cost}
 use Rattle.cfgleast.specs.Inner.Open.{IsCutSum, WaitsFor, MovesOn, enters, waits, Phase, queued, held, past, moved, AreOpen, IsAmong, waiting_for}
-use Rattle.cfgleast.proofs.Gains.{Gains, part_at, rule_kept, rule_gained, row_kept, row_gained}
+use Rattle.cfgleast.proofs.Gains.{Gains, part_at, rule_kept, rule_gained, sequence_kept, sequence_gained}
 
 -- the elements of a list that is a permutation of another with one more element
 module _ {A : Type 0} (x : A) (xs ys : List A) (perm : IsPermutation (x ∷ xs) ys) where
@@ -79,7 +79,7 @@ module _ (g : Grammar) (cost : ℕ → ℕ) (settled : ℕ → Option ℕ) (floo
     pub popped_past : AreOpen cost settled g rest waiting moving floor
     popped_past = record {
       queued_sum = λ b q h. state.queued_sum b q (others_in (c, p) rest queue back (b, q) h);
-      queued_place = λ b q h. state.queued_place b q (others_in (c, p) rest queue back (b, q) h);
+      queued_position = λ b q h. state.queued_position b q (others_in (c, p) rest queue back (b, q) h);
       queued_above = λ b q h. state.queued_above b q (others_in (c, p) rest queue back (b, q) h);
       held_for = state.held_for;
       phase = λ q h. popped_phase q (state.phase q h);
@@ -89,7 +89,7 @@ module _ (g : Grammar) (cost : ℕ → ℕ) (settled : ℕ → Option ℕ) (floo
 
   -- a production that was removed from the queue and the lists advances
   module _ (queue : List (ℕ × ℕ)) (waiting : List (List Partial)) (moving moving' : ℕ → Type 0) (p : ℕ)
-      (rest : (q : ℕ) → moving q → (q ≡ p) ⊎ moving' q) (place : p < length g.productions)
+      (rest : (q : ℕ) → moving q → (q ≡ p) ⊎ moving' q) (index : p < length g.productions)
       (above : (c : ℕ) → IsCutSum cost settled (nth_production g p).symbols c → floor ≤ c)
       (state : AreOpen cost settled g queue waiting moving floor) where
     module _ (c : ℕ) (sum : IsCutSum cost settled (nth_production g p).symbols c) (queue' : List (ℕ × ℕ)) (into : IsPermutation ((c, p) ∷ queue) queue') where
@@ -111,7 +111,7 @@ module _ (g : Grammar) (cost : ℕ → ℕ) (settled : ℕ → Option ℕ) (floo
       entered : AreOpen cost settled g queue' waiting moving' floor
       entered = record {
         queued_sum = queued_holds (λ b q. IsCutSum cost settled (nth_production g q).symbols b) sum state.queued_sum;
-        queued_place = queued_holds (λ b q. q < length g.productions) place state.queued_place;
+        queued_position = queued_holds (λ b q. q < length g.productions) index state.queued_position;
         queued_above = queued_holds (λ b q. floor ≤ b) (above c sum) state.queued_above;
         held_for = state.held_for;
         phase = λ q h. enters_phase q (state.phase q h);
@@ -132,7 +132,7 @@ module _ (g : Grammar) (cost : ℕ → ℕ) (settled : ℕ → Option ℕ) (floo
       waited : AreOpen cost settled g queue (slice_set waiting r (waiting_for waiting r ++ x ∷ [])) moving' floor
       waited = record {
         queued_sum = state.queued_sum;
-        queued_place = state.queued_place;
+        queued_position = state.queued_position;
         queued_above = state.queued_above;
         held_for = λ s y h. elim (added_cases waiting r x s y h) [
           | inl k ↦ state.held_for s y k
@@ -181,7 +181,7 @@ module _ (g : Grammar) (cost : ℕ → ℕ) (settled : ℕ → Option ℕ) (floo
       → floor ≤ 65536 → AreOpen cost settled g [] waiting (λ q. 0 ≤ q) floor
   none_open waiting none empty limit = record {
     queued_sum = λ c p h. absurd (contains_none (c, p) h);
-    queued_place = λ c p h. absurd (contains_none (c, p) h);
+    queued_position = λ c p h. absurd (contains_none (c, p) h);
     queued_above = λ c p h. absurd (contains_none (c, p) h);
     held_for = λ r x h. absurd (contains_none x (subst (λ l. Contains l x) (empty r) h));
     phase = λ q h. moved (omega arith);
@@ -194,10 +194,10 @@ module _ (g : Grammar) (cost : ℕ → ℕ) (old new : ℕ → Option ℕ) (r c 
     (queue rest : List (ℕ × ℕ)) (waiting : List (List Partial)) (out : IsPermutation queue ((c, p) ∷ rest)) (above : All (λ (x : ℕ × ℕ). c ≤ x.0) rest)
     (moving : ℕ → Type 0) (none : (q : ℕ) → moving q → ⊥) (state : AreOpen cost old g queue waiting moving floor) where
   cut_kept : (a : List Sym) (n : ℕ) → IsCutSum cost old a n → IsCutSum cost new a n
-  cut_kept a n h = record { total = h.total; is = row_kept cost old new r c gains a h.total h.is; cut = h.cut }
+  cut_kept a n h = record { total = h.total; is = sequence_kept cost old new r c gains a h.total h.is; cut = h.cut }
 
   wait_kept : (s : ℕ) (x : Partial) → WaitsFor cost old g s x → WaitsFor cost new g s x
-  wait_kept s x h = record { place = h.place; taken = h.taken; symbol = h.symbol; sum = cut_kept _ x.sum h.sum }
+  wait_kept s x h = record { index = h.index; taken = h.taken; symbol = h.symbol; sum = cut_kept _ x.sum h.sum }
 
   out_back : IsPermutation ((c, p) ∷ rest) queue
   out_back = IsPermutation-sym queue ((c, p) ∷ rest) out
@@ -236,7 +236,7 @@ module _ (g : Grammar) (cost : ℕ → ℕ) (old new : ℕ → Option ℕ) (r c 
     | inl e ↦ elim (taken_cases s x h) [ inl k ↦ held s x (e ∙ unset) k i | inr k ↦ woken_phase q s x k h i ]
   ]
   settled_phase q (past d e f) = past d (rule_kept cost old new r c gains (nth_production g q).rule d e) (λ n k.
-      elim (row_gained cost old new r c gains (nth_production g q).symbols n k) [
+      elim (sequence_gained cost old new r c gains (nth_production g q).symbols n k) [
         | inl h ↦ f n h
         | inr h ↦ omega (arith, state.settled_below (nth_production g q).rule d e, floor_below, cost_limit, h)
       ])
@@ -245,7 +245,7 @@ module _ (g : Grammar) (cost : ℕ → ℕ) (old new : ℕ → Option ℕ) (r c 
   pub settled_open : AreOpen cost new g rest (slice_set waiting r []) (IsAmong (waiting_for waiting r)) c
   settled_open = record {
     queued_sum = λ b q h. cut_kept _ b (state.queued_sum b q (others_in (c, p) rest queue out_back (b, q) h));
-    queued_place = λ b q h. state.queued_place b q (others_in (c, p) rest queue out_back (b, q) h);
+    queued_position = λ b q h. state.queued_position b q (others_in (c, p) rest queue out_back (b, q) h);
     queued_above = λ b q h. All-contains (λ (x : ℕ × ℕ). c ≤ x.0) rest (b, q) above h;
     held_for = λ s y h. wait_kept s y (state.held_for s y (taken_old s y h));
     phase = λ q h. settled_phase q (state.phase q h);

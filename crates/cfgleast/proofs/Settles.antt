@@ -18,8 +18,8 @@ module _ (g : Grammar) (cost : ℕ → ℕ) (least : List (Option ℕ)) (top : �
   top_queued : Contains popped.before top
   top_queued = top_in top queue popped.before (IsPermutation-sym popped.before (top ∷ queue) popped.out)
 
-  pub popped_place : top.1 < length g.productions
-  popped_place = popped.state.1.queued_place top.0 top.1 top_queued
+  pub popped_position : top.1 < length g.productions
+  popped_position = popped.state.1.queued_position top.0 top.1 top_queued
 
   pub popped_again : (r d : ℕ) → (nth_production g top.1).rule ≡ r → rule_cost least r ≡ Some d → AreAllOpen cost (rule_cost least) g queue waiting
   popped_again r d owner e = (
@@ -34,7 +34,7 @@ module _ (g : Grammar) (cost : ℕ → ℕ) (least : List (Option ℕ)) (top : �
         → choices' ≡ slice_set choices r (Some (top.1, n)) → n' ≡ n + 1 → AreChosen g cost least' choices' n'
     settles_chosen least' choices' n' e f h = subst (λ l. AreChosen g cost l choices' n') (sym e) (subst (λ l. AreChosen g cost (slice_set least r (Some top.0)) l n') (sym f)
         (subst (AreChosen g cost (slice_set least r (Some top.0)) (slice_set choices r (Some (top.1, n)))) (sym h)
-        (chosen_more g cost least choices n chosen r within unset top.0 top.1 popped_place owner (popped.state.1.queued_sum top.0 top.1 top_queued))))
+        (chosen_more g cost least choices n chosen r within unset top.0 top.1 popped_position owner (popped.state.1.queued_sum top.0 top.1 top_queued))))
 
     settles_waking : AreWaking cost (rule_cost (slice_set least r (Some top.0))) g queue (slice_set waiting r []) (waiting_for waiting r) 0
     settles_waking =

@@ -7,7 +7,7 @@ use Rattle.derivation.specs.Sentence.{cost_of}
 use Rattle.derivation.specs.Tree.{Yields, empty, token, opened}
 use Rattle.derivation.specs.Sums.{plus, sum_of}
 use Rattle.cfgleast.specs.Inner.Numbers.{IsNumberedBelow}
-use Rattle.derivation.proofs.Made.{GoesOver, Made, cost_of-token, made_row}
+use Rattle.derivation.proofs.Made.{GoesOver, Made, cost_of-token, made_sequence}
 
 module _ (P : ℕ → List Sym → Type 0) (cost : ℕ → ℕ) (costs : Sym → Option ℕ) where
   -- a relation between costs in the table and costs of words that sums preserve, and that carries over from productions to their rules
@@ -34,7 +34,7 @@ module _ (P : ℕ → List Sym → Type 0) (cost : ℕ → ℕ) (costs : Sym →
     pub sum : ℕ
     pub has : P r symbols
     pub sum_is : sum_of costs symbols ≡ Some sum
-    pub stands : (n : ℕ) → R sum n → R c n
+    pub holds : (n : ℕ) → R sum n → R c n
     pub below : All (IsNumberedBelow number (number r)) symbols
 
   module _ (R : ℕ → ℕ → Type 0) (over : GoesOver cost costs R) where
@@ -42,7 +42,7 @@ module _ (P : ℕ → List Sym → Type 0) (cost : ℕ → ℕ) (costs : Sym →
     made_rule number r c choice h = record {
       word = h.word;
       tree = opened choice.has h.tree empty (sym (append-nil h.word));
-      stands = choice.stands (cost_of cost h.word) h.stands;
+      holds = choice.holds (cost_of cost h.word) h.holds;
     }
 
     module _ (number : ℕ → ℕ) (chosen : (r c : ℕ) → costs (Rule r) ≡ Some c → Choice R number r c) where
@@ -50,7 +50,7 @@ module _ (P : ℕ → List Sym → Type 0) (cost : ℕ → ℕ) (costs : Sym →
       made_below zero r c below e = absurd (omega (arith, below))
       made_below (suc n) r c below e =
           let choice = chosen r c e in
-          made_rule number r c choice (made_row P cost costs R over (IsNumberedBelow number (number r))
+          made_rule number r c choice (made_sequence P cost costs R over (IsNumberedBelow number (number r))
           (λ q d h. made_below n q d (omega (arith, below, h))) choice.symbols choice.sum choice.below choice.sum_is)
 
       -- each cost that depends on a choice is that of a sentence

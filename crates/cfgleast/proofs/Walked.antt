@@ -33,15 +33,15 @@ module _ (cost : ℕ → ℕ) (settled : ℕ → Option ℕ) where
   module _ (g : Grammar) where
     -- a production of which nothing was summed
     pub partial_none : (x : Partial) → x.production < length g.productions → x.taken ≡ 0 → x.sum ≡ 0 → IsPartial cost settled g x
-    partial_none x place taken sum = record {
-      place = place;
+    partial_none x index taken sum = record {
+      index = index;
       taken = omega (arith, taken);
       sum = subst (λ n. IsCutSum cost settled (take n (nth_production g x.production).symbols) x.sum) (sym taken)
           (subst (IsCutSum cost settled []) (sym sum) (record { total = 0; is = refl; cut = refl }));
     }
 
     pub partial_waiting : (r : ℕ) (x : Partial) → WaitsFor cost settled g r x → IsPartial cost settled g x
-    partial_waiting r x h = record { place = h.place; taken = omega (arith, h.taken); sum = h.sum }
+    partial_waiting r x h = record { index = h.index; taken = omega (arith, h.taken); sum = h.sum }
 
     -- the rule at which a walk stops is a rule of the grammar
     pub stop_listed : (a : List Sym) (rules tokens r : ℕ) (x : Partial) → All (IsListed rules tokens) a → StopsAt cost settled a r x → r < rules
@@ -49,9 +49,9 @@ module _ (cost : ℕ → ℕ) (settled : ℕ → Option ℕ) where
 
     pub stop_waits : (p r : ℕ) (x : Partial) → p < length g.productions → x.production ≡ p → StopsAt cost settled (nth_production g p).symbols r x
         → WaitsFor cost settled g r x
-    stop_waits p r x place is h =
+    stop_waits p r x index is h =
         let there = subst (λ n. StopsAt cost settled (nth_production g n).symbols r x) (sym is) h in
-        record { place = subst (λ n. n < length g.productions) (sym is) place; taken = there.taken; symbol = there.symbol; sum = there.sum }
+        record { index = subst (λ n. n < length g.productions) (sym is) index; taken = there.taken; symbol = there.symbol; sum = there.sum }
 
     -- one more production advances
     pub count_moved : (p : ℕ) (queue queue' : List (ℕ × ℕ)) (waiting waiting' : List (List Partial)) → MovesOn cost settled g p queue queue' waiting waiting'
@@ -88,7 +88,7 @@ module _ (cost : ℕ → ℕ) (settled : ℕ → Option ℕ) where
       floor,
       record {
         queued_sum = state.queued_sum;
-        queued_place = state.queued_place;
+        queued_position = state.queued_position;
         queued_above = state.queued_above;
         held_for = state.held_for;
         phase = λ q h. go q h (state.phase q h);
@@ -112,7 +112,7 @@ module _ (cost : ℕ → ℕ) (settled : ℕ → Option ℕ) where
       floor = waking.floor;
       now = waking.now;
       for = waking.for;
-      state = moved_on g cost settled waking.floor queue waiting (IsAmong (drop i woken)) (IsAmong (drop (i + 1) woken)) x.production among for.place
+      state = moved_on g cost settled waking.floor queue waiting (IsAmong (drop i woken)) (IsAmong (drop (i + 1) woken)) x.production among for.index
           (woken_above g cost settled waking.floor waking.rule x for waking.now waking.state.limit) waking.state queue' waiting' moves;
     }
       where

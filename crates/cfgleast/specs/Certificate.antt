@@ -36,7 +36,7 @@ claim_of r c choice = record { rule = r; cost = c; production = choice.0; number
 
 -- the production is one of the rule and has this cost, and its rules have choices with lesser numbers
 pub record IsShown (g : Grammar) (costs : List ℕ) (least : List (Option ℕ)) (choices : List (Option (ℕ × ℕ))) (claim : Claim) : Type 0 where
-  pub place : claim.production < length g.productions
+  pub index : claim.production < length g.productions
   pub owner : (nth_production g claim.production).rule ≡ claim.rule
   pub sum : sum_by_lists costs least (nth_production g claim.production).symbols ≡ Some claim.cost
   pub below : All (IsChosenBelow choices claim.number) (nth_production g claim.production).symbols

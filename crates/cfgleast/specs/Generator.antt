@@ -54,19 +54,19 @@ abbrev pub HasNone : (ℕ → List Sym → Type 0) → ℕ → Type 0
 HasNone P r = (w : List ℕ) → Sentence P r w → ⊥
 
 -- a rule has a sentence, and each costs more than 65535
-abbrev pub IsTooDear : (ℕ → List Sym → Type 0) → (ℕ → ℕ) → ℕ → Type 0
-IsTooDear P cost r = ((w : List ℕ) × Sentence P r w) × ((w : List ℕ) → Sentence P r w → 65535 < cost_of cost w)
+abbrev pub IsTooLarge : (ℕ → List Sym → Type 0) → (ℕ → ℕ) → ℕ → Type 0
+IsTooLarge P cost r = ((w : List ℕ) × Sentence P r w) × ((w : List ℕ) → Sentence P r w → 65535 < cost_of cost w)
 
 -- the least cost of a rule, if it is at most 65535, or why there is none
-pub record AnswersLeast (P : ℕ → List Sym → Type 0) (cost : ℕ → ℕ) (r : ℕ) (result : Result ℕ CostError) : Type 0 where
+pub record ReturnsLeast (P : ℕ → List Sym → Type 0) (cost : ℕ → ℕ) (r : ℕ) (result : Result ℕ CostError) : Type 0 where
   pub least : IfOk result (Least P cost r)
   pub found : (c : ℕ) → Least P cost r c → c ≤ 65535 → result ≡ Ok c
   pub none : (result ≡ Err NoSentence) ↔ HasNone P r
-  pub dear : (result ≡ Err CostTooLarge) ↔ IsTooDear P cost r
+  pub too_large : (result ≡ Err CostTooLarge) ↔ IsTooLarge P cost r
 
 -- a production of a rule, whose symbols derive a sentence such that no other costs less
 pub record IsLeastProduction (g : Grammar) (cost : ℕ → ℕ) (r p : ℕ) : Type 0 where
-  pub place : p < length g.productions
+  pub index : p < length g.productions
   pub owner : (nth_production g p).rule ≡ r
   pub word : List ℕ
   pub derived : Derives (HasProduction g) (nth_production g p).symbols (map Token word)

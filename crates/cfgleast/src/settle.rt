@@ -110,8 +110,8 @@ fn settle_next<S: Storage, T: Tables<S>>(
         queue.new waiting.new) }
     ensures count { OnOk result (count_open queue.new waiting.new ≡ count_open queue.old waiting.old) }
 {
-    let (cost, place) = top;
-    let p = PIdx(to_storage(place as usize));
+    let (cost, index) = top;
+    let p = PIdx(to_storage(index as usize));
     let rule = usize::from(grm.prod_to_rule(p));
     if settled.least[rule].is_some() {
         return Ok(());

@@ -60,11 +60,11 @@ pub fn walk<S: Storage>(
         taken,
         mut sum,
     } = partial;
-    for place in taken..symbols.len() {
-        match settled_cost(costs, least, symbols[place]) {
+    for index in taken..symbols.len() {
+        match settled_cost(costs, least, symbols[index]) {
             Ok(cost) => sum = TOO_LARGE.min(sum.saturating_add(cost)),
             Err(rule) => {
-                let taken = place;
+                let taken = index;
                 return Err((
                     rule,
                     Partial {

@@ -47,7 +47,7 @@ piece_is piece rest left parts size =
     (sym whole ∙ sym (take_all step rest (omega arith)), none ∙ sym (drop_all step rest (omega arith))))
     (λ long.
     let full : length piece ≡ step = omega arith in
-    let front = take-append_seam piece left in
+    let prefix = take-append_seam piece left in
     let back = drop-append_seam piece left in
     (cc, cc))
     (cases_lt (length rest) step)
@@ -58,11 +58,11 @@ pub counted_more : (text rest counts : List ℕ) (last : ℕ) (piece left : List
 counted_more text rest counts last piece left counted parts size =
     let some = counted.some in
     let done = (length counts - 1) * step in
-    let (front, back) = piece_is piece rest left parts size in
+    let (prefix, back) = piece_is piece rest left parts size in
     let longer : done + step ≡ length counts * step = omega arith in
     let more : last + begun piece ≡ begun (take (length counts * step) text) =
     ap (λ n. n + begun piece) counted.last_is
-    ∙ (ap (λ bytes. begun (take done text) + begun bytes) (front ∙ ap (take step) counted.rest_is)
+    ∙ (ap (λ bytes. begun (take done text) + begun bytes) (prefix ∙ ap (take step) counted.rest_is)
     ∙ (sym (sum_by-append (λ byte. cond (begins_character byte) 1 0) (take done text) (take step (drop done text)))
     ∙ (ap begun (sym (take-add done step text))
     ∙ ap (λ n. begun (take n text)) longer))) in

@@ -25,6 +25,6 @@ after_last_some text i j within found =
     after_last_is text j within
     (λ k low high.
     let other = NoCharPasses-char 10 (drop j text) (k - j) found.0 (omega arith) (omega (arith, length-drop j text)) in
-    let place : get_or (drop j text) (k - j) 0 ≡ get_or text k 0 = get_or-drop j text (k - j) 0 ∙ ap (λ n. get_or text n 0) (omega arith) in
-    ne_eqb _ _ (λ e. other (place ∙ e)))
+    let offset : get_or (drop j text) (k - j) 0 ≡ get_or text k 0 = get_or-drop j text (k - j) 0 ∙ ap (λ n. get_or text n 0) (omega arith) in
+    ne_eqb _ _ (λ e. other (offset ∙ e)))
     (λ h. ap (λ n. is_newline (get_or text n 0)) (omega arith) ∙ eq-eqb _ _ (found.1.byte (omega arith)))

@@ -3,5 +3,5 @@ pub mod LineEnds
 pub mod LastLine
 pub mod Pieces
 pub mod Characters
-pub mod LineFronts
+pub mod LinePrefixes
 pub mod Counts

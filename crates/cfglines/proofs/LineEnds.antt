@@ -6,7 +6,7 @@ use Rattle.std.proofs.lemmas.List.Sums.{prefix_len-le-length, suffix_len-le-leng
 use Rattle.std.proofs.lemmas.Bool.{cases_Bool}
 use Rattle.std.specs.List.{prefix_len, suffix_len, position_or_len}
 use Rattle.lemmas.proofs.Growing.{from_pushes}
-use Rattle.cfglines.specs.Lines.{is_newline, newlines_of, line_front, line_start, line_end}
+use Rattle.cfglines.specs.Lines.{is_newline, newlines_of, line_prefix, line_start, line_end}
 use Rattle.cfglines.proofs.Newlines.{newlines_of-append, newlines_of-split}
 
 -- what one more byte adds to the offsets
@@ -29,10 +29,10 @@ newlines_of-take_other text i within other =
     rw (take_more text i 0 within, newlines_of-other (take i text) (get_or text i 0) other) refl
 
 -- a text that begins at start adds its offsets to the old ones
-pub places_push : (places old : List ℕ) (start : ℕ) (text : List ℕ) (i : ℕ) → i < length text → is_newline (get_or text i 0) ≡ true
-    → places ≡ old ++ map (λ place. start + place) (newlines_of (take i text))
-    → places ++ (start + i) ∷ [] ≡ old ++ map (λ place. start + place) (newlines_of (take (i + 1) text))
-places_push places old start text i within newline so_far =
+pub offsets_push : (positions old : List ℕ) (start : ℕ) (text : List ℕ) (i : ℕ) → i < length text → is_newline (get_or text i 0) ≡ true
+    → positions ≡ old ++ map (λ offset. start + offset) (newlines_of (take i text))
+    → positions ++ (start + i) ∷ [] ≡ old ++ map (λ offset. start + offset) (newlines_of (take (i + 1) text))
+offsets_push positions old start text i within newline so_far =
     rw (newlines_of-take_newline text i within newline, map_push, so_far, append_assoc) refl
 
 abbrev pub is_other : ℕ → Bool
@@ -41,7 +41,7 @@ is_other byte = not (is_newline byte)
 -- after the last newline come the bytes that end a text, none of which is a newline
 record LastLine (text : List ℕ) : Type 0 where
   whole : length (newlines_of text) ≡ 0 → suffix_len is_other text ≡ length text
-  behind : (last : ℕ) → length (newlines_of text) ≡ last + 1
+  after : (last : ℕ) → length (newlines_of text) ≡ last + 1
       → suffix_len is_other text + get_or (newlines_of text) last 0 + 1 ≡ length text
 
 suffix_len_push : (text : List ℕ) (byte : ℕ) → suffix_len is_other (text ++ byte ∷ []) ≡ cond (is_other byte) (1 + suffix_len is_other text) 0
@@ -49,22 +49,22 @@ suffix_len_push text byte = ap (prefix_len is_other) (reverse-append text (byte 
 
 last_line_newline : (text : List ℕ) (byte : ℕ) → is_newline byte ≡ true → LastLine (text ++ byte ∷ [])
 last_line_newline text byte h =
-    let places = newlines_of-newline text byte h in
+    let positions = newlines_of-newline text byte h in
     let len = length_push (newlines_of text) (length text) in
     let none : suffix_len is_other (text ++ byte ∷ []) ≡ 0 = suffix_len_push text byte ∙ rw h refl in
     record {
-      whole = rw places (λ none. absurd (omega arith));
-      behind = rw (places, none, length_push text byte) (λ last some.
+      whole = rw positions (λ none. absurd (omega arith));
+      after = rw (positions, none, length_push text byte) (λ last some.
           let here = get_or_push (newlines_of text) (length text) 0 last (omega arith) in omega arith);
     }
 
 last_line_other : (text : List ℕ) (byte : ℕ) → is_newline byte ≡ false → LastLine text → LastLine (text ++ byte ∷ [])
 last_line_other text byte h line =
-    let places = newlines_of-other text byte h in
+    let positions = newlines_of-other text byte h in
     let more : suffix_len is_other (text ++ byte ∷ []) ≡ 1 + suffix_len is_other text = suffix_len_push text byte ∙ rw h refl in
     record {
-      whole = rw (places, more, length_push text byte) (λ none. let rest = line.whole none in omega arith);
-      behind = rw (places, more, length_push text byte) (λ last some. let rest = line.behind last some in omega arith);
+      whole = rw (positions, more, length_push text byte) (λ none. let rest = line.whole none in omega arith);
+      after = rw (positions, more, length_push text byte) (λ last some. let rest = line.after last some in omega arith);
     }
 
 no_newline : (last : ℕ) → length (newlines_of []) ≡ last + 1 → ⊥
@@ -73,11 +73,11 @@ no_newline last some = omega arith
 
 last_line : (text : List ℕ) → LastLine text
 last_line = from_pushes LastLine
-    (record { whole = λ none. refl; behind = λ last some. absurd (no_newline last some) })
+    (record { whole = λ none. refl; after = λ last some. absurd (no_newline last some) })
     (λ text byte line. ⊎_elim (last_line_newline text byte) (λ h. last_line_other text byte h line) (cases_Bool (is_newline byte)))
 
 pub line_start-suffix_len : (text : List ℕ) (b : ℕ) → line_start text b ≡ length (take b text) - suffix_len is_other (take b text)
-unfolding line_start line_front
+unfolding line_start line_prefix
 line_start-suffix_len text b = simp length-drop (omega (arith, suffix_len-le-length is_other (take b text)))
 
 pub line_start-le : (text : List ℕ) (b : ℕ) → line_start text b ≤ b
@@ -90,17 +90,17 @@ line_start_none text b none =
 
 pub line_start_some : (text : List ℕ) (b last : ℕ) → length (newlines_of (take b text)) ≡ last + 1 → line_start text b ≡ get_or (newlines_of text) last 0 + 1
 line_start_some text b last some =
-    let behind = (last_line (take b text)).behind last some in
+    let after = (last_line (take b text)).after last some in
     let start = line_start-suffix_len text b in
-    let place : get_or (newlines_of text) last 0 ≡ get_or (newlines_of (take b text)) last 0 =
+    let offset : get_or (newlines_of text) last 0 ≡ get_or (newlines_of (take b text)) last 0 =
     rw (newlines_of-split text b) (get_or_append_left (newlines_of (take b text)) _ 0 last (omega arith)) in
     omega arith
 
 -- the same in a text with one more byte before it
-first_newline-cons : (newline : Bool) (places : List ℕ) (first n : ℕ) → first ≡ get_or places 0 n
-    → cond (not newline) (1 + first) 0 ≡ get_or ((if newline then 0 ∷ [] else []) ++ map suc places) 0 (suc n)
-first_newline-cons true places first n h = refl
-first_newline-cons false places first n h = let place = get_or-map suc places 0 n in omega arith
+first_newline-cons : (newline : Bool) (positions : List ℕ) (first n : ℕ) → first ≡ get_or positions 0 n
+    → cond (not newline) (1 + first) 0 ≡ get_or ((if newline then 0 ∷ [] else []) ++ map suc positions) 0 (suc n)
+first_newline-cons true positions first n h = refl
+first_newline-cons false positions first n h = let offset = get_or-map suc positions 0 n in omega arith
 
 first_newline : (text : List ℕ) → position_or_len is_newline text ≡ get_or (newlines_of text) 0 (length text)
 unfolding newlines_of
@@ -115,13 +115,13 @@ line_end-position text b = simp length-take (omega (arith, prefix_len-le-length 
 pub line_end_is : (text : List ℕ) (b : ℕ) → line_end text b ≡ get_or (newlines_of text) (length (newlines_of (take b text))) (length text)
 line_end_is text b =
     let n = length (take b text) in
-    let front = newlines_of (take b text) in
+    let prefix = newlines_of (take b text) in
     let back = newlines_of (drop b text) in
     let whole : length text ≡ n + length (drop b text) = omega (arith, length-take b text, length-drop b text) in
-    let here : get_or (newlines_of text) (length front) (length text) ≡ get_or (map (λ place. n + place) back) 0 (length text) =
-    rw (newlines_of-split text b) (get_or_at_seam front _ (length text)) in
-    let first : get_or (map (λ place. n + place) back) 0 (length text) ≡ n + get_or back 0 (length (drop b text)) =
-    rw whole (get_or-map (λ place. n + place) back 0 (length (drop b text))) in
+    let here : get_or (newlines_of text) (length prefix) (length text) ≡ get_or (map (λ offset. n + offset) back) 0 (length text) =
+    rw (newlines_of-split text b) (get_or_at_seam prefix _ (length text)) in
+    let first : get_or (map (λ offset. n + offset) back) 0 (length text) ≡ n + get_or back 0 (length (drop b text)) =
+    rw whole (get_or-map (λ offset. n + offset) back 0 (length (drop b text))) in
     let start = first_newline (drop b text) in
     let end = line_end-position text b in
     omega arith

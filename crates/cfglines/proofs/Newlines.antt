@@ -9,22 +9,22 @@ use Rattle.std.proofs.lemmas.Grind.{common_steps}
 use Rattle.std.specs.List.Sorted.{IsPartitionPoint, IsPartitionedBy}
 use Rattle.cfglines.specs.Lines.{Kept, StandsFor, is_newline, newlines_of}
 
-map-suc-add : (n : ℕ) (places : List ℕ) → map suc (map (λ place. n + place) places) ≡ map (λ place. suc n + place) places
+map-suc-add : (n : ℕ) (positions : List ℕ) → map suc (map (λ offset. n + offset) positions) ≡ map (λ offset. suc n + offset) positions
 map-suc-add n [] = refl
-map-suc-add n (place ∷ places) =
-    let here : suc (n + place) ≡ suc n + place = omega arith in
-    let others = map-suc-add n places in cc
+map-suc-add n (offset ∷ positions) =
+    let here : suc (n + offset) ≡ suc n + offset = omega arith in
+    let others = map-suc-add n positions in cc
 
-pub newlines_of-append : (front back : List ℕ)
-    → newlines_of (front ++ back) ≡ newlines_of front ++ map (λ place. length front + place) (newlines_of back)
+pub newlines_of-append : (prefix back : List ℕ)
+    → newlines_of (prefix ++ back) ≡ newlines_of prefix ++ map (λ offset. length prefix + offset) (newlines_of back)
 unfolding newlines_of
-newlines_of-append [] back = sym (map_fixed (λ place. 0 + place) (newlines_of back) (λ k d within. omega arith))
-newlines_of-append (byte ∷ front) back =
-    rw (newlines_of-append front back, map-append, map-suc-add (length front), append_assoc) refl
+newlines_of-append [] back = sym (map_fixed (λ offset. 0 + offset) (newlines_of back) (λ k d within. omega arith))
+newlines_of-append (byte ∷ prefix) back =
+    rw (newlines_of-append prefix back, map-append, map-suc-add (length prefix), append_assoc) refl
 
 -- the offsets in what precedes b, and then those from b on
 pub newlines_of-split : (text : List ℕ) (b : ℕ)
-    → newlines_of text ≡ newlines_of (take b text) ++ map (λ place. length (take b text) + place) (newlines_of (drop b text))
+    → newlines_of text ≡ newlines_of (take b text) ++ map (λ offset. length (take b text) + offset) (newlines_of (drop b text))
 newlines_of-split text b = ap newlines_of (sym (take-append-drop b text)) ∙ newlines_of-append (take b text) (drop b text)
 
 pub length-newlines_of : (text : List ℕ) → length (newlines_of text) ≡ count_by is_newline text
@@ -38,78 +38,78 @@ length-newlines_of (byte ∷ text) =
     one false n = refl
 
 -- a newline is one of the text's bytes
-pub newlines_of-within : (text : List ℕ) → All (λ place. place < length text) (newlines_of text)
+pub newlines_of-within : (text : List ℕ) → All (λ offset. offset < length text) (newlines_of text)
 unfolding newlines_of
 newlines_of-within [] = All-nil _
 newlines_of-within (byte ∷ text) =
-    All-append (λ place. place < suc (length text)) (if is_newline byte then 0 ∷ [] else []) _ (one (is_newline byte))
-    (All-map (λ place. place < suc (length text)) suc (newlines_of text)
+    All-append (λ offset. offset < suc (length text)) (if is_newline byte then 0 ∷ [] else []) _ (one (is_newline byte))
+    (All-map (λ offset. offset < suc (length text)) suc (newlines_of text)
     (λ k d h. let below = newlines_of-within text k d h in omega arith))
   where
-    one : (b : Bool) → All (λ place. place < suc (length text)) (if b then 0 ∷ [] else [])
+    one : (b : Bool) → All (λ offset. offset < suc (length text)) (if b then 0 ∷ [] else [])
     one true = λ k d h. grind (arith, common_steps)
     one false = All-nil _
 
 -- offsets below b come first, so a bisection finds how many there are
-module _ (front back : List ℕ) (b : ℕ) (below : All (λ place. place < b) front) (above : All (λ place. b ≤ place) back) where
-  pub IsPartitionedBy-append : IsPartitionedBy (λ place. ltb place b) (front ++ back)
+module _ (prefix back : List ℕ) (b : ℕ) (below : All (λ offset. offset < b) prefix) (above : All (λ offset. b ≤ offset) back) where
+  pub IsPartitionedBy-append : IsPartitionedBy (λ offset. ltb offset b) (prefix ++ back)
   IsPartitionedBy-append i j d i_le_j within passes = ⊎_elim
-      (λ (h : j < length front). rw (get_or_append_left front back d i (lt_of_le_of_lt i_le_j h)) (lt-ltb _ _ (below i d (lt_of_le_of_lt i_le_j h))))
-      (λ (h : length front ≤ j).
-      let small : get_or (front ++ back) j d < b = ltb-true _ _ passes in
-      let place = get_or-append_right front back (length front) j d refl h in
-      let large : b ≤ get_or back (j - length front) d = above (j - length front) d (omega (arith, length-append front back)) in
+      (λ (h : j < length prefix). rw (get_or_append_left prefix back d i (lt_of_le_of_lt i_le_j h)) (lt-ltb _ _ (below i d (lt_of_le_of_lt i_le_j h))))
+      (λ (h : length prefix ≤ j).
+      let small : get_or (prefix ++ back) j d < b = ltb-true _ _ passes in
+      let offset = get_or-append_right prefix back (length prefix) j d refl h in
+      let large : b ≤ get_or back (j - length prefix) d = above (j - length prefix) d (omega (arith, length-append prefix back)) in
       absurd (omega arith))
-      (cases_lt j (length front))
+      (cases_lt j (length prefix))
 
-  pub partition_point-append : (i : ℕ) → i ≤ length (front ++ back)
-      → IsPartitionPoint (λ place. ltb place b ≡ true) (λ place. ltb place b ≡ false) (front ++ back) i → i ≡ length front
+  pub partition_point-append : (i : ℕ) → i ≤ length (prefix ++ back)
+      → IsPartitionPoint (λ offset. ltb offset b ≡ true) (λ offset. ltb offset b ≡ false) (prefix ++ back) i → i ≡ length prefix
   partition_point-append i within point = ⊎_elim
-      (λ (e : i ≡ length front). e)
+      (λ (e : i ≡ length prefix). e)
       (⊎_elim
-      (λ (h : i < length front).
-      let large : b ≤ get_or (front ++ back) i 0 = ltb-false _ _ (point.1 i 0 (omega arith) (omega (arith, length-append front back))) in
-      let place = get_or_append_left front back 0 i h in
-      let small : get_or front i 0 < b = below i 0 h in
+      (λ (h : i < length prefix).
+      let large : b ≤ get_or (prefix ++ back) i 0 = ltb-false _ _ (point.1 i 0 (omega arith) (omega (arith, length-append prefix back))) in
+      let offset = get_or_append_left prefix back 0 i h in
+      let small : get_or prefix i 0 < b = below i 0 h in
       absurd (omega arith))
-      (λ (h : length front < i).
-      let small : get_or (front ++ back) (length front) 0 < b = ltb-true _ _ (point.0 (length front) 0 (omega arith) h) in
-      let place = get_or-append_right front back (length front) (length front) 0 refl (omega arith) in
-      let large : b ≤ get_or back (length front - length front) 0 = above (length front - length front) 0 (omega (arith, length-append front back)) in
+      (λ (h : length prefix < i).
+      let small : get_or (prefix ++ back) (length prefix) 0 < b = ltb-true _ _ (point.0 (length prefix) 0 (omega arith) h) in
+      let offset = get_or-append_right prefix back (length prefix) (length prefix) 0 refl (omega arith) in
+      let large : b ≤ get_or back (length prefix - length prefix) 0 = above (length prefix - length prefix) 0 (omega (arith, length-append prefix back)) in
       absurd (omega arith)))
-      (cases_order i (length front))
+      (cases_order i (length prefix))
 
 -- the newlines before b, and those from b on
 module _ (text : List ℕ) (b : ℕ) where
-  abbrev front : List ℕ
-  front = newlines_of (take b text)
+  abbrev prefix : List ℕ
+  prefix = newlines_of (take b text)
 
   abbrev back : List ℕ
-  back = map (λ place. length (take b text) + place) (newlines_of (drop b text))
+  back = map (λ offset. length (take b text) + offset) (newlines_of (drop b text))
 
-  front_below : All (λ place. place < b) front
-  front_below k d h = let within = newlines_of-within (take b text) k d h in omega (arith, length-take b text)
+  prefix_below : All (λ offset. offset < b) prefix
+  prefix_below k d h = let within = newlines_of-within (take b text) k d h in omega (arith, length-take b text)
 
-  back_above : All (λ place. b ≤ place) back
-  back_above = All-map (λ place. b ≤ place) (λ place. length (take b text) + place) (newlines_of (drop b text)) (λ k d h.
+  back_above : All (λ offset. b ≤ offset) back
+  back_above = All-map (λ offset. b ≤ offset) (λ offset. length (take b text) + offset) (newlines_of (drop b text)) (λ k d h.
       let within = newlines_of-within (drop b text) k d h in
       omega (arith, length-take b text, length-drop b text))
 
-  pub IsPartitionedBy-newlines_of : IsPartitionedBy (λ place. ltb place b) (newlines_of text)
-  IsPartitionedBy-newlines_of = rw (newlines_of-split text b) (IsPartitionedBy-append front back b front_below back_above)
+  pub IsPartitionedBy-newlines_of : IsPartitionedBy (λ offset. ltb offset b) (newlines_of text)
+  IsPartitionedBy-newlines_of = rw (newlines_of-split text b) (IsPartitionedBy-append prefix back b prefix_below back_above)
 
   pub newlines_of-partition_point : (i : ℕ) → i ≤ length (newlines_of text)
-      → IsPartitionPoint (λ place. ltb place b ≡ true) (λ place. ltb place b ≡ false) (newlines_of text) i → i ≡ length front
+      → IsPartitionPoint (λ offset. ltb offset b ≡ true) (λ offset. ltb offset b ≡ false) (newlines_of text) i → i ≡ length prefix
   newlines_of-partition_point i within point =
-      partition_point-append front back b front_below back_above i
+      partition_point-append prefix back b prefix_below back_above i
       (rw (newlines_of-split text b) at within) (rw (newlines_of-split text b) at point)
 
-pub StandsFor-append : (cache : Kept) (before text : List ℕ) (len : ℕ) (places : List ℕ) → StandsFor cache before → len ≡ cache.bytes + length text
-    → places ≡ cache.newlines ++ map (λ place. cache.bytes + place) (newlines_of text)
-    → StandsFor (record { bytes = len; newlines = places }) (before ++ text)
-StandsFor-append cache before text len places stands longer more =
-    let bytes = stands.bytes in
-    let newlines = stands.newlines in
+pub StandsFor-append : (cache : Kept) (before text : List ℕ) (len : ℕ) (positions : List ℕ) → StandsFor cache before → len ≡ cache.bytes + length text
+    → positions ≡ cache.newlines ++ map (λ offset. cache.bytes + offset) (newlines_of text)
+    → StandsFor (record { bytes = len; newlines = positions }) (before ++ text)
+StandsFor-append cache before text len positions holds longer more =
+    let bytes = holds.bytes in
+    let newlines = holds.newlines in
     record {
       bytes = omega (arith, length-append before text);
       newlines = rw (newlines_of-append before text, ← bytes, ← newlines) more;

@@ -23,12 +23,12 @@ unfoldable pub line_number : List ℕ → ℕ → ℕ
 line_number text b = count_by is_newline (take b text) + 1
 
 -- the part of b's line before b
-unfoldable pub line_front : List ℕ → ℕ → List ℕ
-line_front text b = after_last is_newline (take b text)
+unfoldable pub line_prefix : List ℕ → ℕ → List ℕ
+line_prefix text b = after_last is_newline (take b text)
 
 -- where b's line starts
 unfoldable pub line_start : List ℕ → ℕ → ℕ
-line_start text b = length (take b text) - length (line_front text b)
+line_start text b = length (take b text) - length (line_prefix text b)
 
 -- where b's line ends: at the first LF at or after b, or else at the text's end
 unfoldable pub line_end : List ℕ → ℕ → ℕ
@@ -36,7 +36,7 @@ line_end text b = length (take b text) + length (before_first is_newline (drop b
 
 -- how many characters b's line has up to and including the one at b, where the text's end counts as one
 abbrev pub character_count : List ℕ → ℕ → ℕ
-character_count text b = length (chars (line_front text b)) + 1
+character_count text b = length (chars (line_prefix text b)) + 1
 
 -- the column of b, from 1: that count, except that an LF right after a CR has the CR's column
 unfoldable pub column : List ℕ → ℕ → ℕ

@@ -2,7 +2,7 @@
 #![tactic(auto)]
 
 pub mod newlinecache;
-pub mod places;
+pub mod positions;
 
 pub use newlinecache::{FeedError, NewlineCache};
-pub use places::Places;
+pub use positions::Positions;

@@ -176,7 +176,7 @@ impl NewlineCache {
         ensures bound { result ≤ length self.now.newlines }
         ensures small { result < 2 ^ 63 }
     {
-        self.newlines.partition_point(|place| *place < byte)
+        self.newlines.partition_point(|offset| *offset < byte)
     }
 
     /// The start of the byte's line, or of the last line beyond the text's end.
@@ -194,17 +194,17 @@ impl NewlineCache {
 fn add_newlines(newlines: &mut Vec<usize>, start: usize, text: &str) -> Result<(), AllocError>
     requires { start + length text.now ≤ usize.MAX }
     ensures ok { OnOk result (newlines.new.items
-        ≡ newlines.old.items ++ map (λ place. start + place) (newlines_of text.now)) }
+        ≡ newlines.old.items ++ map (λ offset. start + offset) (newlines_of text.now)) }
     ensures err { OnErr result (newlines.new.items ≡ newlines.old.items) }
     ensures grows { OnErr result (HasNewline text.now) }
 {
     let known = newlines.len();
     let bytes = text.as_bytes();
-    for (place, byte) in bytes.iter().enumerate() {
+    for (offset, byte) in bytes.iter().enumerate() {
         if *byte != b'\n' {
             continue;
         }
-        if let Err(refused) = newlines.push(start + place) {
+        if let Err(refused) = newlines.push(start + offset) {
             newlines.truncate(known);
             return Err(AllocError::from(refused));
         }

@@ -50,32 +50,32 @@ same_symbols (ordered.Rule a) (ordered.Token b) e = cc
 same_symbols (ordered.Token a) (ordered.Rule b) e = cc
 same_symbols (ordered.Token a) (ordered.Token b) e = let same : a ≡ b = cc in equal_number a b same
 
-equal_rows : (xs ys : List OrderedSymbol) → slice_cmp order.cmp xs ys ≡ Equal → map sym_of_ordered xs ≡ map sym_of_ordered ys
-equal_rows [] [] e = refl
-equal_rows [] (y ∷ ys) e = cc
-equal_rows (x ∷ xs) [] e = cc
-equal_rows (x ∷ xs) (y ∷ ys) e =
+equal_paths : (xs ys : List OrderedSymbol) → slice_cmp order.cmp xs ys ≡ Equal → map sym_of_ordered xs ≡ map sym_of_ordered ys
+equal_paths [] [] e = refl
+equal_paths [] (y ∷ ys) e = cc
+equal_paths (x ∷ xs) [] e = cc
+equal_paths (x ∷ xs) (y ∷ ys) e =
     let (here, later) = both_equal (order.cmp x y) (slice_cmp order.cmp xs ys) e in
-    λ i. equal_symbols x y here i ∷ equal_rows xs ys later i
+    λ i. equal_symbols x y here i ∷ equal_paths xs ys later i
 
-same_rows : (xs ys : List OrderedSymbol) → map sym_of_ordered xs ≡ map sym_of_ordered ys → slice_cmp order.cmp xs ys ≡ Equal
-same_rows [] [] e = refl
-same_rows [] (y ∷ ys) e = cc
-same_rows (x ∷ xs) [] e = cc
-same_rows (x ∷ xs) (y ∷ ys) e =
+same_paths : (xs ys : List OrderedSymbol) → map sym_of_ordered xs ≡ map sym_of_ordered ys → slice_cmp order.cmp xs ys ≡ Equal
+same_paths [] [] e = refl
+same_paths [] (y ∷ ys) e = cc
+same_paths (x ∷ xs) [] e = cc
+same_paths (x ∷ xs) (y ∷ ys) e =
     let here : sym_of_ordered x ≡ sym_of_ordered y = cc in
     let later : map sym_of_ordered xs ≡ map sym_of_ordered ys = cc in
-    λ i. ordering_then (same_symbols x y here i) (same_rows xs ys later i)
+    λ i. ordering_then (same_symbols x y here i) (same_paths xs ys later i)
 
 equal_shapes : (x y : Shape) → shape_cmp x y ≡ Equal → production_of x ≡ production_of y
 equal_shapes x y e =
     let (rule, symbols) = both_equal (nat_cmp x.0 y.0) (slice_cmp order.cmp x.1.items y.1.items) e in
-    λ i. record { rule = exact_unsigned x.0 y.0 rule i; symbols = equal_rows x.1.items y.1.items symbols i }
+    λ i. record { rule = exact_unsigned x.0 y.0 rule i; symbols = equal_paths x.1.items y.1.items symbols i }
 
 same_shapes : (x y : Shape) → production_of x ≡ production_of y → shape_cmp x y ≡ Equal
 same_shapes x y e =
     let rule = equal_number x.0 y.0 (ap (λ (p : Production). p.rule) e) in
-    let symbols = same_rows x.1.items y.1.items (ap (λ (p : Production). p.symbols) e) in
+    let symbols = same_paths x.1.items y.1.items (ap (λ (p : Production). p.symbols) e) in
     λ i. ordering_then (rule i) (symbols i)
 
 -- ordered symbols are the symbols that were ordered
@@ -100,10 +100,10 @@ shape_is g p rule symbols held holds owner are = go (slice_get g.productions p) 
     go None at holds owner = let no : None ≡ Some rule = owner in cc
     go (Some production) at holds owner =
         let same : rule ≡ production.rule = sym (same_Some _ _ owner) in
-        let row : map sym_of_ordered held.items ≡ production.symbols = ap (map sym_of_ordered) are ∙ shown_symbols symbols ∙ sym (same_Some _ _ holds) in
+        let path : map sym_of_ordered held.items ≡ production.symbols = ap (map sym_of_ordered) are ∙ shown_symbols symbols ∙ sym (same_Some _ _ holds) in
         let there = get_or_from_slice_get (map production_core g.productions) p (production_core production) (record { rule = 0; symbols = [] })
         (slice_get-map production_core g.productions p ∙ ap (option_map production_core) at) in
-        let shown : production_of (rule, held) ≡ production_core production = λ i. record { rule = same i; symbols = row i } in
+        let shown : production_of (rule, held) ≡ production_core production = λ i. record { rule = same i; symbols = path i } in
         shown ∙ sym there
 
 module _ (g : Grammar) where

@@ -1,11 +1,11 @@
-pub mod AskedPlaces
+pub mod RequestedPositions
 pub mod FirstAlike
-pub mod HeirTexts
+pub mod TargetTexts
 pub mod Lacking
 pub mod Marking
-pub mod OwnLoops
+pub mod OwnCycles
 pub mod Read
 pub mod Rendered
-pub mod Telling
+pub mod Reporting
 pub mod Texts
 pub mod Unusable

@@ -15,7 +15,7 @@ use Rattle.std.proofs.lemmas.Option.{same_Some, slice_get-get_or, slice_get-map}
 use Rattle.std.proofs.lemmas.Simd.{map-map}
 use Rattle.cfgrammar.proofs.Contained.{contains_first, contains_mapped, contains_none, contains_one, contains_source}
 use Rattle.cfgrammar.proofs.Elements.{get_or-replicate_default}
-use Rattle.cfgrammar.proofs.ListPlaces.{position-distinct, position-map}
+use Rattle.cfgrammar.proofs.ListPositions.{position-distinct, position-map}
 use Rattle.cfgrammar.specs.Span.{Span}
 use Rattle.cfgrammar.specs.Building.{has_name}
 use Rattle.cfgrammar.specs.Syntax.{RuleSymbol, Symbol, Syntax, TokenSymbol, entry_name}
@@ -24,7 +24,7 @@ use Rattle.cfgrammar.specs.Precedence.{Precedence}
 use Rattle.cfgrammar.specs.Unused.{TokenName, entry_token, name_of}
 use Rattle.cfgrammar.proofs.Found.{names_differ}
 use Rattle.cfgrammar.proofs.Joins.{flat_contains, flat_source}
-use Rattle.cfglint.specs.Findings.{TakesPart, asked, held, implicit}
+use Rattle.cfglint.specs.Findings.{TakesPart, requested, held, implicit}
 use Rattle.cfglint.specs.Inner.Taking.{AreMarked, Marks, production_names, symbol_names}
 
 abbrev pub table_names : Option (List (List ℕ × Span)) → List (List ℕ)
@@ -93,26 +93,26 @@ module _ (s : Syntax) where
         go n entry at true same = let no : None ≡ Some n = sym nowhere ∙ there n entry at same in cc
         go n entry at false other = or_false (get_or bits n false) ∙ ap (λ b. get_or bits n false || (b || false)) (sym other)
 
-    pub marks_one : (bits : List Bool) (place : ℕ) → place < length bits → position (bytes_eq name) (map entry_name s.tables.precedences) ≡ Some place
-        → Marks s (name ∷ []) bits (slice_set bits place true)
-    marks_one bits place within found = record { shape = length-set bits place true; each = λ n entry at. go n entry at (bytes_eq entry.0 name) refl }
+    pub marks_one : (bits : List Bool) (index : ℕ) → index < length bits → position (bytes_eq name) (map entry_name s.tables.precedences) ≡ Some index
+        → Marks s (name ∷ []) bits (slice_set bits index true)
+    marks_one bits index within found = record { shape = length-set bits index true; each = λ n entry at. go n entry at (bytes_eq entry.0 name) refl }
       where
-        here : (n : ℕ) (entry : List ℕ × (Precedence × Span)) → slice_get s.tables.precedences n ≡ Some entry → n ≡ place → bytes_eq entry.0 name ≡ true
+        here : (n : ℕ) (entry : List ℕ × (Precedence × Span)) → slice_get s.tables.precedences n ≡ Some entry → n ≡ index → bytes_eq entry.0 name ≡ true
         here n entry at same =
-            let k = position-Some (bytes_eq name) (map entry_name s.tables.precedences) place [] found in
-            let named : slice_get (map entry_name s.tables.precedences) place ≡ Some (get_or (map entry_name s.tables.precedences) place []) = slice_get-get_or _ place [] k.0 in
+            let k = position-Some (bytes_eq name) (map entry_name s.tables.precedences) index [] found in
+            let named : slice_get (map entry_name s.tables.precedences) index ≡ Some (get_or (map entry_name s.tables.precedences) index []) = slice_get-get_or _ index [] k.0 in
             let shown : slice_get (map entry_name s.tables.precedences) n ≡ Some entry.0 = slice_get-map entry_name s.tables.precedences n ∙ ap (option_map entry_name) at in
-            let is : entry.0 ≡ get_or (map entry_name s.tables.precedences) place [] = same_Some _ _ (sym shown ∙ ap (slice_get (map entry_name s.tables.precedences)) same ∙ named) in
+            let is : entry.0 ≡ get_or (map entry_name s.tables.precedences) index [] = same_Some _ _ (sym shown ∙ ap (slice_get (map entry_name s.tables.precedences)) same ∙ named) in
             ap (λ m. bytes_eq m name) (is ∙ sym ((bytes_decides _ _).0 k.1)) ∙ nat_list_eq_equiv.refl name
 
         go : (n : ℕ) (entry : List ℕ × (Precedence × Span)) → slice_get s.tables.precedences n ≡ Some entry → (b : Bool) → bytes_eq entry.0 name ≡ b
-            → get_or (slice_set bits place true) n false ≡ (get_or bits n false || (bytes_eq entry.0 name || false))
+            → get_or (slice_set bits index true) n false ≡ (get_or bits n false || (bytes_eq entry.0 name || false))
         go n entry at true same =
-            let is : n ≡ place = same_Some _ _ (sym (there n entry at same) ∙ found) in
-            ap (λ m. get_or (slice_set bits place true) m false) is ∙ get_or-set_same bits place true false within
+            let is : n ≡ index = same_Some _ _ (sym (there n entry at same) ∙ found) in
+            ap (λ m. get_or (slice_set bits index true) m false) is ∙ get_or-set_same bits index true false within
             ∙ or_true (get_or bits n false) ∙ ap (λ b. get_or bits n false || (b || false)) (sym same)
         go n entry at false other =
-            get_or-set_other bits place n true false (λ is. let no : true ≡ false = sym (here n entry at is) ∙ other in cc)
+            get_or-set_other bits index n true false (λ is. let no : true ≡ false = sym (here n entry at is) ∙ other in cc)
             ∙ or_false (get_or bits n false) ∙ ap (λ b. get_or bits n false || (b || false)) (sym other)
 
   -- a token is used if its name is among those
@@ -122,7 +122,7 @@ module _ (s : Syntax) where
         elim (Contains-append_cases (flat_map symbol_names production.symbols) (option_to_list production.precedence) name h) [
           | inl k ↦ let (symbol, holds, is) = flat_source symbol_names production.symbols name k in
               held given (subst (Contains (map name_of production.symbols)) (token symbol is) (contains_mapped name_of production.symbols symbol holds))
-          | inr k ↦ asked given (behind production.precedence k)
+          | inr k ↦ requested given (after production.precedence k)
         ]
     | inr by ↦ table s.tables.implicit_tokens refl by
   ]
@@ -131,9 +131,9 @@ module _ (s : Syntax) where
       token (RuleSymbol word) h = absurd (contains_none name h)
       token (TokenSymbol word) h = ap TokenName (contains_one word.name name h)
 
-      behind : (o : Option (List ℕ)) → Contains (option_to_list o) name → o ≡ Some name
-      behind None h = absurd (contains_none name h)
-      behind (Some other) h = ap Some (contains_one other name h)
+      after : (o : Option (List ℕ)) → Contains (option_to_list o) name → o ≡ Some name
+      after None h = absurd (contains_none name h)
+      after (Some other) h = ap Some (contains_one other name h)
 
       table : (o : Option (List (List ℕ × Span))) → s.tables.implicit_tokens ≡ o → Contains (table_names o) name → TakesPart s name
       table None is h = absurd (contains_none name h)
@@ -151,7 +151,7 @@ module _ (s : Syntax) where
       token : (symbol : Symbol) → name_of symbol ≡ TokenName name → Contains (symbol_names symbol) name
       token (RuleSymbol word) is = cc
       token (TokenSymbol word) is = let same : word.name ≡ name = cc in subst (Contains (word.name ∷ [])) same (contains_first word.name [])
-  taken name (asked {production = production} given is) =
+  taken name (requested {production = production} given is) =
       Contains-append_left (flat_map production_names s.productions) (table_names s.tables.implicit_tokens) name
       (flat_contains production_names s.productions production name given
       (Contains-append_right (flat_map symbol_names production.symbols) (option_to_list production.precedence) name

@@ -9,7 +9,7 @@ use Rattle.cfgrammar.specs.Openings.{nth_production}
 use Rattle.cfgrammar.specs.Numbered.{Numbered, core}
 use Rattle.cfgrammar.specs.Accessors.{production_part}
 use Rattle.cfglint.specs.Findings.{IsFirstWithout, IsUnusable}
-use Rattle.cfglint.specs.Inner.Lacks.{LacksOrHas}
+use Rattle.cfglint.specs.Inner.Unproductive.{UnproductiveOrNot}
 use Rattle.cfglint.proofs.Read.{has_read, rule_read, symbols_read}
 
 -- some sentence uses a production exactly if each rule in it is productive
@@ -20,17 +20,17 @@ UsesByRules g = (r : ℕ) (symbols : List Sym) → HasProduction (core g) r symb
 module _ (g : Numbered) (law : UsesByRules g) (p : ℕ) (within : p < length g.productions) (rule : ℕ) (symbols : List Sym)
     (owner : production_part (λ production. production.rule) g p ≡ Some rule) (held : production_part (λ production. production.symbols) g p ≡ Some symbols) where
   -- each rule in it is productive
-  pub not_unusable : ((q : ℕ) → Contains symbols (Rule q) → LacksOrHas g q false) → IsUnusable g p → ⊥
+  pub not_unusable : ((q : ℕ) → Contains symbols (Rule q) → UnproductiveOrNot g q false) → IsUnusable g p → ⊥
   not_unusable each unusable =
       let read = symbols_read g p within symbols held in
       unusable.unused ((law _ _ (has_read g p within)).1 (λ q among. each q (subst (λ l. Contains l (Rule q)) read among)))
 
   -- a rule in it is unproductive, though its own rule is productive
-  pub is_unusable : p < g.start_production → LacksOrHas g rule false → (q : ℕ) → IsFirstWithout g symbols q → IsUnusable g p
+  pub is_unusable : p < g.start_production → UnproductiveOrNot g rule false → (q : ℕ) → IsFirstWithout g symbols q → IsUnusable g p
   is_unusable ours (sentence, is) q first =
       let read = symbols_read g p within symbols held in
-      let stands = subst (λ l. Contains l (Rule q)) (sym first.stands) (Contains-append_right first.front (Rule q ∷ first.back) (Rule q) (contains_first (Rule q) first.back)) in
-      let among = subst (λ l. Contains l (Rule q)) (sym read) stands in
+      let holds = subst (λ l. Contains l (Rule q)) (sym first.holds) (Contains-append_right first.prefix (Rule q ∷ first.back) (Rule q) (contains_first (Rule q) first.back)) in
+      let among = subst (λ l. Contains l (Rule q)) (sym read) holds in
       record {
         ours = ours;
         sentence = sentence;

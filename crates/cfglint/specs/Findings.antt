@@ -5,8 +5,8 @@ use Rattle.std.specs.List.Sorted.{IsPermutation, IsSortedByKey, IsStableByKey}
 use Rattle.std.specs.Ordering.{nat_cmp}
 use Rattle.cfgrammar.specs.Grammar.{Sym, Rule, HasProduction}
 use Rattle.cfgrammar.specs.Sentence.{Sentence}
-use Rattle.cfgrammar.specs.Alone.{DerivesItself}
-use Rattle.cfgrammar.specs.Rows.{IsShortestLoop}
+use Rattle.cfgrammar.specs.UnitPaths.{IsCyclic}
+use Rattle.cfgrammar.specs.StepPaths.{IsShortestCycle}
 use Rattle.cfgrammar.specs.UnitSteps.{IsStep}
 use Rattle.cfgrammar.specs.Uses.{IsUsable}
 use Rattle.cfgrammar.specs.Step.{Step}
@@ -19,16 +19,16 @@ use Rattle.cfgrammar.specs.Warnings.{GrammarWarning}
 use Rattle.cfgrammar.specs.YaccGrammarWarningKind.TheVariants.{UnusedToken}
 use Rattle.cfgrammar.specs.Openings.{nth_production}
 use Rattle.cfgrammar.specs.Numbered.{Numbered, core}
-use Rattle.cfglint.specs.Shown.{ShownFinding, derives_itself, no_sentence, place_of, repeated, unusable, unused_precedence, warned}
+use Rattle.cfglint.specs.Shown.{ShownFinding, cyclic_finding, no_sentence, position_of, repeated, unusable, unused_precedence, warned}
 
--- The findings for the numbers below this one, in order: `Tells n (Some finding)` says that this is the finding for n, and `Tells n None`
+-- The findings for the numbers below this one, in order: `Reports n (Some finding)` says that this is the finding for n, and `Reports n None`
 -- that there is none.
-pub data TellsBelow (Tells : ℕ → Option ShownFinding → Type 0) : ℕ → List ShownFinding → Type 0 where
-  none : TellsBelow Tells 0 []
-  told : {n : ℕ} {findings : List ShownFinding} {finding : ShownFinding}
-      → TellsBelow Tells n findings → Tells n (Some finding) → TellsBelow Tells (n + 1) (findings ++ finding ∷ [])
+pub data ReportsBelow (Reports : ℕ → Option ShownFinding → Type 0) : ℕ → List ShownFinding → Type 0 where
+  none : ReportsBelow Reports 0 []
+  reported : {n : ℕ} {findings : List ShownFinding} {finding : ShownFinding}
+      → ReportsBelow Reports n findings → Reports n (Some finding) → ReportsBelow Reports (n + 1) (findings ++ finding ∷ [])
   left : {n : ℕ} {findings : List ShownFinding}
-      → TellsBelow Tells n findings → Tells n None → TellsBelow Tells (n + 1) findings
+      → ReportsBelow Reports n findings → Reports n None → ReportsBelow Reports (n + 1) findings
 
 module _ (g : Numbered) where
   -- how many rules are added before those of the file: the start rule, and in a file with implicit tokens two more for these
@@ -36,13 +36,13 @@ module _ (g : Numbered) where
   rules_added = if is_some g.implicit_rule then 3 else 1
 
   -- a rule of the file that has no sentence
-  pub record LacksSentence (r : ℕ) : Type 0 where
+  pub record IsUnproductiveRule (r : ℕ) : Type 0 where
     pub ours : rules_added ≤ r
     pub none : HasNone (HasProduction (core g)) r
 
-  abbrev pub TellsNoSentence : ℕ → Option ShownFinding → Type 0
-  TellsNoSentence r (Some finding) = LacksSentence r × (finding ≡ no_sentence g r)
-  TellsNoSentence r None = LacksSentence r → ⊥
+  abbrev pub ReportsNoSentence : ℕ → Option ShownFinding → Type 0
+  ReportsNoSentence r (Some finding) = IsUnproductiveRule r × (finding ≡ no_sentence g r)
+  ReportsNoSentence r None = IsUnproductiveRule r → ⊥
 
   -- a production of the file that no sentence of its rule uses, although the rule has one
   pub record IsUnusable (p : ℕ) : Type 0 where
@@ -53,24 +53,24 @@ module _ (g : Numbered) where
 
   -- the first unproductive rule among the symbols
   pub record IsFirstWithout (symbols : List Sym) (q : ℕ) : Type 0 where
-    pub front : List Sym
+    pub prefix : List Sym
     pub back : List Sym
-    pub stands : symbols ≡ front ++ Rule q ∷ back
+    pub holds : symbols ≡ prefix ++ Rule q ∷ back
     pub none : HasNone (HasProduction (core g)) q
-    pub before : (r : ℕ) → Contains front (Rule r) → HasNone (HasProduction (core g)) r → ⊥
+    pub before : (r : ℕ) → Contains prefix (Rule r) → HasNone (HasProduction (core g)) r → ⊥
 
-  abbrev pub TellsUnusable : ℕ → Option ShownFinding → Type 0
-  TellsUnusable p (Some finding) = IsUnusable p × (q : ℕ) × IsFirstWithout (nth_production (core g) p).symbols q × (finding ≡ unusable g p q)
-  TellsUnusable p None = IsUnusable p → ⊥
+  abbrev pub ReportsUnusable : ℕ → Option ShownFinding → Type 0
+  ReportsUnusable p (Some finding) = IsUnusable p × (q : ℕ) × IsFirstWithout (nth_production (core g) p).symbols q × (finding ≡ unusable g p q)
+  ReportsUnusable p None = IsUnusable p → ⊥
 
   -- a cyclic rule of the file, each of whose sentences has infinitely many parse trees
-  pub record IsOwnHeir (r : ℕ) : Type 0 where
+  pub record IsCyclicRule (r : ℕ) : Type 0 where
     pub ours : rules_added ≤ r
-    pub derives : DerivesItself (HasProduction (core g)) r
+    pub derives : IsCyclic (HasProduction (core g)) r
 
-  abbrev pub TellsLoop : ℕ → Option ShownFinding → Type 0
-  TellsLoop r (Some finding) = IsOwnHeir r × (row : List Step) × IsShortestLoop (IsStep (core g)) r row × (finding ≡ derives_itself g r row)
-  TellsLoop r None = IsOwnHeir r → ⊥
+  abbrev pub ReportsCycle : ℕ → Option ShownFinding → Type 0
+  ReportsCycle r (Some finding) = IsCyclicRule r × (path : List Step) × IsShortestCycle (IsStep (core g)) r path × (finding ≡ cyclic_finding g r path)
+  ReportsCycle r None = IsCyclicRule r → ⊥
 
   -- an earlier production of the same rule with the same symbols
   pub record IsTwin (p earlier : ℕ) : Type 0 where
@@ -80,16 +80,16 @@ module _ (g : Numbered) where
     pub symbols : (nth_production (core g) earlier).symbols ≡ (nth_production (core g) p).symbols
 
   -- if there are several, the finding is about the first
-  abbrev pub TellsRepeated : ℕ → Option ShownFinding → Type 0
-  TellsRepeated p (Some finding) = (earlier : ℕ) × IsTwin p earlier × ((other : ℕ) → IsTwin p other → earlier ≤ other) × (finding ≡ repeated g p earlier)
-  TellsRepeated p None = (earlier : ℕ) → IsTwin p earlier → ⊥
+  abbrev pub ReportsRepeated : ℕ → Option ShownFinding → Type 0
+  ReportsRepeated p (Some finding) = (earlier : ℕ) × IsTwin p earlier × ((other : ℕ) → IsTwin p other → earlier ≤ other) × (finding ≡ repeated g p earlier)
+  ReportsRepeated p None = (earlier : ℕ) → IsTwin p earlier → ⊥
 
 module _ (s : Syntax) where
   -- A token with this name is used: a production contains it, or a production's `%prec` names it, or it is an implicit token. If a
   -- production has several `%prec`s, the last one counts.
   pub data TakesPart (name : List ℕ) : Type 0 where
     held : {production : Production} → Contains s.productions production → Contains (map name_of production.symbols) (TokenName name) → TakesPart name
-    asked : {production : Production} → Contains s.productions production → production.precedence ≡ Some name → TakesPart name
+    requested : {production : Production} → Contains s.productions production → production.precedence ≡ Some name → TakesPart name
     implicit : {table : List (List ℕ × Span)} → s.tables.implicit_tokens ≡ Some table → Contains (map entry_token table) (TokenName name) → TakesPart name
 
   -- the n-th token that is given a precedence isn't used; most often its name is misspelled
@@ -98,58 +98,58 @@ module _ (s : Syntax) where
     pub given : slice_get s.tables.precedences n ≡ Some (name, (precedence, span))
     pub idle : TakesPart name → ⊥
 
-  abbrev pub TellsPrecedence : ℕ → Option ShownFinding → Type 0
-  TellsPrecedence n (Some finding) = (name : List ℕ) × (span : Span) × IsIdle n name span × (finding ≡ unused_precedence name span)
-  TellsPrecedence n None = (name : List ℕ) (span : Span) → IsIdle n name span → ⊥
+  abbrev pub ReportsPrecedence : ℕ → Option ShownFinding → Type 0
+  ReportsPrecedence n (Some finding) = (name : List ℕ) × (span : Span) × IsIdle n name span × (finding ≡ unused_precedence name span)
+  ReportsPrecedence n None = (name : List ℕ) (span : Span) → IsIdle n name span → ⊥
 
   -- a token first occurs at this span, and a production's `%prec` names it: it exists for its precedence
   pub record IsPrecToken (span : Span) : Type 0 where
-    pub place : ℕ
+    pub index : ℕ
     pub name : List ℕ
-    pub token : slice_get s.tokens place ≡ Some name
-    pub there : slice_get s.spans place ≡ Some span
+    pub token : slice_get s.tokens index ≡ Some name
+    pub there : slice_get s.spans index ≡ Some span
     pub production : Production
     pub listed : Contains s.productions production
-    pub asked : production.precedence ≡ Some name
+    pub requested : production.precedence ≡ Some name
 
   -- an unused token that a production's `%prec` names
-  pub record IsAskedFor (warning : GrammarWarning) : Type 0 where
+  pub record IsRequestedFor (warning : GrammarWarning) : Type 0 where
     pub kind : warning.kind ≡ UnusedToken
     pub span : Span
     pub first : slice_get warning.spans 0 ≡ Some span
     pub token : IsPrecToken span
 
   -- the findings for these warnings of the tree: for all except those about tokens that a production's `%prec` names
-  abbrev pub TellsWarning : List GrammarWarning → ℕ → Option ShownFinding → Type 0
-  TellsWarning warnings n (Some finding) = (warning : GrammarWarning) × (slice_get warnings n ≡ Some warning) × (IsAskedFor warning → ⊥) × (finding ≡ warned warning)
-  TellsWarning warnings n None = (warning : GrammarWarning) → slice_get warnings n ≡ Some warning → IsAskedFor warning
+  abbrev pub ReportsWarning : List GrammarWarning → ℕ → Option ShownFinding → Type 0
+  ReportsWarning warnings n (Some finding) = (warning : GrammarWarning) × (slice_get warnings n ≡ Some warning) × (IsRequestedFor warning → ⊥) × (finding ≡ warned warning)
+  ReportsWarning warnings n None = (warning : GrammarWarning) → slice_get warnings n ≡ Some warning → IsRequestedFor warning
 
 -- the findings for warnings of the syntax, then those for rules, productions and precedences, one list after the other
-pub record AreToldInTurn (s : Syntax) (g : Numbered) (told : List ShownFinding) : Type 0 where
+pub record AreReportedInTurn (s : Syntax) (g : Numbered) (reported : List ShownFinding) : Type 0 where
   pub warnings : List GrammarWarning
   pub unused : List ShownFinding
   pub without : List ShownFinding
   pub useless : List ShownFinding
-  pub loops : List ShownFinding
+  pub cycles : List ShownFinding
   pub repeats : List ShownFinding
   pub precedences : List ShownFinding
   pub are_warnings : AreWarnings s warnings
-  pub are_unused : TellsBelow (TellsWarning s warnings) (length warnings) unused
-  pub are_without : TellsBelow (TellsNoSentence g) (length g.rules) without
-  pub are_useless : TellsBelow (TellsUnusable g) g.start_production useless
-  pub are_loops : TellsBelow (TellsLoop g) (length g.rules) loops
-  pub are_repeats : TellsBelow (TellsRepeated g) g.start_production repeats
-  pub are_precedences : TellsBelow (TellsPrecedence s) (length s.tables.precedences) precedences
-  pub is : told ≡ unused ++ (without ++ (useless ++ (loops ++ (repeats ++ precedences))))
+  pub are_unused : ReportsBelow (ReportsWarning s warnings) (length warnings) unused
+  pub are_without : ReportsBelow (ReportsNoSentence g) (length g.rules) without
+  pub are_useless : ReportsBelow (ReportsUnusable g) g.start_production useless
+  pub are_cycles : ReportsBelow (ReportsCycle g) (length g.rules) cycles
+  pub are_repeats : ReportsBelow (ReportsRepeated g) g.start_production repeats
+  pub are_precedences : ReportsBelow (ReportsPrecedence s) (length s.tables.precedences) precedences
+  pub is : reported ≡ unused ++ (without ++ (useless ++ (cycles ++ (repeats ++ precedences))))
 
 -- the same findings sorted by offset; those at the same offset stay in their order
-pub record AreByPlace (told all : List ShownFinding) : Type 0 where
-  pub same : IsPermutation told all
-  pub sorted : IsSortedByKey place_of nat_cmp all
-  pub stable : IsStableByKey place_of nat_cmp told all
+pub record AreByPosition (reported all : List ShownFinding) : Type 0 where
+  pub same : IsPermutation reported all
+  pub sorted : IsSortedByKey position_of nat_cmp all
+  pub stable : IsStableByKey position_of nat_cmp reported all
 
 -- all findings, each once
 pub record AreFindings (s : Syntax) (g : Numbered) (all : List ShownFinding) : Type 0 where
-  pub told : List ShownFinding
-  pub in_turn : AreToldInTurn s g told
-  pub by_place : AreByPlace told all
+  pub reported : List ShownFinding
+  pub in_turn : AreReportedInTurn s g reported
+  pub by_position : AreByPosition reported all

@@ -1,6 +1,6 @@
 -- Definitions for clauses inside the crate. No public contract depends on them.
-pub mod Asked
+pub mod Requested
 pub mod FirstProductions
-pub mod Lacks
-pub mod OwnHeirs
+pub mod Unproductive
+pub mod CyclicRules
 pub mod Taking

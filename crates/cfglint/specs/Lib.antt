@@ -1,4 +1,4 @@
 pub mod Shown
 pub mod Findings
-pub mod Told
+pub mod Reported
 pub mod Inner

@@ -16,7 +16,7 @@ use Rattle.cfgrammar.specs.Numbered.{Numbered, core}
 use Rattle.cfgrammar.specs.Accessors.{production_part, rule_part, sym_name}
 use Rattle.cfgrammar.specs.Openings.{nth_production}
 use Rattle.cfglint.specs.declared.finding.FindingKind.{FindingKind}
-use Rattle.cfglint.specs.declared.finding.FindingKind.TheVariants.{DerivesItself, NoSentence, RepeatedProduction, UnusableProduction, UnusedPrecedence, UnusedRule, UnusedToken}
+use Rattle.cfglint.specs.declared.finding.FindingKind.TheVariants.{IsCyclic, NoSentence, RepeatedProduction, UnusableProduction, UnusedPrecedence, UnusedRule, UnusedToken}
 
 -- the kind of finding, its spans and its text
 pub record ShownFinding : Type 0 where
@@ -30,8 +30,8 @@ spanskind_of RepeatedProduction = DuplicationError
 spanskind_of _ = Error
 
 -- the offset of a finding, in bytes: the start of its first span
-abbrev pub place_of : ShownFinding → ℕ
-place_of finding = option_map_or (λ (span : Span). span.start) (slice_get finding.spans 0) 0
+abbrev pub position_of : ShownFinding → ℕ
+position_of finding = option_map_or (λ (span : Span). span.start) (slice_get finding.spans 0) 0
 
 abbrev pub kind_of_warning : YaccGrammarWarningKind → FindingKind
 kind_of_warning warnings.UnusedRule = UnusedRule
@@ -72,21 +72,21 @@ module _ (g : Numbered) where
   }
 
   -- ` [NAME]` for each symbol, which is nullable
-  abbrev pub vanishing : List Sym → List ℕ
-  vanishing symbols = flat_map (λ symbol. codes " [" ++ (sym_name g symbol ++ codes "]")) symbols
+  abbrev pub nullable : List Sym → List ℕ
+  nullable symbols = flat_map (λ symbol. codes " [" ++ (sym_name g symbol ++ codes "]")) symbols
 
   -- ` -> ` and the symbols of the step's production: the rule that the step leads to, and the nullable symbols in brackets
   abbrev pub step_text : Step → List ℕ
   step_text step =
       let symbols = (nth_production (core g) step.production).symbols in
-      codes " ->" ++ (vanishing (take step.place symbols) ++ (codes " " ++ (rule_name step.rule ++ vanishing (drop (step.place + 1) symbols))))
+      codes " ->" ++ (nullable (take step.index symbols) ++ (codes " " ++ (rule_name step.rule ++ nullable (drop (step.index + 1) symbols))))
 
   -- that the rule is cyclic, by this path of steps
-  abbrev pub derives_itself : ℕ → List Step → ShownFinding
-  derives_itself r row = record {
-    kind = DerivesItself;
+  abbrev pub cyclic_finding : ℕ → List Step → ShownFinding
+  cyclic_finding r path = record {
+    kind = IsCyclic;
     spans = rule_span r ∷ [];
-    text = codes "Rule " ++ (quoted (rule_name r) ++ (codes " derives itself: " ++ (rule_name r ++ flat_map step_text row)));
+    text = codes "Rule " ++ (quoted (rule_name r) ++ (codes " derives itself: " ++ (rule_name r ++ flat_map step_text path)));
   }
 
   -- that the production has the symbols of an earlier one of its rule

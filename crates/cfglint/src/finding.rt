@@ -1,7 +1,7 @@
 //! Findings about a grammar, and where they are.
 
 ghost use Rattle.std.specs.Prelude.{◌≡◌, [], ◌∷◌, IfOk, Some, string_bytes};
-ghost use Rattle.cfglint.specs.Shown.{place_of};
+ghost use Rattle.cfglint.specs.Shown.{position_of};
 
 use cfgrammar::{Span, Spanned, SpansKind};
 use std::alloc::{AllocError, Global};
@@ -20,7 +20,7 @@ pub enum FindingKind {
     /// No sentence of the production's rule uses it, since it contains an unproductive rule.
     UnusableProduction,
     /// The rule is cyclic, so each of its sentences has infinitely many parse trees.
-    DerivesItself,
+    IsCyclic,
     /// The rule has an earlier production with the same symbols, so each sentence by one of the two has two parse
     /// trees.
     RepeatedProduction,
@@ -88,8 +88,8 @@ impl Finding {
     }
 
     /// Its offset in bytes: the start of its first span.
-    pub(crate) fn place(&self) -> usize
-        ensures { result ≡ place_of self.now }
+    pub(crate) fn index(&self) -> usize
+        ensures { result ≡ position_of self.now }
     {
         match self.spans.first() {
             Some(span) => span.start(),

@@ -4,8 +4,8 @@ ghost use Rattle.std.specs.Prelude.{◌≡◌, IfOk};
 ghost use Rattle.cfgrammar.specs.TreeView.{syntax};
 ghost use Rattle.cfglint.specs.Findings.{AreFindings};
 
+use crate::cyclic_rules::push_cycles;
 use crate::finding::Finding;
-use crate::own_heirs::push_loops;
 use crate::precedences::push_precedences;
 use crate::repeats::push_repeats;
 use crate::sentences::push_sentences;
@@ -30,9 +30,9 @@ pub fn findings(
     let mut all = Vec::new(alloc);
     push_warnings(alloc, &mut all, ast)?;
     push_sentences(alloc, &mut all, grammar)?;
-    push_loops(alloc, &mut all, grammar)?;
+    push_cycles(alloc, &mut all, grammar)?;
     push_repeats(alloc, &mut all, grammar)?;
     push_precedences(alloc, &mut all, ast)?;
-    all.sort_by_key(|finding| finding.place())?;
+    all.sort_by_key(|finding| finding.index())?;
     Ok(all)
 }

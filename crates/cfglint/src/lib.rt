@@ -2,18 +2,18 @@
 #![tactic(auto)]
 
 mod added;
-mod asked;
+mod cyclic_rules;
 pub mod finding;
 mod found;
 pub mod laws;
 pub mod linter;
-mod own_heirs;
 mod precedences;
 pub mod program;
 mod repeats;
+mod reporter;
+mod requested;
 mod sentences;
 pub mod system;
-mod teller;
 mod warned;
 
 pub use cfgprogram::{Ended, Input, KindArg, Source};

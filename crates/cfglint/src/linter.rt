@@ -2,11 +2,11 @@
 
 use crate::found::findings;
 use cfgdriver::{TextReader, read_text_or};
+use cfglint_shell::{Linter, Report};
 use cfgprogram::KindArg;
 use cfgrammar::render_all;
 use cfgrammar::yacc::ast::GrammarAST;
 use cfgrammar::yacc::{YaccGrammar, YaccGrammarError, YaccKind, YaccOriginalActionKind};
-use lintshell::{Linter, Report};
 use std::alloc::{AllocError, Global};
 
 /// Reports a text's errors, or the findings about its grammar, each with its line of the text and carets. If no kind is
@@ -15,9 +15,9 @@ use std::alloc::{AllocError, Global};
 pub struct Lints;
 
 impl Linter for Lints {
-    ghost use Rattle.cfglint.specs.Told.{TellsText};
+    ghost use Rattle.cfglint.specs.Reported.{ReportsText};
 
-    ghost tells = { TellsText };
+    ghost reports = { ReportsText };
 
     fn lint(
         &self,
@@ -39,11 +39,11 @@ struct FileReporter<'a> {
 }
 
 impl TextReader<Report> for FileReporter<'_> {
-    ghost use Rattle.cfglint.specs.Told.{TellsErrors, TellsFindings};
+    ghost use Rattle.cfglint.specs.Reported.{ReportsErrors, ReportsFindings};
 
-    ghost of_errors = { λ x. TellsErrors x.name.now };
+    ghost of_errors = { λ x. ReportsErrors x.name.now };
 
-    ghost of_grammar = { λ x. TellsFindings x.name.now };
+    ghost of_grammar = { λ x. ReportsFindings x.name.now };
 
     fn errors(
         &self,

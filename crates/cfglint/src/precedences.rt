@@ -5,12 +5,12 @@ ghost use Rattle.std.specs.List.{flat_map};
 ghost use Rattle.cfgrammar.specs.Syntax.{entry_name};
 ghost use Rattle.cfgrammar.specs.SyntaxView.{production_view, span_entry, symbol_view};
 ghost use Rattle.cfgrammar.specs.TreeView.{syntax};
-ghost use Rattle.cfglint.specs.Findings.{TellsBelow, TellsPrecedence};
+ghost use Rattle.cfglint.specs.Findings.{ReportsBelow, ReportsPrecedence};
 ghost use Rattle.cfglint.specs.Inner.Taking.{AreMarked, Marks, production_names, symbol_names};
 ghost use Rattle.cfglint.specs.Shown.{unused_precedence};
 
 use crate::finding::{Finding, FindingKind};
-use crate::teller::{Teller, push_told};
+use crate::reporter::{Reporter, push_reported};
 use cfgrammar::yacc::ast::{GrammarAST, Production, Symbol};
 use cfgrammar::{Span, Vob};
 use indexmap::IndexMap;
@@ -26,12 +26,12 @@ pub(crate) fn push_precedences(
     all: &mut Vec<Finding>,
     ast: &GrammarAST,
 ) -> Result<(), AllocError>
-    ensures { OnOk result ((told : _) × TellsBelow (TellsPrecedence (syntax ast.now))
-        (length (syntax ast.now).tables.precedences) told × (all.new.items ≡ all.old.items ++ told)) }
+    ensures { OnOk result ((reported : _) × ReportsBelow (ReportsPrecedence (syntax ast.now))
+        (length (syntax ast.now).tables.precedences) reported × (all.new.items ≡ all.old.items ++ reported)) }
 {
     let taking = taking_part(alloc, ast)?;
     let idle = Idle { ast, taking };
-    push_told(alloc, all, &idle, ast.precs().len())
+    push_reported(alloc, all, &idle, ast.precs().len())
 }
 
 /// Reports tokens that are given a precedence but aren't used.
@@ -42,17 +42,17 @@ struct Idle<'a> {
     taking: Vob,
 }
 
-impl Teller for Idle<'_> {
+impl Reporter for Idle<'_> {
     ghost use Rattle.std.specs.Prelude.{length};
     ghost use Rattle.cfgrammar.specs.TreeView.{syntax};
-    ghost use Rattle.cfglint.specs.Findings.{TellsPrecedence};
+    ghost use Rattle.cfglint.specs.Findings.{ReportsPrecedence};
     ghost use Rattle.cfglint.specs.Inner.Taking.{AreMarked};
 
     ghost count = { λ x. length (syntax x.ast.now).tables.precedences };
 
-    ghost tells = { λ x n told. AreMarked (syntax x.ast.now) x.taking → TellsPrecedence (syntax x.ast.now) n told };
+    ghost reports = { λ x n reported. AreMarked (syntax x.ast.now) x.taking → ReportsPrecedence (syntax x.ast.now) n reported };
 
-    fn tell(&self, alloc: Global, number: usize) -> Result<Option<Finding>, AllocError> {
+    fn report(&self, alloc: Global, number: usize) -> Result<Option<Finding>, AllocError> {
         let takes_part = self.taking.get(number).unwrap_or(false);
         if takes_part {
             return Ok(None);
@@ -133,8 +133,8 @@ fn mark_table(ast: &GrammarAST, taking: &mut Vob, table: &IndexMap<String, Span>
     requires { length taking.old ≡ length (syntax ast.now).tables.precedences }
     ensures { Marks (syntax ast.now) (map entry_name (map span_entry table.now.entries)) taking.old taking.new }
 {
-    for place in 0..table.len() {
-        if let Some((name, _)) = table.get_index(place) {
+    for index in 0..table.len() {
+        if let Some((name, _)) = table.get_index(index) {
             mark(ast, taking, name);
         }
     }
@@ -145,7 +145,7 @@ fn mark(ast: &GrammarAST, taking: &mut Vob, name: &str)
     requires { length taking.old ≡ length (syntax ast.now).tables.precedences }
     ensures { Marks (syntax ast.now) (name.now ∷ []) taking.old taking.new }
 {
-    if let Some(place) = ast.precs().get_index_of(name) {
-        taking.set(place, true);
+    if let Some(index) = ast.precs().get_index_of(name) {
+        taking.set(index, true);
     }
 }

@@ -2,8 +2,8 @@
 
 ghost use Rattle.std.specs.Prelude.{◌-◌, ◌^◌, ◌<◌, ◌≤◌, map};
 ghost use Rattle.cfgsink.specs.Runs.{EndsWith};
-ghost use Rattle.lintshell.specs.Run.{Handles, ending_errors, ending_faults, ending_status};
-ghost use Rattle.cfglint.specs.Told.{TellsText};
+ghost use Rattle.cfglint_shell.specs.Run.{Handles, ending_errors, ending_faults, ending_status};
+ghost use Rattle.cfglint.specs.Reported.{ReportsText};
 
 use crate::linter::Lints;
 use cfgprogram::source::Source;
@@ -25,8 +25,8 @@ pub fn lint<S: Source, O: Sink, E: Sink>(
     requires err_counts { E.faults_counted err.old < 2 ^ 64 - 1 }
     ensures small { result ≤ 3 }
     ensures ends { EndsWith ending_status ending_faults ending_errors
-        (Handles TellsText S.fetches source.old source.new (map (λ word. word.now) args.now))
+        (Handles ReportsText S.fetches source.old source.new (map (λ word. word.now) args.now))
         O.written O.faults_counted out.old out.new E.written E.faults_counted err.old err.new result }
 {
-    lintshell::lint(alloc, &Lints, args, source, out, err)
+    cfglint_shell::lint(alloc, &Lints, args, source, out, err)
 }

@@ -4,12 +4,12 @@ ghost use Rattle.std.specs.Prelude.{◌≡◌, ◌++◌, ◌<◌, Some, length, 
 ghost use Rattle.std.specs.BTreeMap.{IsUnchanged, Updates, get};
 ghost use Rattle.cfgrammar.specs.Numbered.{core};
 ghost use Rattle.cfgrammar.specs.Openings.{nth_production};
-ghost use Rattle.cfglint.specs.Findings.{TellsBelow, TellsRepeated};
+ghost use Rattle.cfglint.specs.Findings.{ReportsBelow, ReportsRepeated};
 ghost use Rattle.cfglint.specs.Inner.FirstProductions.{AreFirsts, ordered_symbol, production_of};
 ghost use Rattle.cfglint.specs.Shown.{repeated};
 
 use crate::finding::{Finding, FindingKind};
-use crate::teller::{Teller, push_told};
+use crate::reporter::{Reporter, push_reported};
 use cfgrammar::storage::to_storage;
 use cfgrammar::yacc::YaccGrammar;
 use cfgrammar::{PIdx, Symbol};
@@ -26,12 +26,12 @@ pub(crate) fn push_repeats(
     all: &mut Vec<Finding>,
     grammar: &YaccGrammar<u32>,
 ) -> Result<(), AllocError>
-    ensures { OnOk result ((told : _) × TellsBelow (TellsRepeated grammar.now) grammar.now.start_production told
-        × (all.new.items ≡ all.old.items ++ told)) }
+    ensures { OnOk result ((reported : _) × ReportsBelow (ReportsRepeated grammar.now) grammar.now.start_production reported
+        × (all.new.items ≡ all.old.items ++ reported)) }
 {
     let firsts = firsts_of(alloc, grammar)?;
     let repeats = Repeats { grammar, firsts };
-    push_told(alloc, all, &repeats, usize::from(grammar.start_prod()))
+    push_reported(alloc, all, &repeats, usize::from(grammar.start_prod()))
 }
 
 /// Reports productions with the symbols of an earlier one of their rule.
@@ -42,17 +42,17 @@ struct Repeats<'a> {
     firsts: Vec<usize>,
 }
 
-impl Teller for Repeats<'_> {
+impl Reporter for Repeats<'_> {
     ghost use Rattle.cfgrammar.specs.Numbered.{core};
-    ghost use Rattle.cfglint.specs.Findings.{TellsRepeated};
+    ghost use Rattle.cfglint.specs.Findings.{ReportsRepeated};
     ghost use Rattle.cfglint.specs.Inner.FirstProductions.{AreFirsts};
 
     ghost count = { λ x. x.grammar.now.start_production };
 
-    ghost tells = { λ x n told. AreFirsts (core x.grammar.now) x.grammar.now.start_production x.firsts.items
-        → TellsRepeated x.grammar.now n told };
+    ghost reports = { λ x n reported. AreFirsts (core x.grammar.now) x.grammar.now.start_production x.firsts.items
+        → ReportsRepeated x.grammar.now n reported };
 
-    fn tell(&self, alloc: Global, number: usize) -> Result<Option<Finding>, AllocError> {
+    fn report(&self, alloc: Global, number: usize) -> Result<Option<Finding>, AllocError> {
         match self.firsts.get(number) {
             Some(first) if *first < number => {
                 Ok(Some(repeated(alloc, self.grammar, number, *first)?))

@@ -6,13 +6,13 @@ ghost use Rattle.cfgrammar.specs.Grammar.{Rule};
 ghost use Rattle.cfgrammar.specs.Numbered.{core};
 ghost use Rattle.cfgrammar.specs.Accessors.{IsSymbolWithin};
 ghost use Rattle.cfgrammar.specs.NumberedSymbols.{sym_of};
-ghost use Rattle.cfglint.specs.Findings.{IsFirstWithout, TellsBelow, TellsNoSentence, TellsUnusable};
-ghost use Rattle.cfglint.specs.Inner.Lacks.{AreLacks, LacksOrHas};
+ghost use Rattle.cfglint.specs.Findings.{IsFirstWithout, ReportsBelow, ReportsNoSentence, ReportsUnusable};
+ghost use Rattle.cfglint.specs.Inner.Unproductive.{AreUnproductive, UnproductiveOrNot};
 ghost use Rattle.cfglint.specs.Shown.{ShownFinding};
 
 use crate::added::rules_added;
 use crate::finding::{Finding, FindingKind};
-use crate::teller::{Teller, push_told};
+use crate::reporter::{Reporter, push_reported};
 use cfgrammar::laws::usable_productions_hold_sentences;
 use cfgrammar::storage::to_storage;
 use cfgrammar::yacc::YaccGrammar;
@@ -28,51 +28,56 @@ pub(crate) fn push_sentences(
     grammar: &YaccGrammar<u32>,
 ) -> Result<(), AllocError>
     ensures { OnOk result ((without useless : List ShownFinding)
-        × TellsBelow (TellsNoSentence grammar.now) (length grammar.now.rules) without
-        × TellsBelow (TellsUnusable grammar.now) grammar.now.start_production useless
+        × ReportsBelow (ReportsNoSentence grammar.now) (length grammar.now.rules) without
+        × ReportsBelow (ReportsUnusable grammar.now) grammar.now.start_production useless
         × (all.new.items ≡ all.old.items ++ (without ++ useless))) }
 {
-    let lacks = Lacks::new(alloc, grammar)?;
-    push_told(alloc, all, &Rules(&lacks), usize::from(grammar.rules_len()))?;
-    push_told(
+    let misses = Unproductive::new(alloc, grammar)?;
+    push_reported(
         alloc,
         all,
-        &Productions(&lacks),
+        &Rules(&misses),
+        usize::from(grammar.rules_len()),
+    )?;
+    push_reported(
+        alloc,
+        all,
+        &Productions(&misses),
         usize::from(grammar.start_prod()),
     )
 }
 
 /// A grammar, and for each of its rules whether it is unproductive.
 #[derive(Drop)]
-struct Lacks<'a> {
+struct Unproductive<'a> {
     grammar: &'a YaccGrammar<u32>,
     rules: Vec<bool>,
 }
 
-impl<'a> Model for Lacks<'a> {
+impl<'a> Model for Unproductive<'a> {
     ghost use Rattle.cfgrammar.specs.Numbered.{Numbered};
-    ghost use Rattle.cfglint.specs.Inner.Lacks.{AreLacks};
+    ghost use Rattle.cfglint.specs.Inner.Unproductive.{AreUnproductive};
 
     ghost Value = { Numbered };
 
     ghost view = { λ x. x.grammar.now };
 
-    ghost invariant = { λ x. AreLacks x.grammar.now x.rules.items };
+    ghost invariant = { λ x. AreUnproductive x.grammar.now x.rules.items };
 }
 
-impl<'a> Lacks<'a> {
+impl<'a> Unproductive<'a> {
     /// Finds out which rules of the grammar are unproductive.
     fn new(alloc: Global, grammar: &'a YaccGrammar<u32>) -> Result<Self, AllocError>
         ensures { IfOk result (λ x. x ≡ grammar.now) }
     {
         let rules = rules_without(alloc, grammar)?;
-        Ok(Lacks { grammar, rules })
+        Ok(Unproductive { grammar, rules })
     }
 
     /// Whether the rule is unproductive.
-    fn lacks(&self, rule: RIdx<u32>) -> bool
+    fn misses(&self, rule: RIdx<u32>) -> bool
         requires { rule.0 < length self.now.rules }
-        ensures { LacksOrHas self.now rule.0 result }
+        ensures { UnproductiveOrNot self.now rule.0 result }
     {
         self.rules[usize::from(rule)]
     }
@@ -81,13 +86,13 @@ impl<'a> Lacks<'a> {
     fn first_without(&self, symbols: &[Symbol<u32>]) -> Option<RIdx<u32>>
         requires { All (IsSymbolWithin (λ s. s) self.now) symbols.now }
         ensures first { MatchOption result
-            ((q : ℕ) → Contains (map (sym_of (λ s. s)) symbols.now) (Rule q) → LacksOrHas self.now q false)
+            ((q : ℕ) → Contains (map (sym_of (λ s. s)) symbols.now) (Rule q) → UnproductiveOrNot self.now q false)
             (λ q. IsFirstWithout self.now (map (sym_of (λ s. s)) symbols.now) q.0) }
         ensures within { IfSome result (λ q. q.0 < length self.now.rules) }
     {
         for symbol in symbols {
             if let Symbol::Rule(rule) = symbol {
-                if self.lacks(*rule) {
+                if self.misses(*rule) {
                     return Some(*rule);
                 }
             }
@@ -96,14 +101,14 @@ impl<'a> Lacks<'a> {
     }
 
     /// The finding that a rule is unproductive, if it is one of the file.
-    fn tell_rule(&self, alloc: Global, number: usize) -> Result<Option<Finding>, AllocError>
+    fn report_rule(&self, alloc: Global, number: usize) -> Result<Option<Finding>, AllocError>
         requires { number < length self.now.rules }
-        ensures { IfOk result (TellsNoSentence self.now number) }
+        ensures { IfOk result (ReportsNoSentence self.now number) }
     {
         let grammar = self.grammar;
         grammar.invariant_holds();
         let rule = RIdx(to_storage(number));
-        if number < rules_added(grammar) || !self.lacks(rule) {
+        if number < rules_added(grammar) || !self.misses(rule) {
             return Ok(None);
         }
         let name = grammar.rule_name_str(rule);
@@ -113,15 +118,15 @@ impl<'a> Lacks<'a> {
     }
 
     /// The finding that a production of the file can't be used, if its rule is productive.
-    fn tell_production(&self, alloc: Global, number: usize) -> Result<Option<Finding>, AllocError>
+    fn report_production(&self, alloc: Global, number: usize) -> Result<Option<Finding>, AllocError>
         requires { number < self.now.start_production }
-        ensures { IfOk result (TellsUnusable self.now number) }
+        ensures { IfOk result (ReportsUnusable self.now number) }
     {
         let grammar = self.grammar;
         usable_productions_hold_sentences();
         let _start = grammar.start_prod();
         let production = PIdx(to_storage(number));
-        if self.lacks(grammar.prod_to_rule(production)) {
+        if self.misses(grammar.prod_to_rule(production)) {
             return Ok(None);
         }
         let Some(rule) = self.first_without(grammar.prod(production)) else {
@@ -136,7 +141,7 @@ impl<'a> Lacks<'a> {
 
 /// For each rule of the grammar, whether it is unproductive.
 fn rules_without(alloc: Global, grammar: &YaccGrammar<u32>) -> Result<Vec<bool>, AllocError>
-    ensures { IfOk result (λ lacks. AreLacks grammar.now lacks.items) }
+    ensures { IfOk result (λ misses. AreUnproductive grammar.now misses.items) }
 {
     let generator = grammar.sentence_generator(alloc, |_| 1)?;
     without_of(alloc, grammar, &generator)
@@ -149,13 +154,13 @@ fn without_of(
     generator: &SentenceGenerator<'_, u32>,
 ) -> Result<Vec<bool>, AllocError>
     requires { generator.now.grammar ≡ core grammar.now }
-    ensures { IfOk result (λ lacks. AreLacks grammar.now lacks.items) }
+    ensures { IfOk result (λ misses. AreUnproductive grammar.now misses.items) }
 {
-    let mut lacks = Vec::new(alloc);
+    let mut misses = Vec::new(alloc);
     for rule in grammar.iter_rules() {
-        lacks.push(has_none(grammar, generator, rule))?;
+        misses.push(has_none(grammar, generator, rule))?;
     }
-    Ok(lacks)
+    Ok(misses)
 }
 
 /// Whether the rule is unproductive, according to the generator.
@@ -166,7 +171,7 @@ fn has_none(
 ) -> bool
     requires within { rule.0 < length grammar.now.rules }
     requires same { generator.now.grammar ≡ core grammar.now }
-    ensures { LacksOrHas grammar.now rule.0 result }
+    ensures { UnproductiveOrNot grammar.now rule.0 result }
 {
     match generator.min_sentence_cost(rule) {
         Ok(_) => false,
@@ -177,33 +182,33 @@ fn has_none(
 
 /// Reports the unproductive rules of a grammar.
 #[derive(Drop)]
-struct Rules<'a>(&'a Lacks<'a>);
+struct Rules<'a>(&'a Unproductive<'a>);
 
-impl<'a> Teller for Rules<'a> {
+impl<'a> Reporter for Rules<'a> {
     ghost use Rattle.std.specs.Prelude.{length};
-    ghost use Rattle.cfglint.specs.Findings.{TellsNoSentence};
+    ghost use Rattle.cfglint.specs.Findings.{ReportsNoSentence};
 
     ghost count = { λ x. length x.0.now.rules };
 
-    ghost tells = { λ x. TellsNoSentence x.0.now };
+    ghost reports = { λ x. ReportsNoSentence x.0.now };
 
-    fn tell(&self, alloc: Global, number: usize) -> Result<Option<Finding>, AllocError> {
-        self.0.tell_rule(alloc, number)
+    fn report(&self, alloc: Global, number: usize) -> Result<Option<Finding>, AllocError> {
+        self.0.report_rule(alloc, number)
     }
 }
 
 /// Reports the productions of a grammar that can't be used.
 #[derive(Drop)]
-struct Productions<'a>(&'a Lacks<'a>);
+struct Productions<'a>(&'a Unproductive<'a>);
 
-impl<'a> Teller for Productions<'a> {
-    ghost use Rattle.cfglint.specs.Findings.{TellsUnusable};
+impl<'a> Reporter for Productions<'a> {
+    ghost use Rattle.cfglint.specs.Findings.{ReportsUnusable};
 
     ghost count = { λ x. x.0.now.start_production };
 
-    ghost tells = { λ x. TellsUnusable x.0.now };
+    ghost reports = { λ x. ReportsUnusable x.0.now };
 
-    fn tell(&self, alloc: Global, number: usize) -> Result<Option<Finding>, AllocError> {
-        self.0.tell_production(alloc, number)
+    fn report(&self, alloc: Global, number: usize) -> Result<Option<Finding>, AllocError> {
+        self.0.report_production(alloc, number)
     }
 }

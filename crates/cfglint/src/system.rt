@@ -13,5 +13,5 @@ use std::rt::{Env, Files};
 pub fn run_over<R: Env + Files + Input + Print + Eprint + AllocGlobal>(rt: &R) -> Ended
     ensures { result.status ≤ 3 }
 {
-    ended_with(lintshell::run_over(rt, &Lints))
+    ended_with(cfglint_shell::run_over(rt, &Lints))
 }

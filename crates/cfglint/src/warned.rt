@@ -5,13 +5,13 @@ ghost use Rattle.cfgrammar.specs.Syntax.{Syntax};
 ghost use Rattle.cfgrammar.specs.Unused.{AreWarnings};
 ghost use Rattle.cfgrammar.specs.TreeView.{syntax};
 ghost use Rattle.cfgrammar.specs.Warnings.{GrammarWarning};
-ghost use Rattle.cfglint.specs.Findings.{IsAskedFor, TellsBelow, TellsWarning};
-ghost use Rattle.cfglint.specs.Inner.Asked.{AreAskedBy};
+ghost use Rattle.cfglint.specs.Findings.{IsRequestedFor, ReportsBelow, ReportsWarning};
+ghost use Rattle.cfglint.specs.Inner.Requested.{AreRequestedBy};
 ghost use Rattle.cfglint.specs.Shown.{kind_of_warning, warned};
 
-use crate::asked::{Places, has_span, places_asked};
 use crate::finding::{Finding, FindingKind};
-use crate::teller::{Teller, push_told};
+use crate::reporter::{Reporter, push_reported};
+use crate::requested::{Positions, has_span, positions_requested};
 use cfgrammar::Spanned;
 use cfgrammar::yacc::ast::GrammarAST;
 use cfgrammar::yacc::{YaccGrammarWarning, YaccGrammarWarningKind};
@@ -28,49 +28,52 @@ pub(crate) fn push_warnings(
     ast: &GrammarAST,
 ) -> Result<(), AllocError>
     ensures { OnOk result ((warnings : List GrammarWarning) × AreWarnings (syntax ast.now) warnings
-        × (told : _) × TellsBelow (TellsWarning (syntax ast.now) warnings) (length warnings) told
-        × (all.new.items ≡ all.old.items ++ told)) }
+        × (reported : _) × ReportsBelow (ReportsWarning (syntax ast.now) warnings) (length warnings) reported
+        × (all.new.items ≡ all.old.items ++ reported)) }
 {
     let warnings = ast.warnings(alloc)?;
-    push_unasked(alloc, all, ast, &warnings)
+    push_unrequested(alloc, all, ast, &warnings)
 }
 
 /// Adds those of the warnings that aren't about tokens that a production's `%prec` names to the findings.
-fn push_unasked(
+fn push_unrequested(
     alloc: Global,
     all: &mut Vec<Finding>,
     ast: &GrammarAST,
     warnings: &[YaccGrammarWarning],
 ) -> Result<(), AllocError>
-    ensures { OnOk result ((told : _) × TellsBelow (TellsWarning (syntax ast.now) warnings.now) (length warnings.now) told
-        × (all.new.items ≡ all.old.items ++ told)) }
+    ensures { OnOk result ((reported : _) × ReportsBelow (ReportsWarning (syntax ast.now) warnings.now) (length warnings.now) reported
+        × (all.new.items ≡ all.old.items ++ reported)) }
 {
-    let asked = places_asked(alloc, ast)?;
-    let unasked = Unasked { warnings, asked };
-    push_told(alloc, all, &unasked, warnings.len())
+    let requested = positions_requested(alloc, ast)?;
+    let unrequested = Unrequested {
+        warnings,
+        requested,
+    };
+    push_reported(alloc, all, &unrequested, warnings.len())
 }
 
 /// Reports warnings that aren't about tokens that a production's `%prec` names.
 #[derive(Drop)]
-struct Unasked<'a> {
+struct Unrequested<'a> {
     warnings: &'a [YaccGrammarWarning],
     /// The spans of the tokens that a production's `%prec` names.
-    asked: Places,
+    requested: Positions,
 }
 
-impl Teller for Unasked<'_> {
+impl Reporter for Unrequested<'_> {
     ghost use Rattle.std.specs.Prelude.{length};
     ghost use Rattle.cfgrammar.specs.Syntax.{Syntax};
-    ghost use Rattle.cfglint.specs.Findings.{TellsWarning};
-    ghost use Rattle.cfglint.specs.Inner.Asked.{AreAskedBy};
+    ghost use Rattle.cfglint.specs.Findings.{ReportsWarning};
+    ghost use Rattle.cfglint.specs.Inner.Requested.{AreRequestedBy};
 
     ghost count = { λ x. length x.warnings.now };
 
-    ghost tells = { λ x n told. (s : Syntax) → AreAskedBy s s.productions x.asked → TellsWarning s x.warnings.now n told };
+    ghost reports = { λ x n reported. (s : Syntax) → AreRequestedBy s s.productions x.requested → ReportsWarning s x.warnings.now n reported };
 
-    fn tell(&self, alloc: Global, number: usize) -> Result<Option<Finding>, AllocError> {
+    fn report(&self, alloc: Global, number: usize) -> Result<Option<Finding>, AllocError> {
         match self.warnings.get(number) {
-            Some(warning) if !is_asked_for(&self.asked, warning) => {
+            Some(warning) if !is_requested_for(&self.requested, warning) => {
                 Ok(Some(finding_of(alloc, warning)?))
             }
             _ => Ok(None),
@@ -80,14 +83,14 @@ impl Teller for Unasked<'_> {
 
 /// Whether the warning is about a token at one of these spans, which are those of the tokens that a production's
 /// `%prec` names.
-fn is_asked_for(asked: &Places, warning: &YaccGrammarWarning) -> bool
-    ensures { (s : Syntax) → AreAskedBy s s.productions asked.now
-        → MatchBool result (IsAskedFor s warning.now) (IsAskedFor s warning.now → ⊥) }
+fn is_requested_for(requested: &Positions, warning: &YaccGrammarWarning) -> bool
+    ensures { (s : Syntax) → AreRequestedBy s s.productions requested.now
+        → MatchBool result (IsRequestedFor s warning.now) (IsRequestedFor s warning.now → ⊥) }
 {
     match warning.kind() {
         YaccGrammarWarningKind::UnusedRule => false,
         YaccGrammarWarningKind::UnusedToken => match warning.spans().first() {
-            Some(span) => has_span(asked, *span),
+            Some(span) => has_span(requested, *span),
             None => false,
         },
     }

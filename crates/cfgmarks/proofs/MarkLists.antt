@@ -38,9 +38,9 @@ found_one f h es ys y it rest c given step is none =
     ap (filter_map h) (given_step f es ys y it rest given step) ∙ filter_map-append h _ rest ∙ ap (λ cs. cs ++ filter_map h rest) (picked f h ys y c is) in
     not_empty (filter_map h (map f ys)) c (filter_map h rest) (sym here ∙ none)
   where
-    not_empty : {C : Type 0} (front : List C) (c : C) (back : List C) → (front ++ c ∷ []) ++ back ≢ []
+    not_empty : {C : Type 0} (prefix : List C) (c : C) (back : List C) → (prefix ++ c ∷ []) ++ back ≢ []
     not_empty [] c back none = cc
-    not_empty (d ∷ front) c back none = cc
+    not_empty (d ∷ prefix) c back none = cc
 
 -- a fact that always holds, after an error too
 pub on_err : {T E P : Type 0} (r : Result T E) → P → OnErr r P

@@ -12,7 +12,7 @@ use Rattle.cfgmarks.specs.declared.markmap.marked.Marked.{Marked}
 use Rattle.cfgmarks.specs.declared.markmap.fault.MergeFault.{MergeFault}
 use Rattle.cfgmarks.specs.Marks.{Marks, entry_at, stored_at}
 use Rattle.std.specs.Option.{ForSome}
-use Rattle.cfgmarks.specs.Merging.{wanted, CallableOnWanted, MergedAt, Merged}
+use Rattle.cfgmarks.specs.Merging.{expected, CallableOnExpected, MergedAt, Merged}
 use Rattle.cfgmarks.specs.MergeFaults.{MergesKey, IsFaultAt, StopsAt}
 use Rattle.lemmas.proofs.Lookups.{found-lookup_key, lookup_after_none, lookup_before_none}
 use Rattle.lemmas.proofs.Entries.{lookup_congr, lookup_before, none_before, found_here}
@@ -100,13 +100,13 @@ module _ {K U V : Type 0} (cmp : K → K → Ordering) (total : IsTotalOrder cmp
         )
 
     -- the value at the key may be converted
-    pub wanted_callable : {may_convert : U → Type 0} → CallableOnWanted cmp may_convert mine theirs → ForSome (wanted now.behavior (entry_at cmp now k) x) may_convert
-    wanted_callable callable =
-        let same : wanted now.behavior (entry_at cmp now k) x ≡ wanted mine.behavior (entry_at cmp mine k) x =
-        ap (λ b. wanted b (entry_at cmp now k) x) at_key.so_far.0 ∙ ap (λ o. wanted mine.behavior o x) still_mine in
+    pub expected_callable : {may_convert : U → Type 0} → CallableOnExpected cmp may_convert mine theirs → ForSome (expected now.behavior (entry_at cmp now k) x) may_convert
+    expected_callable callable =
+        let same : expected now.behavior (entry_at cmp now k) x ≡ expected mine.behavior (entry_at cmp mine k) x =
+        ap (λ b. expected b (entry_at cmp now k) x) at_key.so_far.0 ∙ ap (λ o. expected mine.behavior o x) still_mine in
         λ u wants. callable k x theirs_here u (sym same ∙ wants)
 
 -- what may be done with any value may be done with those values
 pub always_callable : {K U V : Type 0} (cmp : K → K → Ordering) (may_convert : U → Type 0) (mine : Marks K V) (theirs : Marks K U) → ((u : U) → may_convert u)
-    → CallableOnWanted cmp may_convert mine theirs
+    → CallableOnExpected cmp may_convert mine theirs
 always_callable cmp may_convert mine theirs always q x found u wants = always u

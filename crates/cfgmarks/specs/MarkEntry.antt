@@ -56,5 +56,5 @@ module _ {K V : Type 0} where
   vacant_key e = e.key
 
   -- the same key of the same map
-  abbrev pub IsSamePlace : VacantEntry K V → VacantEntry K V → Type 0
-  IsSamePlace before after = (after.map.ghost_name ≡ before.map.ghost_name) × (after.key ≡ before.key)
+  abbrev pub IsSamePosition : VacantEntry K V → VacantEntry K V → Type 0
+  IsSamePosition before after = (after.map.ghost_name ≡ before.map.ghost_name) × (after.key ≡ before.key)

@@ -11,7 +11,7 @@ use Rattle.cfgmarks.specs.declared.markmap.fault.MergeFault.TheVariants.{Conflic
 use Rattle.cfgmarks.specs.declared.markmap.merge.Refusal.{Refusal}
 use Rattle.cfgmarks.specs.declared.markmap.merge.Refusal.TheVariants as refusal
 use Rattle.cfgmarks.specs.Marks.{Marks, entry_at, stored_at}
-use Rattle.cfgmarks.specs.Merging.{conflicts, conflicts_at, stays, wanted, MergedAt, Merged}
+use Rattle.cfgmarks.specs.Merging.{conflicts, conflicts_at, stays, expected, MergedAt, Merged}
 
 module _ {U V E : Type 0} (converts : U → V → Type 0) (refuses : U → E → Type 0) where
   -- why the marks of a key that is in both maps weren't merged
@@ -27,7 +27,7 @@ module _ {U V E : Type 0} (converts : U → V → Type 0) (refuses : U → E →
   -- allocates
   abbrev pub IsFaultAt : {K : Type 0} → MergeBehavior → K → Option (Marked V) → Marked U → MergeFault K V E → Type 0
   IsFaultAt default k mine theirs (Conflict (Exclusivity key value)) = (key ≡ k) × (conflicts_at default mine theirs ≡ true) × IsSomeAnd theirs.value (λ u. converts u value.value)
-  IsFaultAt default k mine theirs (Convert key e) = (key ≡ k) × IsSomeAnd (wanted default mine theirs) (λ u. refuses u e)
+  IsFaultAt default k mine theirs (Convert key e) = (key ≡ k) × IsSomeAnd (expected default mine theirs) (λ u. refuses u e)
   IsFaultAt default k mine theirs OutOfMemory = WantsMemory default mine theirs
 
   -- merging stops at the fault: its key is one of theirs, and exactly the keys of theirs below it are merged

@@ -51,9 +51,9 @@ module _ {U V : Type 0} where
   MergedAt converts default (Some mine) (Some theirs) now = IsSomeAnd now (MergesInto converts (behavior_of default mine) mine theirs)
 
   -- the value of theirs that merging takes or that conflicts: the only one that is converted
-  abbrev pub wanted : MergeBehavior → Option (Marked V) → Marked U → Option U
-  wanted default None theirs = theirs.value
-  wanted default (Some mine) theirs = if stays (behavior_of default mine) mine theirs then None else theirs.value
+  abbrev pub expected : MergeBehavior → Option (Marked V) → Marked U → Option U
+  expected default None theirs = theirs.value
+  expected default (Some mine) theirs = if stays (behavior_of default mine) mine theirs then None else theirs.value
 
   -- the entry of theirs conflicts with mine
   abbrev pub conflicts_at : MergeBehavior → Option (Marked V) → Marked U → Bool
@@ -75,8 +75,8 @@ module _ {K U V : Type 0} (cmp : K → K → Ordering) (converts : U → V → T
   Merged mine theirs k now = MergedWhere mine theirs (λ q. is_lt (cmp q k)) now
 
 -- each value of theirs that merging takes or that conflicts may be converted
-abbrev pub CallableOnWanted : {K U V : Type 0} → (K → K → Ordering) → (U → Type 0) → Marks K V → Marks K U → Type 0
-CallableOnWanted {K} {U} cmp may_convert mine theirs = (q : K) (x : Marked U) → entry_at cmp theirs q ≡ Some x → ForSome (wanted mine.behavior (entry_at cmp mine q) x) may_convert
+abbrev pub CallableOnExpected : {K U V : Type 0} → (K → K → Ordering) → (U → Type 0) → Marks K V → Marks K U → Type 0
+CallableOnExpected {K} {U} cmp may_convert mine theirs = (q : K) (x : Marked U) → entry_at cmp theirs q ≡ Some x → ForSome (expected mine.behavior (entry_at cmp mine q) x) may_convert
 
 -- each stored key is mine if I have one, and otherwise theirs
 abbrev pub KeepsStored : {K U V : Type 0} → (K → K → Ordering) → Marks K V → Marks K U → Marks K V → Type 0

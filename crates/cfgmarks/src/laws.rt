@@ -8,7 +8,7 @@ ghost use Rattle.cfgmarks.specs.declared.markmap.behavior.MergeBehavior.{MergeBe
 use crate::markmap::MergeBehavior;
 
 /// The three behaviors differ, and each is equal to itself. A clone equals its source and allocates nothing.
-pub fn merge_behaviors_are_told_apart()
+pub fn merge_behaviors_are_distinct()
     ensures equal { (a b : MergeBehavior) → IsTrue (⟦<MergeBehavior as PartialEq>⟧.eq a b) ↔ (a ≡ b) }
     ensures clone { (a b : MergeBehavior) → ⟦<MergeBehavior as Clone>⟧.is_clone a b → b ≡ a }
     ensures cloned { (a : MergeBehavior) → ⟦<MergeBehavior as Clone>⟧.is_infallible a }

@@ -7,7 +7,7 @@ use Rattle.std.proofs.lemmas.Slice.Zip.{length-zip}
 use Rattle.derivation.specs.Grammar.{Sym, Rule}
 use Rattle.cfgast.specs.Syntax.{Syntax}
 use Rattle.cfgtree.specs.WellFormed.{IsWellFormed}
-use Rattle.cfgnumbers.specs.Fits.{productions_behind}
+use Rattle.cfgnumbers.specs.Fits.{productions_after}
 use Rattle.cfgnumbers.specs.Numbered.{NumberedRule, NumberedProduction, rules_before, start_symbols, start_name, implicit_name, implicit_start_name, added_rule, added_rules, added_production, added_productions, numbered_by, file_rule, file_production, file_token, end_token}
 use Rattle.cfgnumbers.proofs.RowLemmas.{added_names, implicit_row}
 
@@ -20,18 +20,18 @@ added_names_are None n = refl
 added_names_are (Some names) n = refl
 
 -- the productions after those that begin with an implicit token
-abbrev pub behind_implicit : List (List ℕ) → Syntax → List NumberedProduction
-behind_implicit names s = added_production 1 [] ∷ added_production 2 (Rule 1 ∷ start_symbols (Some names) s) ∷ []
+abbrev pub after_implicit : List (List ℕ) → Syntax → List NumberedProduction
+after_implicit names s = added_production 1 [] ∷ added_production 2 (Rule 1 ∷ start_symbols (Some names) s) ∷ []
 
-pub added_productions_len : (implicit : Option (List (List ℕ))) (s : Syntax) → length (added_productions implicit s) ≡ productions_behind implicit
+pub added_productions_len : (implicit : Option (List (List ℕ))) (s : Syntax) → length (added_productions implicit s) ≡ productions_after implicit
 added_productions_len None s = refl
-added_productions_len (Some names) s = omega (arith, length-append (map (implicit_row s) names) (behind_implicit names s), length-map names (implicit_row s))
+added_productions_len (Some names) s = omega (arith, length-append (map (implicit_row s) names) (after_implicit names s), length-map names (implicit_row s))
 
 pub All-added : (P : NumberedProduction → Type 0) (names : List (List ℕ)) (s : Syntax) → P (added_production 0 (Rule 2 ∷ [])) → All (λ name. P (implicit_row s name)) names
     → P (added_production 1 []) → P (added_production 2 (Rule 1 ∷ start_symbols (Some names) s)) → All P (added_productions (Some names) s)
 All-added P names s first rows empty start =
-    All-cons P (added_production 0 (Rule 2 ∷ [])) (map (implicit_row s) names ++ behind_implicit names s) first
-    (All-append P (map (implicit_row s) names) (behind_implicit names s) (All-map P (implicit_row s) names rows)
+    All-cons P (added_production 0 (Rule 2 ∷ [])) (map (implicit_row s) names ++ after_implicit names s) first
+    (All-append P (map (implicit_row s) names) (after_implicit names s) (All-map P (implicit_row s) names rows)
     (All-cons P (added_production 1 []) (added_production 2 (Rule 1 ∷ start_symbols (Some names) s) ∷ []) empty (All-cons P (added_production 2 (Rule 1 ∷ start_symbols (Some names) s)) [] start (All-nil P))))
 
 -- what is true of whatever is added
@@ -56,7 +56,7 @@ module _ (implicit : Option (List (List ℕ))) (s : Syntax) (well : IsWellFormed
       let pairs = zip s.tokens s.spans in
       omega (arith, length-append (map (file_token s) pairs) (end_token ∷ []), length-map pairs (file_token s), length-zip s.tokens s.spans, well.spans_as_long)
 
-  pub productions_len : length (numbered_by implicit s).productions ≡ length s.productions + productions_behind implicit
+  pub productions_len : length (numbered_by implicit s).productions ≡ length s.productions + productions_after implicit
   unfolding numbered_by
   productions_len =
       let pairs = zip s.production_rules s.productions in

@@ -30,37 +30,37 @@ module _ {S : Type 0} (number : S → ℕ) (rules : List (RIdx S)) (lists : List
       ∙ ap (λ l. l ++ production_view number (rule, (list, row)) ∷ []) shown
 
   -- what is read at an index
-  module _ (place : ℕ) (within : place < length xs) where
-    pub in_rows : place < length rows
+  module _ (index : ℕ) (within : index < length xs) where
+    pub in_rows : index < length rows
     in_rows = omega (arith, within, beside-length)
 
-    pub in_rules : place < length rules
+    pub in_rules : index < length rules
     in_rules = omega (arith, within, beside-length, same.0)
 
-    pub in_lists : place < length lists
+    pub in_lists : index < length lists
     in_lists = omega (arith, within, beside-length, same.1)
 
-    at : (rule : RIdx S) (list : List (Symbol S)) (row : ProductionRow) → slice_get rules place ≡ Some rule → slice_get lists place ≡ Some list → slice_get rows place ≡ Some row
-        → slice_get xs place ≡ Some (production_view number (rule, (list, row)))
+    at : (rule : RIdx S) (list : List (Symbol S)) (row : ProductionRow) → slice_get rules index ≡ Some rule → slice_get lists index ≡ Some list → slice_get rows index ≡ Some row
+        → slice_get xs index ≡ Some (production_view number (rule, (list, row)))
     at rule list row rule_at list_at row_at =
-        ap (λ l. slice_get l place) (sym shown) ∙ slice_get-map (production_view number) (zip rules (zip lists rows)) place
-        ∙ ap (option_map (production_view number)) (slice_get-zip_some rules (zip lists rows) place rule (list, row) rule_at (slice_get-zip_some lists rows place list row list_at row_at))
+        ap (λ l. slice_get l index) (sym shown) ∙ slice_get-map (production_view number) (zip rules (zip lists rows)) index
+        ∙ ap (option_map (production_view number)) (slice_get-zip_some rules (zip lists rows) index rule (list, row) rule_at (slice_get-zip_some lists rows index list row list_at row_at))
 
-    pub rule_beside : (rule : RIdx S) → rule ≡ get_or rules place rule → option_map (λ (p : NumberedProduction). p.rule) (slice_get xs place) ≡ Some (number rule.0)
+    pub rule_beside : (rule : RIdx S) → rule ≡ get_or rules index rule → option_map (λ (p : NumberedProduction). p.rule) (slice_get xs index) ≡ Some (number rule.0)
     rule_beside rule is =
-        let list = element_at lists place in_lists in
-        let row = element_at rows place in_rows in
-        ap (option_map (λ (p : NumberedProduction). p.rule)) (at rule list.0 row.0 (slice_get_read rules (length rules) place rule refl in_rules is) list.1 row.1)
+        let list = element_at lists index in_lists in
+        let row = element_at rows index in_rows in
+        ap (option_map (λ (p : NumberedProduction). p.rule)) (at rule list.0 row.0 (slice_get_read rules (length rules) index rule refl in_rules is) list.1 row.1)
 
-    pub symbols_beside : (list : List (Symbol S)) → slice_get lists place ≡ Some list
-        → option_map (λ (p : NumberedProduction). p.symbols) (slice_get xs place) ≡ Some (map (sym_of number) list)
+    pub symbols_beside : (list : List (Symbol S)) → slice_get lists index ≡ Some list
+        → option_map (λ (p : NumberedProduction). p.symbols) (slice_get xs index) ≡ Some (map (sym_of number) list)
     symbols_beside list is =
-        let rule = element_at rules place in_rules in
-        let row = element_at rows place in_rows in
+        let rule = element_at rules index in_rules in
+        let row = element_at rows index in_rows in
         ap (option_map (λ (p : NumberedProduction). p.symbols)) (at rule.0 list row.0 rule.1 is row.1)
 
-    pub row_beside : (row : ProductionRow) → row ≡ get_or rows place row → (rule : RIdx S) × (list : List (Symbol S)) × (slice_get xs place ≡ Some (production_view number (rule, (list, row))))
+    pub row_beside : (row : ProductionRow) → row ≡ get_or rows index row → (rule : RIdx S) × (list : List (Symbol S)) × (slice_get xs index ≡ Some (production_view number (rule, (list, row))))
     row_beside row is =
-        let rule = element_at rules place in_rules in
-        let list = element_at lists place in_lists in
-        (rule.0, list.0, at rule.0 list.0 row rule.1 list.1 (slice_get_read rows (length rows) place row refl in_rows is))
+        let rule = element_at rules index in_rules in
+        let list = element_at lists index in_lists in
+        (rule.0, list.0, at rule.0 list.0 row rule.1 list.1 (slice_get_read rows (length rows) index row refl in_rows is))

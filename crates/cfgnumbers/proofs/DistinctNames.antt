@@ -12,7 +12,7 @@ use Rattle.std.proofs.lemmas.Simd.{map-map}
 use Rattle.std.proofs.lemmas.Slice.Zip.{firsts-zip}
 use Rattle.cfgbase.specs.declared.span.Span.{Span}
 use Rattle.cfgast.specs.Syntax.{Syntax}
-use Rattle.lemmas.proofs.Places.{position-distinct, position-map}
+use Rattle.lemmas.proofs.Positions.{position-distinct, position-map}
 use Rattle.cfgtree.specs.Sound.{IsSound}
 use Rattle.cfgnumbers.specs.Numbered.{Numbered, NumberedRule, NumberedToken, numbered_by, added_rules, file_rule, file_token, end_token}
 use Rattle.cfgnumbers.specs.Accessors.{rule_part, token_part, has_token_name}
@@ -39,27 +39,27 @@ name_holds P (x ∷ xs) (suc t) name all at = go x.name all (λ rest. name_holds
     go (Some other) all further = further all.1
 
 -- Some tokens may have no name.
-token_place : (tokens : List NumberedToken) (t : ℕ) (name : List ℕ) → IsDistinct bytes_eq (filter_map name_shown tokens)
+token_index : (tokens : List NumberedToken) (t : ℕ) (name : List ℕ) → IsDistinct bytes_eq (filter_map name_shown tokens)
     → option_map name_shown (slice_get tokens t) ≡ Some (Some name) → position_or_len (has_token_name name) tokens ≡ t
-token_place [] t name distinct at = let no : None ≡ Some (Some name) = at in cc
-token_place (x ∷ xs) zero name distinct at =
+token_index [] t name distinct at = let no : None ≡ Some (Some name) = at in cc
+token_index (x ∷ xs) zero name distinct at =
     let is : x.name ≡ Some name = cc in
     ap (λ o. cond (not (option_map_or (bytes_eq name) o false)) (1 + position_or_len (has_token_name name) xs) 0) is
     ∙ ap (λ b. cond (not b) (1 + position_or_len (has_token_name name) xs) 0) (nat_list_eq_equiv.refl name)
-token_place (x ∷ xs) (suc t) name distinct at = go x.name distinct (λ rest. token_place xs t name rest at)
+token_index (x ∷ xs) (suc t) name distinct at = go x.name distinct (λ rest. token_index xs t name rest at)
   where
-    place : ℕ
-    place = position_or_len (has_token_name name) xs
+    index : ℕ
+    index = position_or_len (has_token_name name) xs
 
-    go : (o : Option (List ℕ)) → IsDistinct bytes_eq (cons_option o (filter_map name_shown xs)) → (IsDistinct bytes_eq (filter_map name_shown xs) → place ≡ t)
-        → cond (not (option_map_or (bytes_eq name) o false)) (1 + place) 0 ≡ suc t
+    go : (o : Option (List ℕ)) → IsDistinct bytes_eq (cons_option o (filter_map name_shown xs)) → (IsDistinct bytes_eq (filter_map name_shown xs) → index ≡ t)
+        → cond (not (option_map_or (bytes_eq name) o false)) (1 + index) 0 ≡ suc t
     go None distinct further = omega (arith, further distinct)
     go (Some other) distinct further =
         let others = filter_map name_shown xs in
         let apart : bytes_eq name other ≡ false = nat_list_eq_equiv.symm name other
         ∙ name_holds (λ y. bytes_eq other y ≡ false) xs t name (IsDistinct-head bytes_eq other others distinct) at in
-        let is : 1 + place ≡ suc t = omega (arith, further (IsDistinct-tail bytes_eq other others distinct)) in
-        ap (λ b. cond (not b) (1 + place) 0) apart ∙ is
+        let is : 1 + index ≡ suc t = omega (arith, further (IsDistinct-tail bytes_eq other others distinct)) in
+        ap (λ b. cond (not b) (1 + index) 0) apart ∙ is
 
 module _ (g : Numbered) (names : HasDistinctNames g) where
   pub rule_found : (r : ℕ) (name : List ℕ) → rule_part (λ rule. rule.name) g r ≡ Some name → position (λ rule. bytes_eq name rule.name) g.rules ≡ Some r
@@ -69,7 +69,7 @@ module _ (g : Numbered) (names : HasDistinctNames g) where
 
   pub token_found : (t : ℕ) (name : List ℕ) → token_part (λ token. token.name) g t ≡ Some (Some name) → position (has_token_name name) g.tokens ≡ Some t
   token_found t name at =
-      ap (λ i. cond (nat_lt i (length g.tokens)) (Some i) None) (token_place g.tokens t name names.tokens at)
+      ap (λ i. cond (nat_lt i (length g.tokens)) (Some i) None) (token_index g.tokens t name names.tokens at)
       ∙ ap (λ b. cond b (Some t) None) (lt-ltb t (length g.tokens) (part_within name_shown g.tokens t (Some name) at))
 
 names_of_file : (s : Syntax) (rows : List (List ℕ × Span)) → filter_map name_shown (map (file_token s) rows) ≡ map (λ row. row.0) rows

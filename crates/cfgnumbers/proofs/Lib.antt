@@ -2,11 +2,11 @@ pub mod Added
 pub mod Beside
 pub mod DistinctNames
 pub mod Listed
-pub mod ListedPlaces
+pub mod ListedPositions
 pub mod ListsBetween
 pub mod Lookups
 pub mod Marks
-pub mod Places
+pub mod Positions
 pub mod Room
 pub mod RowLemmas
 pub mod Symbols

@@ -39,31 +39,31 @@ next_end start last (end ∷ ends) zero d e are lt = first_end end last ends e a
 next_end start last (end ∷ ends) (suc k) d e are lt = next_end end last ends k d e are.1 (omega (arith, lt))
 
 -- what is read of the list with an index: where it begins, where it ends, and what it is
-module _ {A : Type 0} (items : List A) (ends : List ℕ) (are : AreEnds 0 (length items) ends) (xs : List (List A)) (shown : lists_between items 0 ends ≡ xs) (place : ℕ) (lt : place < length xs) where
-  pub within : place < length ends
+module _ {A : Type 0} (items : List A) (ends : List ℕ) (are : AreEnds 0 (length items) ends) (xs : List (List A)) (shown : lists_between items 0 ends ≡ xs) (index : ℕ) (lt : index < length xs) where
+  pub within : index < length ends
   within = omega (arith, lt, ap length shown, lists_between-length items 0 ends)
 
-  module _ (end : ℕ) (end_is : end ≡ get_or ends place end) where
-    pub at_first : place ≡ 0 → (end ≤ length items) × (slice_get xs place ≡ Some (slice_range items 0 end))
+  module _ (end : ℕ) (end_is : end ≡ get_or ends index end) where
+    pub at_first : index ≡ 0 → (end ≤ length items) × (slice_get xs index ≡ Some (slice_range items 0 end))
     at_first is =
         let some : 0 < length ends = omega (arith, within) in
         let at : end ≡ get_or ends 0 end = end_is ∙ ap (λ k. get_or ends k end) is in
         let order = first_end 0 (length items) ends end are some in (
           omega (arith, at, order.1),
-          ap (λ l. slice_get l place) (sym shown) ∙ ap (slice_get (lists_between items 0 ends)) is ∙ first_between items 0 ends end some
+          ap (λ l. slice_get l index) (sym shown) ∙ ap (slice_get (lists_between items 0 ends)) is ∙ first_between items 0 ends end some
               ∙ ap (λ k. Some (slice_range items 0 k)) (sym at),
         )
 
-    pub at_next : (start : ℕ) → 0 < place → start ≡ get_or ends (place - 1) start
-        → (start ≤ end) × (end ≤ length items) × (slice_get xs place ≡ Some (slice_range items start end))
+    pub at_next : (start : ℕ) → 0 < index → start ≡ get_or ends (index - 1) start
+        → (start ≤ end) × (end ≤ length items) × (slice_get xs index ≡ Some (slice_range items start end))
     at_next start some start_is =
-        let is : place ≡ suc (place - 1) = omega (arith, some) in
-        let more : suc (place - 1) < length ends = omega (arith, within, some) in
-        let at : end ≡ get_or ends (suc (place - 1)) end = end_is ∙ ap (λ k. get_or ends k end) is in
-        let order = next_end 0 (length items) ends (place - 1) start end are more in (
+        let is : index ≡ suc (index - 1) = omega (arith, some) in
+        let more : suc (index - 1) < length ends = omega (arith, within, some) in
+        let at : end ≡ get_or ends (suc (index - 1)) end = end_is ∙ ap (λ k. get_or ends k end) is in
+        let order = next_end 0 (length items) ends (index - 1) start end are more in (
           omega (arith, start_is, at, order.0),
           omega (arith, at, order.1),
-          ap (λ l. slice_get l place) (sym shown) ∙ ap (slice_get (lists_between items 0 ends)) is ∙ next_between items 0 ends (place - 1) start end more
+          ap (λ l. slice_get l index) (sym shown) ∙ ap (slice_get (lists_between items 0 ends)) is ∙ next_between items 0 ends (index - 1) start end more
               ∙ (λ i. Some (slice_range items (sym start_is i) (sym at i))),
         )
 

@@ -12,7 +12,7 @@ use Rattle.std.proofs.lemmas.Map.Keys.{IsDistinct-cons, IsDistinct-head, IsDisti
 use Rattle.std.proofs.lemmas.Map.Text.{hash_map_updates_str}
 use Rattle.std.proofs.lemmas.Option.{get_or_from_slice_get, slice_get_within}
 use Rattle.indexmap.proofs.MapLemmas.{distinct-take}
-use Rattle.lemmas.proofs.Places.{position-map, position-push, first_place, position-distinct}
+use Rattle.lemmas.proofs.Positions.{position-map, position-push, first_position, position-distinct}
 use Rattle.lemmas.proofs.Elements.{slice_get_push}
 use Rattle.cfgast.specs.Building.{has_name, has_rule}
 use Rattle.cfgast.specs.Syntax.{Syntax, Rule, index_of}
@@ -31,16 +31,16 @@ is_key name key = bytes_eq name (string_bytes key)
 pub position-keys : {V : Type 0} (name : List ℕ) (es : List (String Global × V)) → position (is_key name) (keys_of es) ≡ position (λ e. is_key name e.0) es
 position-keys name es = position-map (is_key name) (λ e. e.0) es
 
-pub rule_place : (name : List ℕ) (s : Syntax) (es : List (String Global × source.Rule)) → map rule_entry es ≡ s.rules → has_rule name s.rules ≡ true
+pub rule_index : (name : List ℕ) (s : Syntax) (es : List (String Global × source.Rule)) → map rule_entry es ≡ s.rules → has_rule name s.rules ≡ true
     → position (is_key name) (keys_of es) ≡ Some (position_or_len (λ rule. bytes_eq name rule.0) s.rules)
-rule_place name s es same known =
+rule_index name s es same known =
     position-keys name es ∙ sym (position-map (λ (rule : List ℕ × Rule). bytes_eq name rule.0) rule_entry es)
-    ∙ ap (position (λ (rule : List ℕ × Rule). bytes_eq name rule.0)) same ∙ first_place (λ (rule : List ℕ × Rule). bytes_eq name rule.0) s.rules known
+    ∙ ap (position (λ (rule : List ℕ × Rule). bytes_eq name rule.0)) same ∙ first_position (λ (rule : List ℕ × Rule). bytes_eq name rule.0) s.rules known
 
-pub token_place : (name : List ℕ) (s : Syntax) (keys : List (String Global)) → map string_bytes keys ≡ s.tokens → has_name name s.tokens ≡ true
+pub token_index : (name : List ℕ) (s : Syntax) (keys : List (String Global)) → map string_bytes keys ≡ s.tokens → has_name name s.tokens ≡ true
     → position (is_key name) keys ≡ Some (index_of name s.tokens)
-token_place name s keys same known =
-    sym (position-map (bytes_eq name) string_bytes keys) ∙ ap (position (bytes_eq name)) same ∙ first_place (bytes_eq name) s.tokens known
+token_index name s keys same known =
+    sym (position-map (bytes_eq name) string_bytes keys) ∙ ap (position (bytes_eq name)) same ∙ first_position (bytes_eq name) s.tokens known
 
 -- a name's index among the rows of rules
 pub rule_position : {S : Type 0} (number : S → ℕ) (name : List ℕ) (es : List (String Global × RuleRow S))
@@ -91,14 +91,14 @@ position_more all n key distinct at name = go (bytes_eq key name) refl
 module _ {T S : Type 0} (number : T → ℕ) (old new : HashMap (Bor (List ℕ)) T S) (key : List ℕ) (token : T) where
   -- the map of the names before an index, with the name at the index added
   pub token_put : hash.UpdatesBy (λ x y. bytes_eq x.now y.now) (λ k. bytes_eq key k.now) old new (Some token)
-      → (all : List (List ℕ)) (place : ℕ) → number token ≡ place → IsDistinct bytes_eq all → slice_get all place ≡ Some key
-      → ((name : List ℕ) → option_map number (get_by (λ k. bytes_eq name k.now) old) ≡ position (bytes_eq name) (take place all))
-      → (name : List ℕ) → option_map number (get_by (λ k. bytes_eq name k.now) new) ≡ position (bytes_eq name) (take (place + 1) all)
-  token_put updates all place is distinct at before name =
+      → (all : List (List ℕ)) (index : ℕ) → number token ≡ index → IsDistinct bytes_eq all → slice_get all index ≡ Some key
+      → ((name : List ℕ) → option_map number (get_by (λ k. bytes_eq name k.now) old) ≡ position (bytes_eq name) (take index all))
+      → (name : List ℕ) → option_map number (get_by (λ k. bytes_eq name k.now) new) ≡ position (bytes_eq name) (take (index + 1) all)
+  token_put updates all index is distinct at before name =
       ap (option_map number) (hash_map_updates_str key old new (Some token) updates name)
-      ∙ go (bytes_eq key name) (get_by (λ k. bytes_eq name k.now) old) (before name) ∙ sym (position_more all place key distinct at name)
+      ∙ go (bytes_eq key name) (get_by (λ k. bytes_eq name k.now) old) (before name) ∙ sym (position_more all index key distinct at name)
     where
-      go : (b : Bool) (found : Option T) → option_map number found ≡ position (bytes_eq name) (take place all)
-          → option_map number (cond b (Some token) found) ≡ cond b (Some place) (position (bytes_eq name) (take place all))
+      go : (b : Bool) (found : Option T) → option_map number found ≡ position (bytes_eq name) (take index all)
+          → option_map number (cond b (Some token) found) ≡ cond b (Some index) (position (bytes_eq name) (take index all))
       go true found same = ap Some is
       go false found same = same

@@ -28,8 +28,8 @@ module _ (implicit : Option (List (List ℕ))) (s : Syntax) (symbols : List sour
   pub width_within : length (file_symbols implicit s (map symbol_view (take n symbols))) + length (numbered (symbol_view symbol)) ≤ length (file_symbols implicit s (map symbol_view symbols))
   width_within =
       let shown = map symbol_view symbols in
-      let front : length (flat_map numbered (take n shown)) ≡ length (file_symbols implicit s (map symbol_view (take n symbols))) = ap (λ t. length (flat_map numbered t)) (lists.take-map symbol_view n symbols) in
+      let prefix : length (flat_map numbered (take n shown)) ≡ length (file_symbols implicit s (map symbol_view (take n symbols))) = ap (λ t. length (flat_map numbered t)) (lists.take-map symbol_view n symbols) in
       let here : length (numbered (get_or shown n (symbol_view symbol))) ≡ length (numbered (symbol_view symbol)) =
       ap (λ x. length (numbered x)) (get_or-map symbol_view symbols n symbol (symbol_view symbol) within ∙ ap symbol_view (sym is)) in
       let bound = length-flat_map-take numbered shown n (symbol_view symbol) (omega (arith, within, length-map symbols symbol_view)) in
-      omega (arith, bound, front, here)
+      omega (arith, bound, prefix, here)

@@ -6,11 +6,11 @@ use Rattle.std.proofs.lemmas.Option.{slice_get-get_or}
 use Rattle.cfgwords.specs.FileWords.{Word}
 use Rattle.cfgast.specs.Building.{has_rule}
 use Rattle.cfgast.specs.Syntax.{Syntax, Production}
-use Rattle.cfgtree.specs.Check.{first_error, start_error, symbol_error, precedence_error, printed_error, production_error, place_error, rule_error, check_of}
+use Rattle.cfgtree.specs.Check.{first_error, start_error, symbol_error, precedence_error, printed_error, production_error, locate_error, rule_error, check_of}
 use Rattle.cfgerrors.specs.Errors.{GrammarError, InvalidStartRule, error_at}
 use Rattle.cfgtree.specs.Sound.{IsSound}
 use Rattle.cfgnumbers.specs.Inner.Resolved.{IsResolved}
-use Rattle.cfgnumbers.proofs.Places.{listed_somewhere}
+use Rattle.cfgnumbers.proofs.Positions.{listed_somewhere}
 
 none_first : (a b : Option GrammarError) → option_or a b ≡ None → a ≡ None
 none_first None b e = refl
@@ -49,24 +49,24 @@ resolved s sound = record {
     passes : check_of s ≡ None
     passes = sound.checked refl
 
-    behind_rules : Option GrammarError
-    behind_rules = option_or (first_error (printed_error s) s.tables.printed_forms) (first_error (symbol_error s) s.expect_unused)
+    after_rules : Option GrammarError
+    after_rules = option_or (first_error (printed_error s) s.tables.printed_forms) (first_error (symbol_error s) s.expect_unused)
 
-    behind_start : Option GrammarError
-    behind_start = option_or (first_error (rule_error s) s.rules) behind_rules
+    after_start : Option GrammarError
+    after_start = option_or (first_error (rule_error s) s.rules) after_rules
 
     start : (word : Word) × (s.start ≡ Some word) × (has_rule word.name s.rules ≡ true)
-    start = started s s.start (none_first (start_error s s.start) behind_start passes)
+    start = started s s.start (none_first (start_error s s.start) after_start passes)
 
     rules_ok : All (λ rule. rule_error s rule ≡ None) s.rules
-    rules_ok = no_errors (rule_error s) s.rules (none_first (first_error (rule_error s) s.rules) behind_rules
-        (none_second (start_error s s.start) behind_start passes))
+    rules_ok = no_errors (rule_error s) s.rules (none_first (first_error (rule_error s) s.rules) after_rules
+        (none_second (start_error s s.start) after_start passes))
 
-    place_ok : (i : ℕ) → i < length s.productions → place_error s i ≡ None
-    place_ok i within =
+    position_ok : (i : ℕ) → i < length s.productions → locate_error s i ≡ None
+    position_ok i within =
         let (rule, at, listed) = listed_somewhere s sound.well_formed i within in
         let rule_ok : rule_error s rule ≡ None = All-contains (λ rule. rule_error s rule ≡ None) s.rules rule rules_ok at in
-        All-contains (λ place. place_error s place ≡ None) rule.1.productions i (no_errors (place_error s) rule.1.productions rule_ok) listed
+        All-contains (λ index. locate_error s index ≡ None) rule.1.productions i (no_errors (locate_error s) rule.1.productions rule_ok) listed
 
     production_ok : (i : ℕ) (d : Production) → i < length s.productions → production_error s (get_or s.productions i d) ≡ None
-    production_ok i d within = sym (ap (option_and_then (production_error s)) (slice_get-get_or s.productions i d within)) ∙ place_ok i within
+    production_ok i d within = sym (ap (option_and_then (production_error s)) (slice_get-get_or s.productions i d within)) ∙ position_ok i within

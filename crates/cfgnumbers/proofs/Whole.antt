@@ -9,10 +9,10 @@ use Rattle.std.proofs.lemmas.List.{length-map, map-append}
 use Rattle.std.proofs.lemmas.Simd.{map-map}
 use Rattle.std.proofs.lemmas.Option.{slice_get-map, slice_get-get_or}
 use Rattle.std.proofs.lemmas.Slice.Zip.{firsts-zip}
-use Rattle.lemmas.proofs.Places.{found-position}
+use Rattle.lemmas.proofs.Positions.{found-position}
 use Rattle.lemmas.proofs.Elements.{slice_get_push}
 use Rattle.lemmas.proofs.Ended.{none_at_end}
-use Rattle.lemmas.proofs.Passing.{places_from-within}
+use Rattle.lemmas.proofs.Passing.{positions_from-within}
 use Rattle.lemmas.proofs.Zips.{All-zip}
 use Rattle.cfgwords.specs.FileWords.{Word}
 use Rattle.derivation.specs.Grammar.{Sym, Rule, Token, Grammar, IsSymbolOf}
@@ -45,13 +45,13 @@ All-flat_map P f (x ∷ xs) all =
 module _ (s : Syntax) (sound : IsSound s []) (g : Grammar) (tokens_are : g.tokens ≡ length s.tokens + 1) where
   rule_there : (implicit : Option (List (List ℕ))) (name : List ℕ) → g.rules ≡ rules_before implicit + length s.rules → has_rule name s.rules ≡ true → rule_index implicit s name < g.rules
   rule_there implicit name rules_are known =
-      let place = ltb-true _ _ (found-position (λ (rule : List ℕ × file.Rule). bytes_eq name rule.0) s.rules ∙ known) in
-      omega (arith, place, rules_are)
+      let index = ltb-true _ _ (found-position (λ (rule : List ℕ × file.Rule). bytes_eq name rule.0) s.rules ∙ known) in
+      omega (arith, index, rules_are)
 
   token_there : (name : List ℕ) → has_name name s.tokens ≡ true → token_index s name + 1 < g.tokens
   token_there name known =
-      let place = ltb-true _ _ (found-position (bytes_eq name) s.tokens ∙ known) in
-      omega (arith, place, tokens_are)
+      let index = ltb-true _ _ (found-position (bytes_eq name) s.tokens ∙ known) in
+      omega (arith, index, tokens_are)
 
   symbol_there : (implicit : Option (List (List ℕ))) (symbol : Symbol) → g.rules ≡ rules_before implicit + length s.rules → symbol_error s symbol ≡ None → IsSymbolOf g (file_symbol implicit s symbol)
   symbol_there implicit (RuleSymbol word) rules_are right = rule_there implicit word.name rules_are (none_wrong (has_rule word.name s.rules) (error_at (UnknownRuleRef word.name) word.span) right)
@@ -148,7 +148,7 @@ module _ (implicit : Option (List (List ℕ))) (s : Syntax) (sound : IsSound s [
       subst (All (λ p. p < length g.productions)) (sym own)
       (λ j e there. omega (
         arith,
-        places_from-within (λ owner. k == owner) 0 (owners implicit s.production_rules) j e there,
+        positions_from-within (λ owner. k == owner) 0 (owners implicit s.production_rules) j e there,
         ap length (owners_are implicit s well),
         length-map g.productions (λ (production : NumberedProduction). production.rule),
       ))

@@ -11,13 +11,13 @@ pub record Fits (max : ℕ) (g : Numbered) : Type 0 where
   pub symbols : All (λ production. length production.symbols ≤ max) g.productions
 
 -- how many productions are added after those of the file
-abbrev pub productions_behind : Option (List (List ℕ)) → ℕ
-productions_behind None = 1
-productions_behind (Some names) = length names + 3
+abbrev pub productions_after : Option (List (List ℕ)) → ℕ
+productions_after None = 1
+productions_after (Some names) = length names + 3
 
 -- A file's rules, tokens and productions leave room for what is added, including the rules that follow tokens.
 pub record LeavesRoom (max : ℕ) (implicit : Option (List (List ℕ))) (s : Syntax) : Type 0 where
   pub rules : rules_before implicit + length s.rules ≤ max
   pub tokens : length s.tokens < max
-  pub productions : length s.productions + productions_behind implicit ≤ max
+  pub productions : length s.productions + productions_after implicit ≤ max
   pub symbols : All (λ production. length (file_symbols implicit s production.symbols) ≤ max) s.productions

@@ -39,15 +39,15 @@ impl<T: Copy> Lists<T> {
     }
 
     /// The list with this index.
-    pub fn get(&self, place: usize) -> &[T]
-        requires { place < length self.now }
-        ensures { slice_get self.now place ≡ Some result.now }
+    pub fn get(&self, index: usize) -> &[T]
+        requires { index < length self.now }
+        ensures { slice_get self.now index ≡ Some result.now }
     {
-        let end = self.ends[place];
-        if place == 0 {
+        let end = self.ends[index];
+        if index == 0 {
             &self.items[..end]
         } else {
-            &self.items[self.ends[place - 1]..end]
+            &self.items[self.ends[index - 1]..end]
         }
     }
 

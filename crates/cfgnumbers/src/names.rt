@@ -41,9 +41,9 @@ fn put_names<'rows, S: Storage>(
         → option_map (λ x. S.number x.0) (get_by (λ key. bytes_eq name key.now) map.new)
         ≡ position (bytes_eq name) (names rows.now.entries)) }
 {
-    for place in 0..rows.len() {
-        let (name, _) = rows.get_index(place).unwrap();
-        map.insert(name.as_str(), TIdx(to_storage(place)))?;
+    for index in 0..rows.len() {
+        let (name, _) = rows.get_index(index).unwrap();
+        map.insert(name.as_str(), TIdx(to_storage(index)))?;
     }
     Ok(())
 }

@@ -56,33 +56,33 @@ impl<S: Storage> ProductionRows<S> {
     }
 
     /// The rule of the production with this number.
-    pub fn rule(&self, place: usize) -> RIdx<S>
-        requires { place < length self.now }
-        ensures { option_map (λ p. p.rule) (slice_get self.now place) ≡ Some (S.number result.0) }
+    pub fn rule(&self, index: usize) -> RIdx<S>
+        requires { index < length self.now }
+        ensures { option_map (λ p. p.rule) (slice_get self.now index) ≡ Some (S.number result.0) }
     {
-        self.rules[place]
+        self.rules[index]
     }
 
     /// The symbols of the production with this number.
-    pub fn symbols(&self, place: usize) -> &[Symbol<S>]
-        requires { place < length self.now }
-        ensures { option_map (λ p. p.symbols) (slice_get self.now place) ≡ Some (map (sym_of S.number) result.now) }
+    pub fn symbols(&self, index: usize) -> &[Symbol<S>]
+        requires { index < length self.now }
+        ensures { option_map (λ p. p.symbols) (slice_get self.now index) ≡ Some (map (sym_of S.number) result.now) }
     {
-        self.symbols.get(place)
+        self.symbols.get(index)
     }
 
     /// The row of the production with this number.
-    pub fn row(&self, place: usize) -> &ProductionRow
-        requires { place < length self.now }
-        ensures span { option_map (λ p. p.span) (slice_get self.now place) ≡ Some result.now.span }
-        ensures precedence { option_map (λ p. p.precedence) (slice_get self.now place)
+    pub fn row(&self, index: usize) -> &ProductionRow
+        requires { index < length self.now }
+        ensures span { option_map (λ p. p.span) (slice_get self.now index) ≡ Some result.now.span }
+        ensures precedence { option_map (λ p. p.precedence) (slice_get self.now index)
             ≡ Some result.now.precedence }
-        ensures action { option_map (λ p. p.action) (slice_get self.now place)
+        ensures action { option_map (λ p. p.action) (slice_get self.now index)
             ≡ Some (option_map string_bytes result.now.action) }
-        ensures action_span { option_map (λ p. p.action_span) (slice_get self.now place)
+        ensures action_span { option_map (λ p. p.action_span) (slice_get self.now index)
             ≡ Some result.now.action_span }
     {
-        &self.rows[place]
+        &self.rows[index]
     }
 
     /// Adds a production after the others.

@@ -8,11 +8,11 @@ use Rattle.cfgprogram.specs.declared.kinds.KindArg.TheVariants.{Named, Section}
 
 -- the kind that an argument names
 abbrev pub kind_named : List ℕ → Option KindArg
-kind_named word =
-    if bytes_eq word (codes "original-noaction") then Some (Named (Original NoAction))
-    else if bytes_eq word (codes "original-useraction") then Some (Named (Original UserAction))
-    else if bytes_eq word (codes "original-genericparsetree") then Some (Named (Original GenericParseTree))
-    else if bytes_eq word (codes "grmtools") then Some (Named Grmtools)
-    else if bytes_eq word (codes "eco") then Some (Named Eco)
-    else if bytes_eq word (codes "section") then Some Section
+kind_named argument =
+    if bytes_eq argument (codes "original-noaction") then Some (Named (Original NoAction))
+    else if bytes_eq argument (codes "original-useraction") then Some (Named (Original UserAction))
+    else if bytes_eq argument (codes "original-genericparsetree") then Some (Named (Original GenericParseTree))
+    else if bytes_eq argument (codes "grmtools") then Some (Named Grmtools)
+    else if bytes_eq argument (codes "eco") then Some (Named Eco)
+    else if bytes_eq argument (codes "section") then Some Section
     else None

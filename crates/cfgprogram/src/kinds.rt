@@ -15,10 +15,10 @@ pub enum KindArg {
 }
 
 /// The kind that an argument names, byte for byte.
-pub fn kind_of(word: &str) -> Option<KindArg>
-    ensures { result ≡ kind_named word.now }
+pub fn kind_of(argument: &str) -> Option<KindArg>
+    ensures { result ≡ kind_named argument.now }
 {
-    let kind = match word {
+    let kind = match argument {
         "original-noaction" => YaccKind::Original(YaccOriginalActionKind::NoAction),
         "original-useraction" => YaccKind::Original(YaccOriginalActionKind::UserAction),
         "original-genericparsetree" => YaccKind::Original(YaccOriginalActionKind::GenericParseTree),

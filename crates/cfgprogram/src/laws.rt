@@ -3,17 +3,17 @@
 
 ghost use Rattle.std.specs.Prelude.{◌≡◌, ◌↔◌, IsTrue};
 ghost use Rattle.cfgprogram.specs.declared.kinds.KindArg.{KindArg};
-ghost use Rattle.cfgprogram.specs.declared.words.WordsFault.{WordsFault};
+ghost use Rattle.cfgprogram.specs.declared.arguments.ArgumentsFault.{ArgumentsFault};
 
+use crate::arguments::ArgumentsFault;
 use crate::kinds::KindArg;
-use crate::words::WordsFault;
 
 /// Two kinds or faults are equal exactly if they are the same. A clone equals its source and allocates nothing.
-pub fn kinds_are_told_apart()
+pub fn kinds_are_distinct()
     ensures equal_kinds { (a b : KindArg) → IsTrue (⟦<KindArg as PartialEq>⟧.eq a b) ↔ (a ≡ b) }
     ensures clone_kind { (a b : KindArg) → ⟦<KindArg as Clone>⟧.is_clone a b → b ≡ a }
     ensures cloned_kind { (a : KindArg) → ⟦<KindArg as Clone>⟧.is_infallible a }
-    ensures equal_faults { (a b : WordsFault) → IsTrue (⟦<WordsFault as PartialEq>⟧.eq a b) ↔ (a ≡ b) }
-    ensures clone_fault { (a b : WordsFault) → ⟦<WordsFault as Clone>⟧.is_clone a b → b ≡ a }
-    ensures cloned_fault { (a : WordsFault) → ⟦<WordsFault as Clone>⟧.is_infallible a }
+    ensures equal_faults { (a b : ArgumentsFault) → IsTrue (⟦<ArgumentsFault as PartialEq>⟧.eq a b) ↔ (a ≡ b) }
+    ensures clone_fault { (a b : ArgumentsFault) → ⟦<ArgumentsFault as Clone>⟧.is_clone a b → b ≡ a }
+    ensures cloned_fault { (a : ArgumentsFault) → ⟦<ArgumentsFault as Clone>⟧.is_infallible a }
 {}

@@ -1,12 +1,12 @@
 //! What the programs share: the kind that an argument names, what they read from, and how they end.
 #![tactic(auto)]
 
+pub mod arguments;
 pub mod ending;
 pub mod kinds;
 pub mod laws;
 pub mod runtime;
 pub mod source;
-pub mod words;
 
 pub use ending::Ended;
 pub use kinds::KindArg;

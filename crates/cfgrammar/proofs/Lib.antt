@@ -2,7 +2,7 @@
 pub use Rattle.lemmas.proofs.Contained
 pub use Rattle.lemmas.proofs.Elements
 pub use Rattle.lemmas.proofs.Passing
-pub use Rattle.lemmas.proofs.Places as ListPlaces
+pub use Rattle.lemmas.proofs.Positions as ListPositions
 pub use Rattle.lemmas.proofs.Taken
 pub use Rattle.lemmas.proofs.Tests
 pub use Rattle.lemmas.proofs.Zips

@@ -3,12 +3,15 @@
 
 // What grammars derive, and what that costs.
 pub use cfgcosts::laws::{
-    certificates_show_least, first_sentences_make_the_first, minimal_sentences_are_handed_down,
+    certificates_show_least, first_sentences_make_the_first, minimal_sentences_follow_chains,
     no_minimal_sentence_begins_another, sentences_cost_their_length,
 };
 pub use cfggreatest::laws::{
     bounded_rules_have_a_greatest_cost, sets_that_grow_are_unbounded,
     unbounded_rules_meet_growing_cycles,
+};
+pub use cycles::laws::{
+    cycles_are_derivations, unit_paths_are_derivations, usable_productions_hold_sentences,
 };
 pub use derivation::{
     a_greatest_cost_bounds, closed_sets_hold_before_derivations, closed_sets_hold_first,
@@ -17,47 +20,44 @@ pub use derivation::{
     follow_is_closed, growing_cycles_unbound, lists_begin_symbol_by_symbol,
     minimal_sentences_cost_the_least, paths_are_derivations, trees_are_derivations,
 };
-pub use loops::laws::{
-    alone_paths_are_derivations, loops_are_derivations, usable_productions_hold_sentences,
-};
 
 // What texts say.
 pub use cfgast::built_is_syntax;
-pub use cfgkinds::laws::{kinds_come_back, refusals_have_places};
+pub use cfgkinds::laws::{kinds_come_back, refusals_have_offsets};
 pub use cfgreader::file_is_graph;
 pub use cfgrender::laws::{carets_begin_at_column, carets_count_characters};
 pub use cfgsection::section::{
-    entry_is_graph, section_answers_its_reading, section_errors_are_at_places, section_is_graph,
+    entry_is_graph, section_errors_are_at_offsets, section_is_graph, section_returns_its_reading,
 };
 pub use cfgtree::writing::{syntax_is_well_formed, written_is_tree};
 pub use cfgwords::laws::{
-    actions_found, blank_is_graph, colon_text_is_graph, epp_string_is_graph, front_is_graph,
-    identifiers_found, integers_found, line_rest_is_graph, names_found, quoted_tokens_found,
+    actions_found, blank_is_graph, colon_text_is_graph, epp_string_is_graph, identifiers_found,
+    integers_found, line_rest_is_graph, names_found, prefix_is_graph, quoted_tokens_found,
     section_names_found, texts_found, tokens_found,
 };
 
 // What `==`, order, hash and `clone` of types compare and copy.
 pub use cfgast::laws::{
     precedences_are_what_they_are, productions_are_what_they_show, rules_are_what_they_show,
-    symbols_are_what_they_show, unique_are_what_they_show, unique_kinds_are_told_apart,
+    symbols_are_what_they_show, unique_are_what_they_show, unique_kinds_are_distinct,
 };
 pub use cfgbase::laws::{
-    locations_are_what_they_show, spans_are_their_ends, spans_kinds_are_told_apart,
+    locations_are_what_they_show, spans_are_their_ends, spans_kinds_are_distinct,
 };
-pub use cfgcosts::laws::sentence_errors_are_told_apart;
+pub use cfgcosts::laws::sentence_errors_are_distinct;
 pub use cfgerrors::laws::{
     error_kinds_are_what_they_show, header_error_kinds_are_what_they_show,
-    header_errors_are_cloned, warning_kinds_are_told_apart,
+    header_errors_are_cloned, warning_kinds_are_distinct,
 };
 pub use cfgheader::laws::parsers_are_cloned;
 pub use cfgindex::laws::{
-    places_are_their_numbers, productions_are_their_numbers, rules_are_their_numbers,
+    positions_are_their_numbers, productions_are_their_numbers, rules_are_their_numbers,
     symbols_are_their_indices, tokens_are_their_numbers,
 };
 pub use cfgkinds::laws::{
-    action_kinds_are_told_apart, values_are_compared_whole, yacc_kinds_are_told_apart,
+    action_kinds_are_distinct, values_are_compared_whole, yacc_kinds_are_distinct,
 };
-pub use cfgmarks::laws::{merge_behaviors_are_bits, merge_behaviors_are_told_apart};
-pub use cfgsyntax::laws::kind_sources_are_told_apart;
-pub use derivation::errors::cost_errors_are_told_apart;
-pub use loops::laws::steps_are_copied;
+pub use cfgmarks::laws::{merge_behaviors_are_bits, merge_behaviors_are_distinct};
+pub use cfgsyntax::laws::kind_sources_are_distinct;
+pub use cycles::laws::steps_are_copied;
+pub use derivation::errors::cost_errors_are_distinct;

@@ -22,6 +22,6 @@ pub mod yacc;
 
 pub use cfgbase::{Location, Span, Spanned, SpansKind, span};
 pub use cfgindex::{PIdx, RIdx, SIdx, Storage, Symbol, TIdx, Vob, idxnewtype, storage};
-pub use cfglines::{FeedError, NewlineCache, Places, newlinecache};
+pub use cfglines::{FeedError, NewlineCache, Positions, newlinecache};
 pub use cfgmarks::markmap;
 pub use cfgrender::{render, render_all};

@@ -1,7 +1,7 @@
 -- The reader's loop over a blank.
 use Rattle.std.proofs.Common.{◌≡◌, ℕ, Bool, List, Some, None, Ok, Err, sym, ◌∙◌, ap}
-use Rattle.reading.specs.Steps.{Fails}
-use Rattle.cfgwords.specs.Blank.{blank, part_of, front_of}
+use Rattle.constructs.specs.Steps.{Fails}
+use Rattle.cfgwords.specs.Blank.{blank, part_of, prefix_of}
 use Rattle.cfgwords.proofs.Blanks.{blank_next, blank_ends, blank_stops}
 use Rattle.cfgast.specs.SyntaxView.{syntax_built}
 use Rattle.cfgreader.specs.declared.reader.Reader.{Reader}
@@ -30,6 +30,6 @@ pub blank_done : (lines : Bool) (start now : Reader) → KeepsBlank lines start 
 blank_done lines start now keeps here =
     (whole lines start now keeps ∙ blank_ends now.len lines now.rest.now here, keeps.len, ap syntax_built keeps.tree)
 
-pub blank_on : (len : ℕ) (lines : Bool) (start now next : List ℕ) → blank len lines now ≡ blank len lines start → part_of lines (front_of now) ≡ Ok (Some next)
+pub blank_on : (len : ℕ) (lines : Bool) (start now next : List ℕ) → blank len lines now ≡ blank len lines start → part_of lines (prefix_of now) ≡ Ok (Some next)
     → blank len lines next ≡ blank len lines start
 blank_on len lines start now next keeps part = sym (blank_next len lines now next part) ∙ keeps

@@ -1,7 +1,7 @@
 -- What the reader built of a file, having begun with no items, and what stopped it.
 use Rattle.std.proofs.Common.{◌≡◌, ℕ, List, [], fold, Option, Result, Ok, Err, IfOk, sym, subst, ◌∙◌, ap}
-use Rattle.reading.specs.Construct.{computes}
-use Rattle.reading.specs.Read.{stop_of}
+use Rattle.constructs.specs.Construct.{computes}
+use Rattle.constructs.specs.Read.{stop_of}
 use Rattle.cfgwords.specs.declared.fault.Fault.{Fault}
 use Rattle.cfgast.specs.Building.{add, adds}
 use Rattle.cfgast.specs.Syntax.{Syntax, syntax_of}

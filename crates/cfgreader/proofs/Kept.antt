@@ -4,14 +4,14 @@
 use Rattle.std.proofs.Common.{ℕ, List, length, All}
 use Rattle.std.specs.Prelude.{IfSome}
 use Rattle.std.specs.Str.{IsUtf8}
-use Rattle.reading.specs.Leaves.{Gives, ValueOf, Leaves}
-use Rattle.reading.specs.Construct.{Construct}
-use Rattle.reading.proofs.Keeps.{Keeps}
+use Rattle.constructs.specs.Leaves.{Gives, ValueOf, Leaves}
+use Rattle.constructs.specs.Construct.{Construct}
+use Rattle.constructs.proofs.Keeps.{Keeps}
 use Rattle.cfgwords.specs.declared.fault.Fault.{Fault}
 use Rattle.cfgwords.specs.FileWords.{Word, IsName, IsInteger, word_at, integer_at, word_of}
-use Rattle.cfgwords.specs.Places.{IsPiece, IsWithin}
+use Rattle.cfgwords.specs.TextSpans.{IsPiece, IsWithin}
 use Rattle.cfgwords.proofs.NameStarts.{begins_as_name}
-use Rattle.cfgwords.proofs.WordPlaces.{IsWordAt, StandsBehind, name_at, integer_is_at}
+use Rattle.cfgwords.proofs.WordOffsets.{IsWordAt, ComesAfter, name_at, integer_is_at}
 use Rattle.cfgast.specs.Items.{Item, TokenDeclared, StartDeclared, ActionTypeDeclared, PrintedFormDeclared, ExpectDeclared, ExpectReduceReduceDeclared, ExpectedUnused, AvoidInsertDeclared, ImplicitTokenDeclared, PrecedenceDeclared, RuleBegun, RuleNamed, TokenQuoted, PrecedenceUsed, Alternative}
 use Rattle.cfgast.specs.Syntax.{symbol_word}
 
@@ -43,18 +43,18 @@ module _ (whole : List ℕ) where
   abbrev pub IsAt : Fault → Type 0
   IsAt fault = IsPiece whole fault.span
 
-  abbrev pub KeepsPlaces : {l : Leaves} {G : Gives} → Construct Item Fault l G → List ℕ → (ValueOf G → Type 0) → Type 0
-  KeepsPlaces = Keeps (StandsBehind whole) (IsItemAt whole) IsAt
+  abbrev pub KeepsOffsets : {l : Leaves} {G : Gives} → Construct Item Fault l G → List ℕ → (ValueOf G → Type 0) → Type 0
+  KeepsOffsets = Keeps (ComesAfter whole) (IsItemAt whole) IsAt
 
 module _ (whole : List ℕ) (utf8 : IsUtf8 whole) where
-  pub name_goes : (from text word rest : List ℕ) → StandsBehind whole from text → IsName text word rest → StandsBehind whole from rest
+  pub name_goes : (from text word rest : List ℕ) → ComesAfter whole from text → IsName text word rest → ComesAfter whole from rest
   name_goes from text word rest t w = (name_at whole utf8 from text word rest t w).0
 
-  pub name_is : (from text word rest : List ℕ) → StandsBehind whole from text → IsName text word rest → IsWordAt whole (word_at (length whole) text word rest)
+  pub name_is : (from text word rest : List ℕ) → ComesAfter whole from text → IsName text word rest → IsWordAt whole (word_at (length whole) text word rest)
   name_is from text word rest t w = (name_at whole utf8 from text word rest t w).1
 
-  pub integer_goes : (from text : List ℕ) (number : ℕ) (rest : List ℕ) → StandsBehind whole from text → IsInteger text number rest → StandsBehind whole from rest
+  pub integer_goes : (from text : List ℕ) (number : ℕ) (rest : List ℕ) → ComesAfter whole from text → IsInteger text number rest → ComesAfter whole from rest
   integer_goes from text number rest t w = (integer_is_at whole utf8 from text number rest t w).0
 
-  pub integer_is : (from text : List ℕ) (number : ℕ) (rest : List ℕ) → StandsBehind whole from text → IsInteger text number rest → IsPiece whole (integer_at (length whole) text number rest).1
+  pub integer_is : (from text : List ℕ) (number : ℕ) (rest : List ℕ) → ComesAfter whole from text → IsInteger text number rest → IsPiece whole (integer_at (length whole) text number rest).1
   integer_is from text number rest t w = (integer_is_at whole utf8 from text number rest t w).1

@@ -5,4 +5,4 @@ pub mod Kept
 pub mod KeptDeclarations
 pub mod KeptRules
 mod Parts
-pub mod SyntaxPlaces
+pub mod SyntaxOffsets

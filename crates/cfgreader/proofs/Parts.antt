@@ -6,17 +6,17 @@ use Rattle.std.proofs.lemmas.List.Elements.{filter_map-append}
 use Rattle.lemmas.specs.Lists.{pushed}
 use Rattle.lemmas.proofs.Elements.{slice_get_push}
 use Rattle.lemmas.proofs.Pushed.{filter_map-pushed}
-use Rattle.reading.specs.Steps.{Fails}
-use Rattle.reading.proofs.Agree.{leaves}
-use Rattle.reading.proofs.Steps.{Gathers, gathers_start, gathers_on, turn_shorter, many_done, many_stops, returns_then, stops_then}
-use Rattle.cfgwords.specs.Text.{place}
+use Rattle.constructs.specs.Steps.{Fails}
+use Rattle.constructs.proofs.Agree.{leaves}
+use Rattle.constructs.proofs.Steps.{Gathers, gathers_start, gathers_on, turn_shorter, many_done, many_stops, returns_then, stops_then}
+use Rattle.cfgwords.specs.Text.{offset_of}
 use Rattle.cfgast.specs.Syntax.{last_of}
 use Rattle.cfgreader.specs.declared.bodies.Part.{Part as CodePart}
 use Rattle.cfgreader.specs.declared.bodies.Parts.{Parts as CodeParts}
 use Rattle.cfgreader.specs.declared.reader.Reader.{Reader}
 use Rattle.cfgreader.specs.declared.reader.ReadFault.{ReadFault}
 use Rattle.cfgreader.specs.Here.{Turn}
-use Rattle.cfgreader.specs.Rules.{Part, Parts, SymbolPart, PrecedencePart, EmptyPart, part_end, precedence_in, parts_row, symbol_in, with_parts}
+use Rattle.cfgreader.specs.Rules.{Part, Parts, SymbolPart, PrecedencePart, EmptyPart, part_end, precedence_in, parts_sequence, symbol_in, with_parts}
 use Rattle.cfgreader.specs.Inner.Builds.{Builds, fault_of, file_reader, part_view, parts_view}
 
 -- the last of a list after a push
@@ -59,7 +59,7 @@ pub record InParts (c : ℕ → Turn Part) (before : Parts) (start now : Reader)
   pub gathers : Gathers file_reader c start now
   pub values : parts_view parts ≡ with_parts before gathers.values
   pub shorter : length now.rest.now ≤ length start.rest.now
-  pub ends : (from : ℕ) → from ≤ place start.len start.rest.now → IfSome before.end (λ end. from ≤ end) → IfSome parts.end (λ end. from ≤ end)
+  pub ends : (from : ℕ) → from ≤ offset_of start.len start.rest.now → IfSome before.end (λ end. from ≤ end) → IfSome parts.end (λ end. from ≤ end)
 
 pub parts_start : (c : ℕ → Turn Part) (before : Parts) (start : Reader) (parts : CodeParts) → parts_view parts ≡ before → InParts c before start start parts
 unfolding gathers_start
@@ -72,33 +72,33 @@ parts_start c before start parts same = record {
 
 module _ (c : ℕ → Turn Part) (before : Parts) (start now : Reader) (parts : CodeParts) (so_far : InParts c before start now parts) (next : Reader) where
   pub parts_on : (more : CodeParts) (turn : Option CodePart) (x : CodePart) → Builds (option_map part_view) now next (Ok turn) (c now.len) → turn ≡ Some x
-      → IfSome turn (λ x. place now.len now.rest.now ≤ part_end (part_view x)) → parts_view more ≡ with_parts (parts_view parts) (part_view x ∷ []) → InParts c before start next more
+      → IfSome turn (λ x. offset_of now.len now.rest.now ≤ part_end (part_view x)) → parts_view more ≡ with_parts (parts_view parts) (part_view x ∷ []) → InParts c before start next more
   unfolding gathers_on
   parts_on more turn x builds is after added =
       let gave = ap (option_map part_view) is in
       let less = turn_shorter file_reader c (option_map part_view) now next turn (part_view x) builds gave in
-      let behind : place now.len now.rest.now ≤ part_end (part_view x) = subst (λ o. IfSome o (λ x. place now.len now.rest.now ≤ part_end (part_view x))) is after in
-      let further : place start.len start.rest.now ≤ place now.len now.rest.now = omega (arith, so_far.shorter, so_far.gathers.len) in
+      let beyond : offset_of now.len now.rest.now ≤ part_end (part_view x) = subst (λ o. IfSome o (λ x. offset_of now.len now.rest.now ≤ part_end (part_view x))) is after in
+      let further : offset_of start.len start.rest.now ≤ offset_of now.len now.rest.now = omega (arith, so_far.shorter, so_far.gathers.len) in
       let ended : more.end ≡ Some (part_end (part_view x)) = ap (λ (p : Parts). p.end) added in
       record {
         gathers = gathers_on so_far.gathers next (option_map part_view) turn builds (part_view x) gave;
         values = added ∙ ap (λ (p : Parts). with_parts p (part_view x ∷ [])) so_far.values ∙ sym (with_push before so_far.gathers.values (part_view x));
         shorter = omega (arith, so_far.shorter, less);
-        ends = λ from here before_ends. subst (λ o. IfSome o (λ end. from ≤ end)) (sym ended) (omega (arith, here, further, behind));
+        ends = λ from here before_ends. subst (λ o. IfSome o (λ end. from ≤ end)) (sym ended) (omega (arith, here, further, beyond));
       }
 
   pub parts_smaller : (turn : Option CodePart) (x : CodePart) → Builds (option_map part_view) now next (Ok turn) (c now.len) → turn ≡ Some x → length next.rest.now < length now.rest.now
   parts_smaller turn x builds is = turn_shorter file_reader c (option_map part_view) now next turn (part_view x) builds (ap (option_map part_view) is)
 
-  pub parts_done : (turn : Option CodePart) → Builds (option_map part_view) now next (Ok turn) (c now.len) → turn ≡ None → Builds parts_view start next (Ok parts) (parts_row (c start.len) before)
-  unfolding parts_row
+  pub parts_done : (turn : Option CodePart) → Builds (option_map part_view) now next (Ok turn) (c now.len) → turn ≡ None → Builds parts_view start next (Ok parts) (parts_sequence (c start.len) before)
+  unfolding parts_sequence
   parts_done turn builds is =
-      let row = many_done so_far.gathers next (option_map part_view) turn builds (λ (x : Unit {0}). so_far.gathers.values) tt refl (ap (option_map part_view) is) in
-      let told = returns_then file_reader (with_parts before) start next _ (λ (x : Unit {0}). so_far.gathers.values) (Ok tt) row in
-      (told.0 ∙ ap (λ p. Ok (p, next.rest.now)) (sym so_far.values), told.1, told.2)
+      let sequence = many_done so_far.gathers next (option_map part_view) turn builds (λ (x : Unit {0}). so_far.gathers.values) tt refl (ap (option_map part_view) is) in
+      let reported = returns_then file_reader (with_parts before) start next _ (λ (x : Unit {0}). so_far.gathers.values) (Ok tt) sequence in
+      (reported.0 ∙ ap (λ p. Ok (p, next.rest.now)) (sym so_far.values), reported.1, reported.2)
 
-  pub parts_fail : (e : ReadFault) → Fails file_reader now next e (c now.len) → Fails file_reader start next e (parts_row (c start.len) before)
-  unfolding parts_row
+  pub parts_fail : (e : ReadFault) → Fails file_reader now next e (c now.len) → Fails file_reader start next e (parts_sequence (c start.len) before)
+  unfolding parts_sequence
   parts_fail e fails = stops_then file_reader (with_parts before) start next _ (fault_of e) (many_stops so_far.gathers next (fault_of e) fails)
 
   pub parts_shorter : (turn : Option CodePart) → Builds (option_map part_view) now next (Ok turn) (c now.len) → length next.rest.now ≤ length start.rest.now

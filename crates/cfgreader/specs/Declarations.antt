@@ -1,12 +1,12 @@
 -- Declarations, construct by construct: what precedes the first `%%`. `do` is sequence.
 use Rattle.std.specs.Prelude.{ℕ, Bool, true, false, List, [], ◌∷◌, ◌++◌, ◌==◌, not, codes}
-use Rattle.reading.specs.Pieces.{starts}
-use Rattle.reading.specs.Leaves.{Leaves, One}
-use Rattle.reading.specs.Construct.{Construct, ◌>>=◌, ◌>>◌, choice, here, goes_on, ends, repeat, while_test, word_or, gives, emits, fails, expect}
+use Rattle.constructs.specs.Pieces.{starts}
+use Rattle.constructs.specs.Leaves.{Leaves, One}
+use Rattle.constructs.specs.Construct.{Construct, ◌>>=◌, ◌>>◌, choice, here, goes_on, ends, repeat, while_test, word_or, gives, emits, fails, expect}
 use Rattle.cfgbase.specs.declared.span.Span.{Span}
 use Rattle.cfgwords.specs.declared.fault.Fault.{Fault}
 use Rattle.cfgwords.specs.declared.fault.FaultKind.TheVariants.{PrematureEnd, ReachedEOL, UnknownDeclaration, UnknownSymbol}
-use Rattle.cfgwords.specs.Text.{place, fault_at}
+use Rattle.cfgwords.specs.Text.{offset_of, fault_at}
 use Rattle.cfgwords.specs.FileWords.{Word, word_at, word_of}
 use Rattle.cfgast.specs.declared.precedence.AssocKind.{AssocKind}
 use Rattle.cfgast.specs.declared.precedence.AssocKind.TheVariants.{Left, Right, Nonassoc}
@@ -14,7 +14,7 @@ use Rattle.cfgast.specs.Items.{Item, TokenDeclared, StartDeclared, ActionTypeDec
 use Rattle.cfgkinds.specs.declared.kind.YaccKind.{YaccKind}
 use Rattle.cfgkinds.specs.declared.kind.YaccKind.TheVariants.{Original, Grmtools, Eco}
 use Rattle.cfgreader.specs.FileWordKinds.{name_kind}
-use Rattle.cfgreader.specs.Keywords.{Keyword, behind, one_of}
+use Rattle.cfgreader.specs.Keywords.{Keyword, after, one_of}
 use Rattle.cfgreader.specs.Here.{Strict, Lax, Turn, is_open, blank_here, line_blank, name_here, token_or, token_here, integer_here, line_rest_here, epp_string_here, colon_text_here}
 
 -- a list of `%token` or `%expect-unused` continues until `%` or the end
@@ -23,7 +23,7 @@ is_listed text = starts (λ b. not (b == 37)) text
 
 -- a keyword by its name after `%`, and what follows the keyword
 abbrev pub declares : {l : Leaves} → List ℕ → Construct Item Fault l (One (Unit {0})) → Keyword
-declares name c = record { first = 37; others = name; follows = behind c }
+declares name c = record { first = 37; others = name; follows = after c }
 
 -- len is the whole text's length
 module _ (len : ℕ) where
@@ -51,20 +51,20 @@ module _ (len : ℕ) where
     blank_here len false
     here (λ text. do
       line ← line_rest_here len
-      here (λ rest. emits (ActionTypeDeclared (line, record { start = place len text; end = place len rest }))))
+      here (λ rest. emits (ActionTypeDeclared (line, record { start = offset_of len text; end = offset_of len rest }))))
     blank_here len true
 
   -- the token of an `%epp`, whose span includes its quotes
   unfoldable pub printed_token : Strict Word
   printed_token = here (λ text. do
     token ← token_here len
-    gives (record { name = token.name; span = record { start = place len text; end = token.end } }))
+    gives (record { name = token.name; span = record { start = offset_of len text; end = token.end } }))
 
   -- its printed form, with the string's span
   unfoldable pub printed_form : Lax (List ℕ × Span)
   printed_form = here (λ text. do
     form ← epp_string_here len
-    here (λ rest. gives (form, record { start = place len text; end = place len rest })))
+    here (λ rest. gives (form, record { start = offset_of len text; end = offset_of len rest })))
 
   unfoldable pub epp_declaration : Strict (Unit {0})
   epp_declaration = do

@@ -1,8 +1,8 @@
 -- The kinds of words and of other pieces in a grammar file. Each includes the proofs that its program finds exactly it, so this file refers
 -- to proofs.
 use Rattle.std.specs.Prelude.{ℕ, Bool, List}
-use Rattle.reading.specs.WordKind.{WordKind}
-use Rattle.reading.specs.Silent.{PieceKind}
+use Rattle.constructs.specs.WordKind.{WordKind}
+use Rattle.constructs.specs.Silent.{PieceKind}
 use Rattle.cfgwords.specs.declared.fault.Fault.{Fault}
 use Rattle.cfgwords.specs.Actions.{IsAction, action_of}
 use Rattle.cfgwords.specs.Blank.{Blank, blank}

@@ -1,9 +1,9 @@
 -- Words and blanks of a grammar file, each where it is required. `Says` of a construct is its meaning.
 use Rattle.std.specs.Prelude.{ℕ, Bool, true, false, List, not}
 use Rattle.std.specs.Option.{option_map_or}
-use Rattle.reading.specs.Pieces.{starts, strip}
-use Rattle.reading.specs.Leaves.{Gives, One, OneOrEnd, Leaves, Less, NoMore}
-use Rattle.reading.specs.Construct.{Construct, ◌>>◌, here, word_or, silently, gives, fails}
+use Rattle.constructs.specs.Pieces.{starts, strip}
+use Rattle.constructs.specs.Leaves.{Gives, One, OneOrEnd, Leaves, Less, NoMore}
+use Rattle.constructs.specs.Construct.{Construct, ◌>>◌, here, word_or, silently, gives, fails}
 use Rattle.cfgbase.specs.declared.span.Span.{Span}
 use Rattle.cfgwords.specs.declared.fault.Fault.{Fault}
 use Rattle.cfgwords.specs.declared.fault.FaultKind.TheVariants.{IllegalInteger, IllegalName, IllegalString}
@@ -30,8 +30,8 @@ abbrev pub is_open : List ℕ → Bool
 is_open text = starts (λ b. true) text
 
 -- the text begins with the word
-abbrev pub stands : List ℕ → List ℕ → Bool
-stands word text = option_map_or (λ _. true) (strip word text) false
+abbrev pub holds : List ℕ → List ℕ → Bool
+holds word text = option_map_or (λ _. true) (strip word text) false
 
 -- len is the whole text's length
 module _ (len : ℕ) where

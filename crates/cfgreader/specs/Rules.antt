@@ -2,13 +2,13 @@
 use Rattle.std.specs.Prelude.{ℕ, Bool, true, false, ◌==◌, ◌||◌, ◌&&◌, not, Option, Some, None, List, [], ◌∷◌, ◌++◌, option_map, unwrap_or, codes}
 use Rattle.std.specs.List.{filter_map}
 use Rattle.std.specs.Option.{option_or}
-use Rattle.reading.specs.Pieces.{starts}
-use Rattle.reading.specs.Construct.{◌>>=◌, ◌>>◌, then, case_of, choice, here, again, goes_on, ends, many, repeat, word_or, gives, emits, fails, expect}
+use Rattle.constructs.specs.Pieces.{starts}
+use Rattle.constructs.specs.Construct.{◌>>=◌, ◌>>◌, then, case_of, choice, here, again, goes_on, ends, many, repeat, word_or, gives, emits, fails, expect}
 use Rattle.cfgbase.specs.declared.span.Span.{Span}
 use Rattle.cfgwords.specs.declared.fault.Fault.{Fault}
 use Rattle.cfgwords.specs.declared.fault.FaultKind.{FaultKind}
 use Rattle.cfgwords.specs.declared.fault.FaultKind.TheVariants.{IllegalString, IncompleteAction, IncompleteRule, MissingColon, MissingRightArrow, NonEmptyProduction, ProductionNotTerminated}
-use Rattle.cfgwords.specs.Text.{place, fault_at}
+use Rattle.cfgwords.specs.Text.{offset_of, fault_at}
 use Rattle.cfgwords.specs.FileWords.{Token, word_of}
 use Rattle.cfgwords.specs.Actions.{action_at}
 use Rattle.cfgast.specs.Syntax.{last_of}
@@ -16,7 +16,7 @@ use Rattle.cfgast.specs.Items.{Item, RuleHead, Body, RuleBegun, RuleNamed, Token
 use Rattle.cfgkinds.specs.declared.kind.YaccKind.{YaccKind}
 use Rattle.cfgkinds.specs.declared.kind.YaccKind.TheVariants.{Grmtools}
 use Rattle.cfgreader.specs.FileWordKinds.{action_kind}
-use Rattle.cfgreader.specs.Here.{Strict, Lax, Turn, is_open, stands, blank_here, name_here, token_or, token_here, colon_text_here}
+use Rattle.cfgreader.specs.Here.{Strict, Lax, Turn, is_open, holds, blank_here, name_here, token_or, token_here, colon_text_here}
 
 -- a part of a production: a symbol, the token after a `%prec`, or an `%empty`, with the offset where it ends
 pub data Part : Type 0 where
@@ -56,14 +56,14 @@ with_parts before more = record {
 
 -- where a production without an action ends: after its last part, or, without parts, at the given offset
 abbrev pub end_of : Parts → ℕ → ℕ
-end_of parts place = unwrap_or parts.end place
+end_of parts offset_of = unwrap_or parts.end offset_of
 
 abbrev pub body_of : Parts → Option (List ℕ × Span) → Span → Body
 body_of parts action span = record { symbols = parts.symbols; precedence = parts.precedence; action = action; span = span }
 
 -- what may follow an `%empty`: `|`, `;`, an action or a `%prec`
 abbrev pub may_follow_empty : List ℕ → Bool
-may_follow_empty text = starts (λ b. b == 124 || b == 59 || b == 123) text || stands (codes "%prec") text
+may_follow_empty text = starts (λ b. b == 124 || b == 59 || b == 123) text || holds (codes "%prec") text
 
 -- the fault if there is neither a part nor an action: at an opening brace, that no brace balances it
 abbrev pub brace_fault : Bool → FaultKind
@@ -76,11 +76,11 @@ is_grmtools _ = false
 
 -- rules continue until the second `%%` or the end
 abbrev pub is_rule_next : List ℕ → Bool
-is_rule_next text = is_open text && not (stands (codes "%%") text)
+is_rule_next text = is_open text && not (holds (codes "%%") text)
 
 -- a sequence of parts, after those that were read before
-unfoldable pub parts_row : Turn Part → Parts → Lax Parts
-parts_row c before = do
+unfoldable pub parts_sequence : Turn Part → Parts → Lax Parts
+parts_sequence c before = do
   parts ← many c
   gives (with_parts before parts)
 
@@ -101,9 +101,9 @@ module _ (len : ℕ) where
 
   -- what follows the `%empty` that begins at text, if no symbol precedes it,
   unfoldable pub empty : List ℕ → Lax Part
-  empty text = here (λ behind. do
+  empty text = here (λ after. do
     blank_here len true
-    choice may_follow_empty (gives (EmptyPart (place len behind))) (fails (λ _. fault_at len NonEmptyProduction text)))
+    choice may_follow_empty (gives (EmptyPart (offset_of len after))) (fails (λ _. fault_at len NonEmptyProduction text)))
 
   -- and if one does
   unfoldable pub misplaced_empty : List ℕ → Strict Part
@@ -112,8 +112,8 @@ module _ (len : ℕ) where
     fails (λ _. fault_at len NonEmptyProduction text)
 
   -- a part before the first symbol
-  unfoldable pub front_part : Turn Part
-  front_part = here (λ text.
+  unfoldable pub prefix_part : Turn Part
+  prefix_part = here (λ text.
       case_of (codes "%prec") (then precedence again)
       (case_of (codes "%empty") (then (empty text) again)
       ends))
@@ -134,11 +134,11 @@ module _ (len : ℕ) where
       symbol_part))
 
   -- the parts before the first symbol, and those from it on
-  abbrev pub front_parts : Lax Parts
-  front_parts = parts_row front_part no_parts
+  abbrev pub prefix_parts : Lax Parts
+  prefix_parts = parts_sequence prefix_part no_parts
 
   abbrev pub more_parts : Parts → Lax Parts
-  more_parts front = parts_row part front
+  more_parts prefix = parts_sequence part prefix
 
   -- the fault if there is no `|` or `;`: after an action, and elsewhere in a body
   abbrev pub end_fault : Bool → List ℕ → Fault
@@ -163,18 +163,18 @@ module _ (len : ℕ) where
 
   -- the end of a production that begins at text: its action, if it has one, and what ends it
   unfoldable pub production_end : RuleHead → ℕ → Parts → Turn (Unit {0})
-  production_end head start parts = here (λ behind.
+  production_end head start parts = here (λ after.
       word_or action_kind (action_at len)
       (λ action. do
         blank_here len true
-        finish true (Alternative head (body_of parts (Some action) (record { start = start; end = place len behind }))))
-      (finish false (Alternative head (body_of parts None (record { start = start; end = end_of parts (place len behind) })))))
+        finish true (Alternative head (body_of parts (Some action) (record { start = start; end = offset_of len after }))))
+      (finish false (Alternative head (body_of parts None (record { start = start; end = end_of parts (offset_of len after) })))))
 
   unfoldable pub production : RuleHead → Turn (Unit {0})
   production head = here (λ text. do
-    front ← front_parts
-    parts ← more_parts front
-    production_end head (place len text) parts)
+    prefix ← prefix_parts
+    parts ← more_parts prefix
+    production_end head (offset_of len text) parts)
 
   -- what is between a rule's name and its colon in a Grmtools file
   unfoldable pub rule_type : Strict (Option (List ℕ))

@@ -1,10 +1,10 @@
 //! The parts of a production: its symbols, `%prec` and `%empty`.
 
 ghost use Rattle.std.specs.Prelude.{◌≡◌, ◌≤◌, ℕ, [], ◌∷◌, IfOk, IfSome, OnOk, length, option_map};
-ghost use Rattle.reading.specs.Construct.{again, then};
-ghost use Rattle.cfgwords.specs.Text.{place};
+ghost use Rattle.constructs.specs.Construct.{again, then};
+ghost use Rattle.cfgwords.specs.Text.{offset_of};
 ghost use Rattle.cfgreader.specs.Inner.Builds.{part_view, parts_view};
-ghost use Rattle.cfgreader.specs.Rules.{empty, front_part, front_parts, may_follow_empty, more_parts, part, part_end};
+ghost use Rattle.cfgreader.specs.Rules.{empty, prefix_part, prefix_parts, may_follow_empty, more_parts, part, part_end};
 ghost use Rattle.cfgreader.specs.Rules.{precedence, symbol_part, with_parts};
 
 use super::reader::{ReadFault, Reader};
@@ -20,7 +20,7 @@ pub(super) enum Part<'a> {
     /// The token after a `%prec`.
     Precedence(Token<'a>),
     /// An `%empty`, and the offset in bytes where it ends.
-    Empty(usize),
+    Nullable(usize),
 }
 
 /// What was read of a production.
@@ -52,7 +52,7 @@ impl<'a> Parts<'a> {
                 self.end = Some(token.end);
                 self.precedence = Some(token.name);
             }
-            Part::Empty(end) => self.end = Some(end),
+            Part::Nullable(end) => self.end = Some(end),
         }
         Ok(())
     }
@@ -66,7 +66,7 @@ impl<'a> Reader<'a> {
     fn precedence(&mut self) -> Result<Option<Part<'a>>, ReadFault>
         ensures read { Builds (option_map part_view) self.old self.new result (then (precedence self.old.len) again) }
         ensures after { IfOk result (λ part. IfSome part
-            (λ part. place self.old.len self.old.rest.now ≤ part_end (part_view part))) }
+            (λ part. offset_of self.old.len self.old.rest.now ≤ part_end (part_view part))) }
     {
         self.blank(true)?;
         let token = self.token()?;
@@ -79,7 +79,7 @@ impl<'a> Reader<'a> {
     fn may_follow_empty(&self) -> bool
         ensures { result ≡ may_follow_empty self.now.rest.now }
     {
-        matches!(self.rest.as_bytes(), [b'|' | b';' | b'{', ..]) || self.stands("%prec")
+        matches!(self.rest.as_bytes(), [b'|' | b';' | b'{', ..]) || self.holds("%prec")
     }
 
     /// Passes the blank after the `%empty` that begins at `text`.
@@ -88,23 +88,23 @@ impl<'a> Reader<'a> {
         ensures read { Builds (option_map part_view) self.old self.new result
             (then (empty self.old.len text.now) again) }
         ensures after { IfOk result (λ part. IfSome part
-            (λ part. place self.old.len self.old.rest.now ≤ part_end (part_view part))) }
+            (λ part. offset_of self.old.len self.old.rest.now ≤ part_end (part_view part))) }
     {
-        let end = self.place();
+        let end = self.offset();
         self.blank(true)?;
         if self.may_follow_empty() {
-            Ok(Some(Part::Empty(end)))
+            Ok(Some(Part::Nullable(end)))
         } else {
             Err(self.fault_at(FaultKind::NonEmptyProduction, text))
         }
     }
 
     /// Passes a part of a production before its first symbol, if there is one here.
-    #[tactic(auto, unfolding(crate::specs::Rules::front_part))]
-    fn front_part(&mut self) -> Result<Option<Part<'a>>, ReadFault>
-        ensures read { Builds (option_map part_view) self.old self.new result (front_part self.old.len) }
+    #[tactic(auto, unfolding(crate::specs::Rules::prefix_part))]
+    fn prefix_part(&mut self) -> Result<Option<Part<'a>>, ReadFault>
+        ensures read { Builds (option_map part_view) self.old self.new result (prefix_part self.old.len) }
         ensures after { IfOk result (λ part. IfSome part
-            (λ part. place self.old.len self.old.rest.now ≤ part_end (part_view part))) }
+            (λ part. offset_of self.old.len self.old.rest.now ≤ part_end (part_view part))) }
     {
         let text = self.rest;
         if self.accept("%prec") {
@@ -121,7 +121,7 @@ impl<'a> Reader<'a> {
     fn symbol(&mut self) -> Result<Option<Part<'a>>, ReadFault>
         ensures read { Builds (option_map part_view) self.old self.new result (symbol_part self.old.len) }
         ensures after { IfOk result (λ part. IfSome part
-            (λ part. place self.old.len self.old.rest.now ≤ part_end (part_view part))) }
+            (λ part. offset_of self.old.len self.old.rest.now ≤ part_end (part_view part))) }
     {
         match self.next_token() {
             Some(token) => {
@@ -140,7 +140,7 @@ impl<'a> Reader<'a> {
     fn later_part(&mut self) -> Result<Option<Part<'a>>, ReadFault>
         ensures read { Builds (option_map part_view) self.old self.new result (part self.old.len) }
         ensures after { IfOk result (λ part. IfSome part
-            (λ part. place self.old.len self.old.rest.now ≤ part_end (part_view part))) }
+            (λ part. offset_of self.old.len self.old.rest.now ≤ part_end (part_view part))) }
     {
         let text = self.rest;
         if self.accept("%prec") {
@@ -154,9 +154,9 @@ impl<'a> Reader<'a> {
     }
 
     /// Passes the parts of a production before its first symbol.
-    pub(super) fn front_parts(&mut self) -> Result<Parts<'a>, ReadFault>
-        ensures read { Builds parts_view self.old self.new result (front_parts self.old.len) }
-        ensures ends { IfOk result (λ parts. IfSome parts.end (λ end. place self.old.len self.old.rest.now ≤ end)) }
+    pub(super) fn prefix_parts(&mut self) -> Result<Parts<'a>, ReadFault>
+        ensures read { Builds parts_view self.old self.new result (prefix_parts self.old.len) }
+        ensures ends { IfOk result (λ parts. IfSome parts.end (λ end. offset_of self.old.len self.old.rest.now ≤ end)) }
         ensures shorter { OnOk result (length self.new.rest.now ≤ length self.old.rest.now) }
     {
         let mut parts = Parts {
@@ -164,21 +164,21 @@ impl<'a> Reader<'a> {
             precedence: None,
             end: None,
         };
-        while let Some(part) = self.front_part()? {
+        while let Some(part) = self.prefix_part()? {
             parts.add(part)?;
         }
         Ok(parts)
     }
 
     /// Passes the parts of a production from its first symbol on, and adds them to those before.
-    pub(super) fn more_parts(&mut self, front: Parts<'a>) -> Result<Parts<'a>, ReadFault>
-        ensures read { Builds parts_view self.old self.new result (more_parts self.old.len (parts_view front.entry)) }
-        ensures ends { (start : ℕ) → start ≤ place self.old.len self.old.rest.now
-            → IfSome front.entry.end (λ end. start ≤ end)
+    pub(super) fn more_parts(&mut self, prefix: Parts<'a>) -> Result<Parts<'a>, ReadFault>
+        ensures read { Builds parts_view self.old self.new result (more_parts self.old.len (parts_view prefix.entry)) }
+        ensures ends { (start : ℕ) → start ≤ offset_of self.old.len self.old.rest.now
+            → IfSome prefix.entry.end (λ end. start ≤ end)
             → IfOk result (λ parts. IfSome parts.end (λ end. start ≤ end)) }
         ensures shorter { OnOk result (length self.new.rest.now ≤ length self.old.rest.now) }
     {
-        let mut parts = front;
+        let mut parts = prefix;
         while let Some(part) = self.later_part()? {
             parts.add(part)?;
         }

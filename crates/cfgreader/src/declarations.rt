@@ -2,7 +2,7 @@
 
 ghost use Rattle.std.specs.Prelude.{◌≡◌, codes};
 ghost use Rattle.std.specs.String.{string_bytes};
-ghost use Rattle.reading.specs.Construct.{expect, goes_on, repeat};
+ghost use Rattle.constructs.specs.Construct.{expect, goes_on, repeat};
 ghost use Rattle.cfgast.specs.SyntaxView.{word_view};
 ghost use Rattle.cfgast.specs.Items.{ExpectDeclared, ExpectReduceReduceDeclared};
 ghost use Rattle.cfgreader.specs.Declarations.{listed_token, start_declaration, action_type_declaration};
@@ -48,9 +48,9 @@ impl<'a> Reader<'a> {
         ensures { Builds (λ x. x) self.old self.new result (action_type_declaration self.old.len) }
     {
         self.blank(false)?;
-        let start = self.place();
+        let start = self.offset();
         let line = self.line_rest();
-        let span = Span::new(start, self.place());
+        let span = Span::new(start, self.offset());
         self.tree.declare_action_type(self.alloc, line, span)?;
         self.blank(true)
     }
@@ -60,7 +60,7 @@ impl<'a> Reader<'a> {
     fn printed_token(&mut self) -> Result<Word<'a>, ReadFault>
         ensures { Builds word_view self.old self.new result (printed_token self.old.len) }
     {
-        let start = self.place();
+        let start = self.offset();
         let token = self.token()?;
         Ok(Word {
             name: token.name,
@@ -73,9 +73,9 @@ impl<'a> Reader<'a> {
     fn printed_form(&mut self) -> Result<(String, Span), ReadFault>
         ensures { Builds (λ form. (string_bytes form.0, form.1)) self.old self.new result (printed_form self.old.len) }
     {
-        let start = self.place();
+        let start = self.offset();
         let form = self.epp_string()?;
-        Ok((form, Span::new(start, self.place())))
+        Ok((form, Span::new(start, self.offset())))
     }
 
     /// Passes what follows `%epp`.

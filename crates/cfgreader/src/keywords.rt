@@ -1,7 +1,7 @@
 //! Keywords of declarations.
 
 ghost use Rattle.std.specs.Prelude.{map};
-ghost use Rattle.cfgreader.specs.Inner.Keywords.{IsKeywordHere, IsRowHere, shown_row};
+ghost use Rattle.cfgreader.specs.Inner.Keywords.{IsKeywordHere, IsSequenceHere, shown_sequence};
 
 use super::lists::{Listed, Marking};
 use super::reader::Reader;
@@ -53,7 +53,7 @@ const ECO: [(&str, Declaration); 1] = [(
 impl<'a> Reader<'a> {
     /// Passes the first of the table's words that the text begins with, and returns the table's value for it.
     fn first_of(&mut self, table: &[(&str, Declaration)]) -> Option<Declaration>
-        ensures { IsRowHere (map shown_row table.now) self.old self.new result }
+        ensures { IsSequenceHere (map shown_sequence table.now) self.old self.new result }
     {
         for (word, declaration) in table {
             if self.accept(word) {

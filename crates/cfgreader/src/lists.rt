@@ -1,7 +1,7 @@
 //! Lists: those that continue until `%`, and lists of tokens that end with their line.
 
 ghost use Rattle.std.specs.Prelude.{◌≡◌, OnOk};
-ghost use Rattle.reading.specs.Construct.{goes_on, repeat, while_test};
+ghost use Rattle.constructs.specs.Construct.{goes_on, repeat, while_test};
 ghost use Rattle.cfgast.specs.Building.{add};
 ghost use Rattle.cfgast.specs.SyntaxView.{syntax_built, word_view};
 ghost use Rattle.cfgreader.specs.Declarations.{is_listed, list_declaration, line_token, precedence_declaration};

@@ -1,8 +1,8 @@
 //! Reading a file, from the end of a text's section.
 
 ghost use Rattle.std.specs.Prelude.{◌≡◌, ◌≤◌, IfOk, length};
-ghost use Rattle.reading.specs.Construct.{computes};
-ghost use Rattle.reading.specs.Read.{stop_of};
+ghost use Rattle.constructs.specs.Construct.{computes};
+ghost use Rattle.constructs.specs.Read.{stop_of};
 ghost use Rattle.cfgreader.specs.Inner.Builds.{Grows, IsFile};
 ghost use Rattle.cfgreader.specs.FileGrammar.{file};
 

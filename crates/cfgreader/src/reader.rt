@@ -2,22 +2,22 @@
 
 ghost use Rattle.std.specs.Prelude.{◌≡◌, ◌≤◌, length, [], Some, None, Ok, MatchBool, IfOk, IfSome};
 ghost use Rattle.std.specs.String.{string_bytes};
-ghost use Rattle.reading.specs.Construct.{expect};
-ghost use Rattle.reading.specs.Pieces.{strip};
-ghost use Rattle.cfgwords.specs.Text.{place, fault_at};
-ghost use Rattle.cfgreader.specs.Here.{is_open, stands, blank_here, name_here, token_here, integer_here};
+ghost use Rattle.constructs.specs.Construct.{expect};
+ghost use Rattle.constructs.specs.Pieces.{strip};
+ghost use Rattle.cfgwords.specs.Text.{offset_of, fault_at};
+ghost use Rattle.cfgreader.specs.Here.{is_open, holds, blank_here, name_here, token_here, integer_here};
 ghost use Rattle.cfgreader.specs.Here.{line_rest_here, epp_string_here, colon_text_here};
 
 use cfgast::{AstBuilder, Syntax};
 use cfgbase::Span;
-use cfgwords::blank::Front;
+use cfgwords::blank::Prefix;
 use cfgwords::bytes::ByteClass;
 use cfgwords::colon_text::text_to_colon;
 use cfgwords::fault::{Fault, FaultKind};
 use cfgwords::run::run;
 use cfgwords::strings::{leading_string, unescaped};
 use cfgwords::words::{Token, Word, leading_integer, leading_name, leading_token};
-use reading::after_word;
+use constructs::after_word;
 use std::alloc::{AllocError, Global};
 
 /// Why a reader stopped.
@@ -55,7 +55,7 @@ impl<'a> Reader<'a> {
     /// Before the rest of a text of `len` bytes, with nothing read.
     pub(super) fn new(alloc: Global, len: usize, rest: &'a str) -> Self
         requires { length rest.now ≤ len }
-        ensures place { (result.rest.now ≡ rest.now) × (result.len ≡ len) }
+        ensures offset { (result.rest.now ≡ rest.now) × (result.len ≡ len) }
         ensures tree { syntax_built result.tree ≡ syntax_of [] }
     {
         Reader {
@@ -74,8 +74,8 @@ impl<'a> Reader<'a> {
     }
 
     /// The offset of the rest, in bytes.
-    pub(super) fn place(&self) -> usize
-        ensures { result ≡ place self.now.len self.now.rest.now }
+    pub(super) fn offset(&self) -> usize
+        ensures { result ≡ offset_of self.now.len self.now.rest.now }
     {
         self.len - self.rest.len()
     }
@@ -84,10 +84,10 @@ impl<'a> Reader<'a> {
     pub(super) fn fault_at(&self, kind: FaultKind, text: &str) -> ReadFault
         ensures { result ≡ ReadFault.Fault (fault_at self.now.len kind text.now) }
     {
-        let place = self.len.saturating_sub(text.len());
+        let offset = self.len.saturating_sub(text.len());
         ReadFault::Fault(Fault {
             kind,
-            span: Span::new(place, place),
+            span: Span::new(offset, offset),
         })
     }
 
@@ -109,8 +109,8 @@ impl<'a> Reader<'a> {
     }
 
     /// Whether the rest begins with the word.
-    pub(super) fn stands(&self, word: &str) -> bool
-        ensures { result ≡ stands word.now self.now.rest.now }
+    pub(super) fn holds(&self, word: &str) -> bool
+        ensures { result ≡ holds word.now self.now.rest.now }
     {
         after_word(self.rest, word).is_some()
     }
@@ -147,7 +147,7 @@ impl<'a> Reader<'a> {
     fn blank_part(&self, lines: bool) -> Result<Option<&'a str>, ReadFault>
         ensures { IsPartHere lines self.now result }
     {
-        match Front::of(self.rest).part(lines) {
+        match Prefix::of(self.rest).part(lines) {
             Ok(part) => Ok(part),
             Err(kind) => Err(self.fault(kind)),
         }
@@ -169,7 +169,7 @@ impl<'a> Reader<'a> {
     {
         match leading_name(self.rest) {
             Some((name, rest)) => {
-                let start = self.place();
+                let start = self.offset();
                 self.rest = rest;
                 let span = Span::new(start, start + name.len());
                 Some(Word { name, span })
@@ -194,9 +194,9 @@ impl<'a> Reader<'a> {
     {
         match leading_integer(self.rest) {
             Some((number, rest)) => {
-                let start = self.place();
+                let start = self.offset();
                 self.rest = rest;
-                Ok((number, Span::new(start, self.place())))
+                Ok((number, Span::new(start, self.offset())))
             }
             None => Err(self.fault(FaultKind::IllegalInteger)),
         }
@@ -243,18 +243,18 @@ impl<'a> Reader<'a> {
     /// Passes the token here, if there is one.
     pub(super) fn next_token(&mut self) -> Option<Token<'a>>
         ensures read { IsTokenHere self.old self.new result }
-        ensures after { IfSome result (λ token. place self.old.len self.old.rest.now ≤ token.end) }
+        ensures after { IfSome result (λ token. offset_of self.old.len self.old.rest.now ≤ token.end) }
     {
         match leading_token(self.rest) {
             Some((name, quoted, rest)) => {
-                let place = self.place();
-                let start = if quoted { place + 1 } else { place };
+                let offset = self.offset();
+                let start = if quoted { offset + 1 } else { offset };
                 self.rest = rest;
                 Some(Token {
                     name,
                     span: Span::new(start, start + name.len()),
                     quoted,
-                    end: self.place(),
+                    end: self.offset(),
                 })
             }
             None => None,
@@ -264,7 +264,7 @@ impl<'a> Reader<'a> {
     /// Passes the token that must be here.
     pub(super) fn token(&mut self) -> Result<Token<'a>, ReadFault>
         ensures read { Builds token_view self.old self.new result (token_here self.old.len) }
-        ensures after { IfOk result (λ token. place self.old.len self.old.rest.now ≤ token.end) }
+        ensures after { IfOk result (λ token. offset_of self.old.len self.old.rest.now ≤ token.end) }
     {
         match self.next_token() {
             Some(token) => Ok(token),

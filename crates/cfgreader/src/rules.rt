@@ -1,8 +1,8 @@
 //! Rules: what follows the first `%%`.
 
 ghost use Rattle.std.specs.Prelude.{◌≡◌, ◌≤◌, IfSome, Some, is_some};
-ghost use Rattle.reading.specs.Construct.{goes_on, repeat, while_test};
-ghost use Rattle.cfgwords.specs.Text.{place};
+ghost use Rattle.constructs.specs.Construct.{goes_on, repeat, while_test};
+ghost use Rattle.cfgwords.specs.Text.{offset_of};
 ghost use Rattle.cfgast.specs.Items.{Alternative};
 ghost use Rattle.cfgreader.specs.Inner.Builds.{IsActionHere, parts_view};
 ghost use Rattle.cfgreader.specs.FileGrammar.{file, programs};
@@ -66,7 +66,7 @@ impl<'a> Reader<'a> {
     {
         match leading_action(self.rest) {
             Some((action, rest)) => {
-                let start = self.place() + 1;
+                let start = self.offset() + 1;
                 self.rest = rest;
                 Some((action, Span::new(start, start + action.len())))
             }
@@ -83,16 +83,16 @@ impl<'a> Reader<'a> {
         start: usize,
         parts: &Parts<'a>,
     ) -> Result<bool, ReadFault>
-        requires here { start ≤ place self.old.len self.old.rest.now }
+        requires here { start ≤ offset_of self.old.len self.old.rest.now }
         requires ends { IfSome parts.now.end (λ end. start ≤ end) }
         ensures { Builds goes_on self.old self.new result
             (production_end self.old.len (head_view head.entry) start (parts_view parts.now)) }
     {
-        let behind = self.place();
+        let after = self.offset();
         let action = self.next_action();
         let end = match action {
-            Some(_) => behind,
-            None => parts.end.unwrap_or(behind),
+            Some(_) => after,
+            None => parts.end.unwrap_or(after),
         };
         if action.is_some() {
             self.blank(true)?;
@@ -111,9 +111,9 @@ impl<'a> Reader<'a> {
     fn production(&mut self, head: RuleHead<'a>) -> Result<bool, ReadFault>
         ensures { Builds goes_on self.old self.new result (production self.old.len (head_view head.entry)) }
     {
-        let start = self.place();
-        let front = self.front_parts()?;
-        let parts = self.more_parts(front)?;
+        let start = self.offset();
+        let prefix = self.prefix_parts()?;
+        let parts = self.more_parts(prefix)?;
         self.production_end(head, start, &parts)
     }
 
@@ -167,7 +167,7 @@ impl<'a> Reader<'a> {
     fn is_rule_next(&self) -> bool
         ensures { result ≡ is_rule_next self.now.rest.now }
     {
-        !self.rest.is_empty() && !self.stands("%%")
+        !self.rest.is_empty() && !self.holds("%%")
     }
 
     /// Passes rules up to a second `%%` or the end.

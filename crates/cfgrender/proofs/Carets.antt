@@ -6,7 +6,7 @@ use Rattle.std.specs.List.{flat_map}
 use Rattle.std.specs.Str.{IsUtf8}
 use Rattle.cfglines.specs.Characters.{begins_character}
 use Rattle.cfglines.proofs.Characters.{begins_low, characters_begin}
-use Rattle.cfgrender.specs.Render.{under_front, under_span}
+use Rattle.cfgrender.specs.Render.{under_prefix, under_span}
 
 -- what is one column wide under a byte that begins a character, and empty under any other
 abbrev IsColumn : (ℕ → List ℕ) → Type 0
@@ -26,10 +26,10 @@ is_column : (begins : Bool) (mark : ℕ) → length (if begins then mark ∷ [] 
 is_column true mark = refl
 is_column false mark = refl
 
-pub front_columns : (bytes : List ℕ) → IsUtf8 bytes → length (flat_map under_front bytes) ≡ length (chars bytes)
-front_columns bytes utf8 = begun_columns under_front column bytes ∙ characters_begin bytes utf8
+pub prefix_columns : (bytes : List ℕ) → IsUtf8 bytes → length (flat_map under_prefix bytes) ≡ length (chars bytes)
+prefix_columns bytes utf8 = begun_columns under_prefix column bytes ∙ characters_begin bytes utf8
   where
-    column : IsColumn under_front
+    column : IsColumn under_prefix
     column byte = cond_both (byte == 9) (9 ∷ []) (if begins_character byte then 32 ∷ [] else [])
         (λ under. length under ≡ cond (begins_character byte) 1 0)
         (λ tab. rw (begins_low byte (omega (arith, eqb-true byte 9 tab))) refl)

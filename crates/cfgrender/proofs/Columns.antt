@@ -9,18 +9,18 @@ use Rattle.std.specs.Str.{IsCharBoundary, IsUtf8}
 use Rattle.cfgbase.specs.declared.span.Span.{Span}
 use Rattle.cfglines.specs.Lines.{character_count, column, ends_crlf, is_newline, line_end, line_start}
 use Rattle.cfglines.proofs.LineEnds.{is_other, line_start-suffix_len, line_start-le, line_end-position}
-use Rattle.cfglines.proofs.LineFronts.{line_begins, line_front_is}
-use Rattle.cfgrender.specs.Render.{carets, shown_end, shown_front, shown_span, under_front}
-use Rattle.cfgrender.proofs.Carets.{front_columns, span_columns}
+use Rattle.cfglines.proofs.LinePrefixes.{line_begins, line_prefix_is}
+use Rattle.cfgrender.specs.Render.{carets, shown_end, shown_prefix, shown_span, under_prefix}
+use Rattle.cfgrender.proofs.Carets.{prefix_columns, span_columns}
 use Rattle.cfgrender.proofs.ShownLines.{line_end_bounds, shown_line_ends, crlf_bytes}
 
 -- this many columns precede the carets
 before : (text : List ℕ) (b : ℕ) → IsUtf8 text → IsCharBoundary text b
-    → length (flat_map under_front (slice_range text (line_start text b) b)) + 1 ≡ character_count text b
-before text b utf8 place =
-    let begins = line_begins text b utf8 place.0 in
-    let piece = IsUtf8-between text (line_start text b) b utf8 (line_start-le text b) begins place in
-    ap (λ n. n + 1) (front_columns _ piece ∙ ap (λ front. length (chars front)) (sym (line_front_is text b place.0)))
+    → length (flat_map under_prefix (slice_range text (line_start text b) b)) + 1 ≡ character_count text b
+before text b utf8 offset =
+    let begins = line_begins text b utf8 offset.0 in
+    let piece = IsUtf8-between text (line_start text b) b utf8 (line_start-le text b) begins offset in
+    ap (λ n. n + 1) (prefix_columns _ piece ∙ ap (λ prefix. length (chars prefix)) (sym (line_prefix_is text b offset.0)))
 
 -- an offset other than that of an LF right after a CR is in the shown part of its line
 shown_up_to : (text : List ℕ) (b : ℕ) → b ≤ length text → ends_crlf text b ≡ false → min b (shown_end text b) ≡ b
@@ -60,25 +60,25 @@ at_crlf text b within h =
     )
 
 pub carets_begin_at_column : (text : List ℕ) (b : ℕ) → IsUtf8 text → IsCharBoundary text b
-    → length (flat_map under_front (shown_front text b)) + 1 ≡ column text b
+    → length (flat_map under_prefix (shown_prefix text b)) + 1 ≡ column text b
 unfolding column
-carets_begin_at_column text b utf8 place = by_column (ends_crlf text b) refl
+carets_begin_at_column text b utf8 offset = by_column (ends_crlf text b) refl
   where
     by_column : (crlf : Bool) → ends_crlf text b ≡ crlf
-        → length (flat_map under_front (shown_front text b)) + 1
+        → length (flat_map under_prefix (shown_prefix text b)) + 1
         ≡ (if crlf then character_count text (b - 1) else character_count text b)
     by_column false other =
-        ap (λ n. length (flat_map under_front (slice_range text (line_start text b) n)) + 1)
-        (shown_up_to text b place.0 other)
-        ∙ before text b utf8 place
+        ap (λ n. length (flat_map under_prefix (slice_range text (line_start text b) n)) + 1)
+        (shown_up_to text b offset.0 other)
+        ∙ before text b utf8 offset
     by_column true h =
         let bytes = crlf_bytes text b h in
         let return = bytes.2 in
-        let (start, shown) = at_crlf text b place.0 h in
-        let return_place = IsCharBoundary-before_ascii text (b - 1) (omega arith) (omega arith) in
-        ap (λ n. length (flat_map under_front (slice_range text (line_start text b) n)) + 1) shown
-        ∙ (ap (λ n. length (flat_map under_front (slice_range text n (b - 1))) + 1) (sym start)
-        ∙ before text (b - 1) utf8 return_place)
+        let (start, shown) = at_crlf text b offset.0 h in
+        let return_offset = IsCharBoundary-before_ascii text (b - 1) (omega arith) (omega arith) in
+        ap (λ n. length (flat_map under_prefix (slice_range text (line_start text b) n)) + 1) shown
+        ∙ (ap (λ n. length (flat_map under_prefix (slice_range text n (b - 1))) + 1) (sym start)
+        ∙ before text (b - 1) utf8 return_offset)
 
 -- the shown part of a span is a piece of the text
 shown_span_utf8 : (text : List ℕ) (span : Span) → IsUtf8 text

@@ -2,4 +2,4 @@ pub mod Carets
 pub mod Columns
 pub mod Several
 pub mod ShownLines
-pub mod Told
+pub mod Reported

@@ -7,7 +7,7 @@ use Rattle.std.specs.List.{position_or_len}
 use Rattle.std.specs.Str.{IsCharBoundary}
 use Rattle.cfglines.specs.Lines.{is_newline, ends_crlf, line_start, line_end}
 use Rattle.cfglines.proofs.LineEnds.{is_other, line_start-le, line_end-position}
-use Rattle.cfglines.proofs.LineFronts.{before_line_start}
+use Rattle.cfglines.proofs.LinePrefixes.{before_line_start}
 use Rattle.cfgrender.specs.Render.{shown_end}
 
 -- a line ends in the text, and not before the offset
@@ -16,7 +16,7 @@ pub line_end_bounds : (text : List ℕ) (b : ℕ) → b ≤ length text
 line_end_bounds text b within =
     let end = line_end-position text b in
     let rest = prefix_len-le-length is_other (drop b text) in
-    let front = length-take b text in
+    let prefix = length-take b text in
     let back = length-drop b text in
     (omega arith, omega arith)
 
@@ -26,11 +26,11 @@ at_line_end : (text : List ℕ) (b : ℕ) → b ≤ length text → line_end tex
 at_line_end text b within inside =
     let n = position_or_len is_newline (drop b text) in
     let end = line_end-position text b in
-    let front = length-take b text in
+    let prefix = length-take b text in
     let back = length-drop b text in
-    let place : get_or (drop b text) n 0 ≡ get_or text (line_end text b) 0 =
+    let offset : get_or (drop b text) n 0 ≡ get_or text (line_end text b) 0 =
     get_or-drop b text n 0 ∙ ap (λ i. get_or text i 0) (omega arith) in
-    sym place ∙ eqb-true _ 10 (passes_at_first is_newline (drop b text) 0 (omega arith))
+    sym offset ∙ eqb-true _ 10 (passes_at_first is_newline (drop b text) 0 (omega arith))
 
 -- an LF right after a CR
 pub crlf_bytes : (text : List ℕ) (b : ℕ) → ends_crlf text b ≡ true

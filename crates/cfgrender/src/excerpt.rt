@@ -5,45 +5,45 @@ ghost use Rattle.std.specs.Prelude.{string_bytes};
 ghost use Rattle.std.specs.List.{flat_map, slice_range};
 ghost use Rattle.std.specs.Str.{IsCharBoundary};
 ghost use Rattle.cfglines.specs.Lines.{ends_crlf, line_start};
-ghost use Rattle.cfgrender.specs.Render.{carets, excerpt, shown_end, under_front, under_span};
+ghost use Rattle.cfgrender.specs.Render.{carets, excerpt, shown_end, under_prefix, under_span};
 
 use cfgbase::Span;
-use cfglines::Places;
-use cfglines::places::begins_character;
+use cfglines::Positions;
+use cfglines::positions::begins_character;
 use std::alloc::AllocError;
 
 /// Writes the line where a span starts, and the carets below it.
 #[tactic(auto, unfolding(crate::specs::Render::excerpt))]
 pub(crate) fn push_excerpt(
     out: &mut String,
-    places: &Places<'_>,
+    positions: &Positions<'_>,
     span: Span,
 ) -> Result<(), AllocError>
-    requires { IsCharBoundary places.now span.start }
-    ensures { OnOk result (string_bytes out.new ≡ string_bytes out.old ++ excerpt places.now span) }
+    requires { IsCharBoundary positions.now span.start }
+    ensures { OnOk result (string_bytes out.new ≡ string_bytes out.old ++ excerpt positions.now span) }
 {
-    let text = places.text();
+    let text = positions.text();
     let at = span.start();
-    let (start, end) = shown_line(places, at);
+    let (start, end) = shown_line(positions, at);
     let bytes = text.as_bytes();
     out.push_str(&text[start..end])?;
     out.push_str("\n")?;
-    push_under_front(out, &bytes[start..at.min(end)])?;
+    push_under_prefix(out, &bytes[start..at.min(end)])?;
     push_carets(out, piece(bytes, at, span.end().min(end)))?;
     out.push_str("\n")
 }
 
 /// Where the line of an offset starts, and where its shown part ends.
-fn shown_line(places: &Places<'_>, at: usize) -> (usize, usize)
-    requires { at ≤ length places.now }
-    ensures value { result ≡ (line_start places.now at, shown_end places.now at) }
+fn shown_line(positions: &Positions<'_>, at: usize) -> (usize, usize)
+    requires { at ≤ length positions.now }
+    ensures value { result ≡ (line_start positions.now at, shown_end positions.now at) }
     ensures ordered { result.0 ≤ result.1 }
-    ensures begins { IsCharBoundary places.now result.0 }
-    ensures ends { IsCharBoundary places.now result.1 }
+    ensures begins { IsCharBoundary positions.now result.0 }
+    ensures ends { IsCharBoundary positions.now result.1 }
     ensures before { result.0 ≤ at }
 {
-    let (start, end) = places.span_line_bytes(Span::new(at, at));
-    (start, without_line_end(places.text().as_bytes(), end))
+    let (start, end) = positions.span_line_bytes(Span::new(at, at));
+    (start, without_line_end(positions.text().as_bytes(), end))
 }
 
 /// The offset of a CR right before the LF at `end`, or else `end`.
@@ -65,18 +65,18 @@ fn piece(text: &[u8], start: usize, end: usize) -> &[u8]
 }
 
 /// Writes what is under the line before the span.
-fn push_under_front(out: &mut String, front: &[u8]) -> Result<(), AllocError>
-    ensures { OnOk result (string_bytes out.new ≡ string_bytes out.old ++ flat_map under_front front.now) }
+fn push_under_prefix(out: &mut String, prefix: &[u8]) -> Result<(), AllocError>
+    ensures { OnOk result (string_bytes out.new ≡ string_bytes out.old ++ flat_map under_prefix prefix.now) }
 {
-    for byte in front {
-        out.push_str(under_front(*byte))?;
+    for byte in prefix {
+        out.push_str(under_prefix(*byte))?;
     }
     Ok(())
 }
 
 /// What is under a byte before the span.
-fn under_front(byte: u8) -> &'static str
-    ensures { result.now ≡ under_front byte }
+fn under_prefix(byte: u8) -> &'static str
+    ensures { result.now ≡ under_prefix byte }
 {
     if byte == b'\t' {
         "\t"

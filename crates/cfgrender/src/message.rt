@@ -61,7 +61,7 @@ fn push_error<E: Spanned>(
 ) -> Result<(), AllocError>
     ensures { OnOk result ((message : List ℕ) × IfSome (E.output error.now) (λ printed. message ≡ printed)
         × (string_bytes out.new ≡ string_bytes out.old
-        ++ rendered source.now.name.now source.now.places message (E.spans error.now) (E.spanskind error.now))) }
+        ++ rendered source.now.name.now source.now.offsets message (E.spans error.now) (E.spanskind error.now))) }
 {
     let message = error.to_string(alloc)?;
     source.push_rendered(out, &message, error.spans(), error.spanskind())

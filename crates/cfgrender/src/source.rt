@@ -2,28 +2,28 @@
 
 ghost use Rattle.std.specs.Prelude.{◌≡◌, ◌++◌, codes, string_bytes, IfOk, OnOk};
 ghost use Rattle.std.specs.List.{flat_map};
-ghost use Rattle.cfgrender.specs.Render.{rendered, told, told_also};
+ghost use Rattle.cfgrender.specs.Render.{rendered, reported, reported_also};
 
 use crate::excerpt::push_excerpt;
 use cfgbase::{Span, SpansKind};
-use cfglines::Places;
+use cfglines::Positions;
 use std::alloc::{AllocError, Global};
 
 /// A text with its name and the offsets of its lines.
 #[derive(Drop)]
 pub(crate) struct Source<'a> {
     name: &'a str,
-    places: Places<'a>,
+    offsets: Positions<'a>,
 }
 
 impl<'a> Source<'a> {
     /// A text of this name.
     pub(crate) fn new(alloc: Global, name: &'a str, text: &'a str) -> Result<Source<'a>, AllocError>
         ensures name { IfOk result (λ source. source.name.now ≡ name.entry.now) }
-        ensures text { IfOk result (λ source. source.places ≡ text.entry.now) }
+        ensures text { IfOk result (λ source. source.offsets ≡ text.entry.now) }
     {
-        let places = Places::new(alloc, text)?;
-        Ok(Source { name, places })
+        let offsets = Positions::new(alloc, text)?;
+        Ok(Source { name, offsets })
     }
 
     /// Writes an error or a warning with this message, these spans, and spans of this kind.
@@ -35,25 +35,25 @@ impl<'a> Source<'a> {
         kind: SpansKind,
     ) -> Result<(), AllocError>
         ensures { OnOk result (string_bytes out.new ≡ string_bytes out.old
-            ++ rendered self.now.name.now self.now.places message.now spans.now kind) }
+            ++ rendered self.now.name.now self.now.offsets message.now spans.now kind) }
     {
         let [first, others @ ..] = spans else {
             let name = self.name;
             return writeln!(out, "{name}: {message}");
         };
-        self.push_told(out, message, *first)?;
-        self.push_told_also(out, kind, others)
+        self.push_reported(out, message, *first)?;
+        self.push_reported_also(out, kind, others)
     }
 
     /// Writes where the spans after the first one are, if they are duplicates'.
-    fn push_told_also(
+    fn push_reported_also(
         &self,
         out: &mut String,
         kind: SpansKind,
         spans: &[Span],
     ) -> Result<(), AllocError>
         ensures { OnOk result (string_bytes out.new
-            ≡ string_bytes out.old ++ told_also kind self.now.name.now self.now.places spans.now) }
+            ≡ string_bytes out.old ++ reported_also kind self.now.name.now self.now.offsets spans.now) }
     {
         match kind {
             SpansKind::DuplicationError => self.push_each(out, spans),
@@ -65,24 +65,24 @@ impl<'a> Source<'a> {
     fn push_each(&self, out: &mut String, spans: &[Span]) -> Result<(), AllocError>
         ensures { OnOk result (string_bytes out.new
             ≡ string_bytes out.old
-            ++ flat_map (told self.now.name.now self.now.places (codes "also here")) spans.now) }
+            ++ flat_map (reported self.now.name.now self.now.offsets (codes "also here")) spans.now) }
     {
         for span in spans {
-            self.push_told(out, "also here", *span)?;
+            self.push_reported(out, "also here", *span)?;
         }
         Ok(())
     }
 
     /// Writes where a span starts, this message, and the excerpt.
-    fn push_told(&self, out: &mut String, words: &str, span: Span) -> Result<(), AllocError>
+    fn push_reported(&self, out: &mut String, words: &str, span: Span) -> Result<(), AllocError>
         ensures { OnOk result (string_bytes out.new
-            ≡ string_bytes out.old ++ told self.now.name.now self.now.places words.now span) }
+            ≡ string_bytes out.old ++ reported self.now.name.now self.now.offsets words.now span) }
     {
-        let Source { name, places } = self;
-        match places.line_and_column(span.start()) {
+        let Source { name, offsets } = self;
+        match offsets.line_and_column(span.start()) {
             Some((line, column)) => {
                 writeln!(out, "{name}:{line}:{column}: {words}")?;
-                push_excerpt(out, places, span)
+                push_excerpt(out, offsets, span)
             }
             None => writeln!(out, "{name}: {words}"),
         }

@@ -1,12 +1,12 @@
 pub mod Given
 pub mod KindIfNamed
 pub mod NamedLemmas
-pub mod NamedPlaces
+pub mod NamedOffsets
 pub mod Refusals
-pub mod SectionAnswers
+pub mod SectionResults
 pub mod SectionElements
 pub mod SectionKept
 pub mod SectionOne
-pub mod SectionPlaces
+pub mod SectionOffsets
 pub mod SectionRepeats
 pub mod SectionThere

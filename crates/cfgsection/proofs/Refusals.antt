@@ -3,8 +3,8 @@ use Rattle.std.proofs.Common.{◌≡◌, ℕ, ◌<◌, Bool, List, [], ◌∷◌
 use Rattle.std.specs.Prelude.{IfErr}
 use Rattle.std.proofs.lemmas.List.{length-map}
 use Rattle.cfgbase.specs.declared.span.Span.{Span}
-use Rattle.reading.specs.Construct.{computes}
-use Rattle.reading.proofs.Agree.{agree}
+use Rattle.constructs.specs.Construct.{computes}
+use Rattle.constructs.proofs.Agree.{agree}
 use Rattle.cfgerrors.specs.HeaderErrors.{ShownError, error_view}
 use Rattle.cfgerrors.specs.declared.header.HeaderError.{HeaderError}
 use Rattle.cfgkinds.specs.declared.kind.YaccKind.{YaccKind}
@@ -16,8 +16,8 @@ use Rattle.cfgsection.specs.declared.section.header_fault.HeaderFault.{HeaderFau
 use Rattle.cfgsection.specs.declared.section.header_fault.HeaderFault.TheVariants as faults
 use Rattle.cfgsection.specs.SectionGrammar.{Entry, Fault, entry, section}
 use Rattle.cfgsection.specs.SectionErrors.{duplicate_errors, section_errors}
-use Rattle.cfgsection.specs.SectionReads.{AnswersEntry, IsEntryAnswer, IsSectionRead, end_of, errors_view, section_of, section_answer, unless_errors, given}
-use Rattle.cfgsection.specs.Named.{Naming, kind_or_places, kind_given, kind_in, Names}
+use Rattle.cfgsection.specs.SectionReads.{ReturnsEntry, IsEntryAnswer, IsSectionRead, end_of, errors_view, section_of, section_answer, unless_errors, given}
+use Rattle.cfgsection.specs.Named.{Naming, kind_or_offsets, kind_given, kind_in, Names}
 use Rattle.cfgsection.specs.SectionRefusal.{ListsErrors}
 
 abbrev pub HasErrors : {A E : Type 0} → Result A (List E) → Type 0
@@ -37,9 +37,9 @@ section_lists : (entries : List Entry) (end : Result (List ℕ) Fault) → HasEr
 section_lists entries end =
     answer_errors (section_errors entries end) entries end (λ fault e. subst (λ end. 0 < length (section_errors entries end)) (sym e) (section_errors_some entries fault))
 
-kind_errors : (kind : Result YaccKind (List Span)) → HasErrors (kind_or_places kind)
+kind_errors : (kind : Result YaccKind (List Span)) → HasErrors (kind_or_offsets kind)
 kind_errors (Ok kind) = tt
-kind_errors (Err places) = omega arith
+kind_errors (Err offsets) = omega arith
 
 given_errors : (value : Option (ShownHeaderValue Span)) → HasErrors (kind_given value)
 given_errors None = omega arith
@@ -72,5 +72,5 @@ entry_listed len (Err faults.OutOfMemory) expected is = tt
 entry_listed len (Err (faults.Errors errors)) (Ok expected) is = absurd is
 entry_listed len (Err (faults.Errors errors)) (Err fault) is = listed errors.items (subst (λ xs. 0 < length xs) (sym is) (omega arith))
 
-pub entry_lists : (len : ℕ) (text : List ℕ) (result : Result (String Global × Span × Value Span × ℕ) HeaderFault) → AnswersEntry len text result → IfErr result ListsErrors
-entry_lists len text result answers = entry_listed len result _ (answers _ ((agree (entry len)).sound text))
+pub entry_lists : (len : ℕ) (text : List ℕ) (result : Result (String Global × Span × Value Span × ℕ) HeaderFault) → ReturnsEntry len text result → IfErr result ListsErrors
+entry_lists len text result results = entry_listed len result _ (results _ ((agree (entry len)).sound text))

@@ -2,10 +2,10 @@
 use Rattle.std.proofs.Common.{◌≡◌, ◌≢◌, ℕ, zero, suc, ◌-◌, ◌<◌, true, false, List, [], ◌∷◌, ◌++◌, length, Some, None, Result, Ok, Err, refl, sym, ap, subst, ◌∙◌, arith, Vec, Global}
 use Rattle.std.proofs.lemmas.List.{map-append}
 use Rattle.cfgbase.specs.declared.span.Span.{Span}
-use Rattle.reading.specs.Construct.{while_test, computes}
-use Rattle.reading.specs.Steps.{Fails, Returns, Stops}
-use Rattle.reading.proofs.Agree.{leaves}
-use Rattle.reading.proofs.Steps.{Gathers, gathers_start, gathers_on, many_done, many_stops, while_builds, while_done}
+use Rattle.constructs.specs.Construct.{while_test, computes}
+use Rattle.constructs.specs.Steps.{Fails, Returns, Stops}
+use Rattle.constructs.proofs.Agree.{leaves}
+use Rattle.constructs.proofs.Steps.{Gathers, gathers_start, gathers_on, many_done, many_stops, while_builds, while_done}
 use Rattle.cfgkinds.specs.declared.value.Setting.{Setting}
 use Rattle.cfgsection.specs.declared.section.fault.ReadFault.{ReadFault}
 use Rattle.cfgsection.specs.declared.section.reader.Reader.{Reader}

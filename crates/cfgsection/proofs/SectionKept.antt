@@ -7,40 +7,40 @@ use Rattle.std.proofs.lemmas.Bool.Decides.{nat_tests}
 use Rattle.std.proofs.lemmas.List.Elements.{All-nil, All-cons}
 use Rattle.std.proofs.lemmas.Str.{IsUtf8-past_char, IsCharBoundary-start}
 use Rattle.cfgbase.specs.declared.span.Span.{Span}
-use Rattle.reading.specs.Leaves.{Gives, ValueOf, Leaves}
-use Rattle.reading.specs.Pieces.{run}
-use Rattle.reading.specs.Construct.{Construct, repeat, while_test}
-use Rattle.reading.proofs.Keeps.{Keeps}
-use Rattle.reading.proofs.PiecesLemmas.{IsRun-run}
+use Rattle.constructs.specs.Leaves.{Gives, ValueOf, Leaves}
+use Rattle.constructs.specs.Pieces.{run}
+use Rattle.constructs.specs.Construct.{Construct, repeat, while_test}
+use Rattle.constructs.proofs.Keeps.{Keeps}
+use Rattle.constructs.proofs.PiecesLemmas.{IsRun-run}
 use Rattle.cfgwords.specs.declared.bytes.ByteClass.TheVariants as bytes
 use Rattle.cfgwords.specs.Bytes.{holds}
-use Rattle.cfgwords.specs.Places.{IsPiece}
+use Rattle.cfgwords.specs.TextSpans.{IsPiece}
 use Rattle.cfgwords.specs.SectionWords.{IsText, name_at, text_at}
-use Rattle.cfgwords.specs.Text.{place, span_of}
-use Rattle.cfgwords.proofs.Cuts.{IsCut, cut_on, cut_same, cut_word, cut_byte, cut_before, place_cut, boundary_cut}
-use Rattle.cfgwords.proofs.WordPlaces.{StandsBehind, whole_cut, piece_behind, word_passed, integer_is_at}
+use Rattle.cfgwords.specs.Text.{offset_of, span_of}
+use Rattle.cfgwords.proofs.Cuts.{IsCut, cut_on, cut_same, cut_word, cut_byte, cut_before, offset_cut, boundary_cut}
+use Rattle.cfgwords.proofs.WordOffsets.{ComesAfter, whole_cut, piece_after, word_passed, integer_is_at}
 use Rattle.cfgerrors.specs.HeaderErrors.{ShownErrorKind, ExpectedToken}
-use Rattle.cfgkinds.specs.Values.{Placed, ShownNamespaced, ShownSetting}
-use Rattle.cfgkinds.proofs.ValuePlaces.{EachNamePlace, EachSettingPlace, EachKindPlace}
+use Rattle.cfgkinds.specs.Values.{Located, ShownNamespaced, ShownSetting}
+use Rattle.cfgkinds.proofs.ValueOffsets.{EachNameOffset, EachSettingOffset, EachKindOffset}
 use Rattle.cfgsection.specs.SectionGrammar.{Entry, Fault, Strict, most_brackets, unexpected_star, error_over, fault_at, end_fault, wide_character, white_character, separator, white, separators, comma, name, namespaced, argument, applied, number, element, elements, array, bare_setting, setting_by, bracketed, setting, negated, value_of, affirmed, entry, entry_turn, entries, braced, missing, section}
-use Rattle.cfgsection.specs.SectionPlaces.{IsErrorAt}
+use Rattle.cfgsection.specs.SectionOffsets.{IsErrorAt}
 
 module _ (whole : List ℕ) where
   abbrev pub IsEntryAt : Entry → Type 0
-  IsEntryAt entry = IsPiece whole entry.key_span × EachKindPlace (IsPiece whole) entry.value
+  IsEntryAt entry = IsPiece whole entry.key_span × EachKindOffset (IsPiece whole) entry.value
 
-  abbrev pub KeepsPlaces : {l : Leaves} {G : Gives} → Construct Entry Fault l G → List ℕ → (ValueOf G → Type 0) → Type 0
-  KeepsPlaces = Keeps (StandsBehind whole) IsEntryAt (IsErrorAt whole)
+  abbrev pub KeepsOffsets : {l : Leaves} {G : Gives} → Construct Entry Fault l G → List ℕ → (ValueOf G → Type 0) → Type 0
+  KeepsOffsets = Keeps (ComesAfter whole) IsEntryAt (IsErrorAt whole)
 
 module _ (whole : List ℕ) (utf8 : IsUtf8 whole) where
   abbrev len : ℕ
   len = length whole
 
-  cut_to : (from text rest : List ℕ) → StandsBehind whole from text → IsCut text rest → StandsBehind whole from rest
+  cut_to : (from text rest : List ℕ) → ComesAfter whole from text → IsCut text rest → ComesAfter whole from rest
   cut_to from text rest t cut = record { origin = t.origin; further = cut_on from text rest t.further cut }
 
   -- a word after an offset
-  word_is : (from text word rest : List ℕ) → StandsBehind whole from text → text ≡ word ++ rest → IsCut text rest → IsPiece whole (span_of (place len text) word)
+  word_is : (from text word rest : List ℕ) → ComesAfter whole from text → text ≡ word ++ rest → IsCut text rest → IsPiece whole (span_of (offset_of len text) word)
   word_is from text word rest t e cut = record {
     ordered = omega arith;
     begins_at = boundary_cut whole text utf8 here;
@@ -50,27 +50,27 @@ module _ (whole : List ℕ) (utf8 : IsUtf8 whole) where
       here : IsCut whole text
       here = whole_cut whole utf8 from text t
 
-      at : place len rest ≡ place len text + length word
-      at = omega (arith, place_cut whole text here, ap length e, length-append word rest)
+      at : offset_of len rest ≡ offset_of len text + length word
+      at = omega (arith, offset_cut whole text here, ap length e, length-append word rest)
 
   -- errors at one span
   one_error : (kind : ShownErrorKind) (span : Span) → IsPiece whole span → IsErrorAt whole (record { kind = kind; locations = span ∷ [] })
   one_error kind span at = record { some = omega arith; each = All-cons (IsPiece whole) span [] at (All-nil (IsPiece whole)) }
 
-  fault_is : (kind : ShownErrorKind) (from text : List ℕ) → StandsBehind whole from text → IsErrorAt whole (fault_at len kind text)
+  fault_is : (kind : ShownErrorKind) (from text : List ℕ) → ComesAfter whole from text → IsErrorAt whole (fault_at len kind text)
   fault_is kind from text t =
       let at = boundary_cut whole text utf8 (whole_cut whole utf8 from text t) in
       one_error kind _ (record { ordered = omega arith; begins_at = at; ends_at = at })
 
   -- characters beyond ASCII
-  wide_passed : (code : ℕ) (word : List ℕ) → encode_utf8 code ≡ word → (from text rest : List ℕ) → StandsBehind whole from text → text ≡ word ++ rest → StandsBehind whole from rest
+  wide_passed : (code : ℕ) (word : List ℕ) → encode_utf8 code ≡ word → (from text rest : List ℕ) → ComesAfter whole from text → text ≡ word ++ rest → ComesAfter whole from rest
   wide_passed code word is from text rest t e = cut_to from text rest t (record {
     piece = word;
     whole = e;
     utf8 = λ u. IsUtf8-past_char text rest code u (e ∙ ap (λ w. w ++ rest) (sym is));
   })
 
-  wide_character_kept : (from : List ℕ) (Q : Option (Unit {0}) → Type 0) → Q (Some tt) → Q None → KeepsPlaces whole wide_character from Q
+  wide_character_kept : (from : List ℕ) (Q : Option (Unit {0}) → Type 0) → Q (Some tt) → Q None → KeepsOffsets whole wide_character from Q
   unfolding wide_character encode
   wide_character_kept from Q q n = (
     wide_passed 133 _ refl from,
@@ -90,7 +90,7 @@ module _ (whole : List ℕ) (utf8 : IsUtf8 whole) where
     ),
   )
 
-  white_character_kept : (from : List ℕ) (Q : Option (Unit {0}) → Type 0) → Q (Some tt) → Q None → KeepsPlaces whole white_character from Q
+  white_character_kept : (from : List ℕ) (Q : Option (Unit {0}) → Type 0) → Q (Some tt) → Q None → KeepsOffsets whole white_character from Q
   unfolding white_character
   white_character_kept from Q q n =
       let ascii = word_passed whole utf8 in (
@@ -111,37 +111,37 @@ module _ (whole : List ℕ) (utf8 : IsUtf8 whole) where
         ),
       )
 
-  separator_kept : (from : List ℕ) (Q : Option (Unit {0}) → Type 0) → Q (Some tt) → Q None → KeepsPlaces whole separator from Q
+  separator_kept : (from : List ℕ) (Q : Option (Unit {0}) → Type 0) → Q (Some tt) → Q None → KeepsOffsets whole separator from Q
   unfolding separator
   separator_kept from Q q n = (word_passed whole utf8 (codes ",") refl from, q, white_character_kept from Q q n)
 
-  white_kept : (from : List ℕ) (Q : Unit {0} → Type 0) → Q tt → KeepsPlaces whole white from Q
+  white_kept : (from : List ℕ) (Q : Unit {0} → Type 0) → Q tt → KeepsOffsets whole white from Q
   unfolding white repeat
   white_kept from Q q = (white_character_kept from (λ _. Unit {0}) tt tt, λ _ _. q)
 
-  separators_kept : (from : List ℕ) (Q : Unit {0} → Type 0) → Q tt → KeepsPlaces whole separators from Q
+  separators_kept : (from : List ℕ) (Q : Unit {0} → Type 0) → Q tt → KeepsOffsets whole separators from Q
   unfolding separators repeat
   separators_kept from Q q = (separator_kept from (λ _. Unit {0}) tt tt, λ _ _. q)
 
-  comma_kept : (from : List ℕ) (Q : Bool → Type 0) → ((b : Bool) → Q b) → KeepsPlaces whole comma from Q
+  comma_kept : (from : List ℕ) (Q : Bool → Type 0) → ((b : Bool) → Q b) → KeepsOffsets whole comma from Q
   unfolding comma
   comma_kept from Q q = (word_passed whole utf8 (codes ",") refl from, white_kept from (λ _. Q true) (q true), q false)
 
   -- a name's span, not before the offset where its construct began
-  abbrev IsBehind : List ℕ → Placed Span → Type 0
-  IsBehind from key = IsPiece whole key.1 × (place len from ≤ key.1.end)
+  abbrev IsAfter : List ℕ → Located Span → Type 0
+  IsAfter from key = IsPiece whole key.1 × (offset_of len from ≤ key.1.end)
 
-  name_kept : (from : List ℕ) (Q : Placed Span → Type 0) → ((key : Placed Span) → IsBehind from key → Q key) → KeepsPlaces whole (name len) from Q
+  name_kept : (from : List ℕ) (Q : Located Span → Type 0) → ((key : Located Span) → IsAfter from key → Q key) → KeepsOffsets whole (name len) from Q
   unfolding name
   name_kept from Q q = (
     λ text word rest t is.
         let cut : IsCut text rest = cut_same text (word ++ rest) rest is.run.whole (cut_word (holds bytes.IdentifierStart) (λ b h. grind (arith, nat_tests)) word rest is.run.passes) in
-        (cut_to from text rest t cut, q (name_at len text word rest) (word_is from text word rest t is.run.whole cut, omega (arith, place_cut from text t.further, place_cut whole text (whole_cut whole utf8 from text t)))),
+        (cut_to from text rest t cut, q (name_at len text word rest) (word_is from text word rest t is.run.whole cut, omega (arith, offset_cut from text t.further, offset_cut whole text (whole_cut whole utf8 from text t)))),
     λ text t. fault_is _ from text t,
   )
 
-  namespaced_kept : (from : List ℕ) (Q : ShownNamespaced Span → Type 0) → ((n : ShownNamespaced Span) → EachNamePlace (IsPiece whole) n → Q n)
-      → KeepsPlaces whole (namespaced len) from Q
+  namespaced_kept : (from : List ℕ) (Q : ShownNamespaced Span → Type 0) → ((n : ShownNamespaced Span) → EachNameOffset (IsPiece whole) n → Q n)
+      → KeepsOffsets whole (namespaced len) from Q
   unfolding namespaced
   namespaced_kept from Q q = name_kept from _ (λ first at. white_kept from _ (
     word_passed whole utf8 (codes "::") refl from,
@@ -149,14 +149,14 @@ module _ (whole : List ℕ) (utf8 : IsUtf8 whole) where
     q _ (tt, at.0),
   ))
 
-  argument_kept : (from : List ℕ) (Q : ShownNamespaced Span → Type 0) → ((n : ShownNamespaced Span) → EachNamePlace (IsPiece whole) n → Q n)
-      → KeepsPlaces whole (argument len) from Q
+  argument_kept : (from : List ℕ) (Q : ShownNamespaced Span → Type 0) → ((n : ShownNamespaced Span) → EachNameOffset (IsPiece whole) n → Q n)
+      → KeepsOffsets whole (argument len) from Q
   unfolding argument
   argument_kept from Q q = namespaced_kept from _ (λ n at. (word_passed whole utf8 (codes ")") refl from, q n at, λ text t. fault_is _ from text t))
 
   -- a construct that keeps the property, whatever is required of settings with their spans
   abbrev KeepsAll : Strict (ShownSetting Span) → Type 1
-  KeepsAll c = (from : List ℕ) (Q : ShownSetting Span → Type 0) → ((s : ShownSetting Span) → EachSettingPlace (IsPiece whole) s → Q s) → KeepsPlaces whole c from Q
+  KeepsAll c = (from : List ℕ) (Q : ShownSetting Span → Type 0) → ((s : ShownSetting Span) → EachSettingOffset (IsPiece whole) s → Q s) → KeepsOffsets whole c from Q
 
   applied_kept : KeepsAll (applied len)
   unfolding applied
@@ -173,8 +173,8 @@ module _ (whole : List ℕ) (utf8 : IsUtf8 whole) where
   )
 
   -- a text between quotes, with its span
-  text_kept : (from text word rest : List ℕ) → StandsBehind whole from text → IsText text word rest
-      → StandsBehind whole from rest × IsPiece whole (text_at len text word rest).1
+  text_kept : (from text word rest : List ℕ) → ComesAfter whole from text → IsText text word rest
+      → ComesAfter whole from rest × IsPiece whole (text_at len text word rest).1
   text_kept from text word rest t is = (
     cut_to from text rest t (cut_on text inner rest opened (cut_on inner (34 ∷ rest) rest inside (cut_byte 34 rest (omega arith)))),
     subst (λ n. IsPiece whole (span_of n word)) at (word_is from inner word (34 ∷ rest) (cut_to from text inner t opened) refl inside),
@@ -189,8 +189,8 @@ module _ (whole : List ℕ) (utf8 : IsUtf8 whole) where
       inside : IsCut inner (34 ∷ rest)
       inside = cut_before word 34 rest (omega arith)
 
-      at : place len inner ≡ place len text + 1
-      at = omega (arith, place_cut whole text (whole_cut whole utf8 from text t), ap length is.whole)
+      at : offset_of len inner ≡ offset_of len text + 1
+      at = omega (arith, offset_cut whole text (whole_cut whole utf8 from text t), ap length is.whole)
 
   setting_by_kept : (bracketed : Span → Strict (ShownSetting Span)) → ((opens : Span) → IsPiece whole opens → KeepsAll (bracketed opens)) → KeepsAll (setting_by len bracketed)
   unfolding setting_by bare_setting
@@ -200,7 +200,7 @@ module _ (whole : List ℕ) (utf8 : IsUtf8 whole) where
       λ text word rest t is. let it = text_kept from text word rest t is in (it.0, white_kept from _ (q _ it.1)),
       λ opening t. (
         word_passed whole utf8 (codes "[") refl opening,
-        λ behind u. kept _ (piece_behind whole utf8 opening behind u) behind _ (λ s at. white_kept from _ (q s at)),
+        λ after u. kept _ (piece_after whole utf8 opening after u) after _ (λ s at. white_kept from _ (q s at)),
         applied_kept opening _ (λ s at. white_kept from _ (q s at)),
       ),
     ),
@@ -212,7 +212,7 @@ module _ (whole : List ℕ) (utf8 : IsUtf8 whole) where
     (kept from _ (λ s _. separators_kept from _ tt), tt),
     λ values all closing t. (
       word_passed whole utf8 (codes "]") refl closing,
-      λ behind u. q _ at,
+      λ after u. q _ at,
       λ text u. fault_is _ closing text u,
     ),
   )
@@ -226,7 +226,7 @@ module _ (whole : List ℕ) (utf8 : IsUtf8 whole) where
   unfolding setting
   setting_kept room = setting_by_kept (bracketed len room) (bracketed_kept room)
 
-  pub entry_kept : (from : List ℕ) (Q : Entry → Type 0) → ((e : Entry) → IsEntryAt whole e → Q e) → KeepsPlaces whole (entry len) from Q
+  pub entry_kept : (from : List ℕ) (Q : Entry → Type 0) → ((e : Entry) → IsEntryAt whole e → Q e) → KeepsOffsets whole (entry len) from Q
   unfolding entry negated affirmed value_of
   entry_kept from Q q = λ text t. (
     word_passed whole utf8 (codes "!") refl text,
@@ -239,31 +239,31 @@ module _ (whole : List ℕ) (utf8 : IsUtf8 whole) where
   )
     where
       -- from a `!` to the end of the key after it
-      negated_at : (text : List ℕ) (key : Placed Span) → StandsBehind whole from text → IsBehind text key → IsPiece whole (record { start = place len text; end = key.1.end })
+      negated_at : (text : List ℕ) (key : Located Span) → ComesAfter whole from text → IsAfter text key → IsPiece whole (record { start = offset_of len text; end = key.1.end })
       negated_at text key t at = record {
         ordered = at.1;
         begins_at = boundary_cut whole text utf8 (whole_cut whole utf8 from text t);
         ends_at = at.0.ends_at;
       }
 
-  entries_kept : (from : List ℕ) (Q : Unit {0} → Type 0) → Q tt → KeepsPlaces whole (entries len) from Q
+  entries_kept : (from : List ℕ) (Q : Unit {0} → Type 0) → Q tt → KeepsOffsets whole (entries len) from Q
   unfolding entries entry_turn repeat
   entries_kept from Q q = ((entry_kept from _ (λ e at. (at, comma_kept from _ (λ b. tt))), tt), λ values all. q)
 
   -- if `}` is missing
-  end_is : (opening text : List ℕ) → StandsBehind whole opening text → IsErrorAt whole (end_fault len (place len opening) text)
-  end_is opening [] t = one_error _ _ (piece_behind whole utf8 opening [] t)
+  end_is : (opening text : List ℕ) → ComesAfter whole opening text → IsErrorAt whole (end_fault len (offset_of len opening) text)
+  end_is opening [] t = one_error _ _ (piece_after whole utf8 opening [] t)
   end_is opening (b ∷ text) t = go (eqb b 42) refl
     where
       star : eqb b 42 ≡ true → IsCut (b ∷ text) text
       star e = cut_byte b text (omega (arith, eqb-true b 42 e))
 
-      go : (here : Bool) → eqb b 42 ≡ here → IsErrorAt whole (cond here (record { kind = unexpected_star; locations = record { start = place len (b ∷ text); end = place len (b ∷ text) + 1 } ∷ [] })
-          (error_over (ExpectedToken 125) (place len opening) (place len (b ∷ text))))
+      go : (here : Bool) → eqb b 42 ≡ here → IsErrorAt whole (cond here (record { kind = unexpected_star; locations = record { start = offset_of len (b ∷ text); end = offset_of len (b ∷ text) + 1 } ∷ [] })
+          (error_over (ExpectedToken 125) (offset_of len opening) (offset_of len (b ∷ text))))
       go true e = one_error _ _ (word_is opening (b ∷ text) (b ∷ []) text t refl (star e))
-      go false e = one_error _ _ (piece_behind whole utf8 opening (b ∷ text) t)
+      go false e = one_error _ _ (piece_after whole utf8 opening (b ∷ text) t)
 
-  braced_kept : (from : List ℕ) (Q : Unit {0} → Type 0) → Q tt → KeepsPlaces whole (braced len) from Q
+  braced_kept : (from : List ℕ) (Q : Unit {0} → Type 0) → Q tt → KeepsOffsets whole (braced len) from Q
   unfolding braced
   braced_kept from Q q = λ opening t. (
     word_passed whole utf8 (codes "{") refl opening,
@@ -271,7 +271,7 @@ module _ (whole : List ℕ) (utf8 : IsUtf8 whole) where
     λ text u. fault_is _ opening text u,
   )
 
-  pub section_kept : (required : Bool) (from : List ℕ) (Q : List ℕ → Type 0) → ((rest : List ℕ) → IsCut whole rest → Q rest) → KeepsPlaces whole (section len required) from Q
+  pub section_kept : (required : Bool) (from : List ℕ) (Q : List ℕ → Type 0) → ((rest : List ℕ) → IsCut whole rest → Q rest) → KeepsOffsets whole (section len required) from Q
   unfolding section missing
   section_kept required from Q q = λ text t. white_kept text _ (
     word_passed whole utf8 (codes "%grmtools") refl text,

@@ -1,9 +1,9 @@
 -- A text's section has exactly one reading: the one that the functions on lists compute.
 use Rattle.std.proofs.Common.{◌≡◌, ℕ, Bool, List, [], ◌∷◌, ◌++◌, length, map, fold, Result, Ok, Err, Bor, Vec, Global, refl, sym, ◌∙◌, ap, ap₂, append-nil, append_assoc}
 use Rattle.cfgbase.specs.declared.span.Span.{Span}
-use Rattle.reading.specs.Construct.{computes}
-use Rattle.reading.specs.Read.{Read}
-use Rattle.reading.proofs.Agree.{agree}
+use Rattle.constructs.specs.Construct.{computes}
+use Rattle.constructs.specs.Read.{Read}
+use Rattle.constructs.proofs.Agree.{agree}
 use Rattle.cfgsection.specs.SectionGrammar.{Entry, Fault, section}
 use Rattle.cfgsection.specs.SectionReads.{IsSection, HasOneSection, end_of, entry_view, unless_errors, section_answer, section_of, errors_view}
 use Rattle.cfgsection.specs.SectionErrors.{section_errors}
@@ -40,9 +40,9 @@ unfolding section_of
 section_answered required text entries end is = let same = section_is required text entries end is in ap₂ section_answer same.0 same.1
 
 -- entries noted one by one
-noted_behind : (entries xs : List Entry) → fold (λ entries entry. entries ++ entry ∷ []) entries xs ≡ entries ++ xs
-noted_behind entries [] = sym (append-nil entries)
-noted_behind entries (x ∷ xs) = noted_behind (entries ++ x ∷ []) xs ∙ append_assoc entries (x ∷ []) xs
+noted_after : (entries xs : List Entry) → fold (λ entries entry. entries ++ entry ∷ []) entries xs ≡ entries ++ xs
+noted_after entries [] = sym (append-nil entries)
+noted_after entries (x ∷ xs) = noted_after (entries ++ x ∷ []) xs ∙ append_assoc entries (x ∷ []) xs
 
 -- what a reader of the whole text has noted
 pub entries_read : (required : Bool) (text : List ℕ) (old new : Reader) (entries : List CodeEntry) → old.rest.now ≡ text → old.len ≡ length text → entries_of old ≡ []
@@ -50,7 +50,7 @@ pub entries_read : (required : Bool) (text : List ℕ) (old new : Reader) (entri
     → map entry_view entries ≡ (computes (section (length text) required) text).items
 entries_read required text old new entries whole len none grown e =
     let items = (computes (section old.len required) old.rest.now).items in
-    ap (map entry_view) e ∙ grown ∙ noted_behind (entries_of old) items ∙ ap (λ entries. entries ++ items) none ∙ (λ i. (computes (section (len i) required) (whole i)).items)
+    ap (map entry_view) e ∙ grown ∙ noted_after (entries_of old) items ∙ ap (λ entries. entries ++ items) none ∙ (λ i. (computes (section (len i) required) (whole i)).items)
 
 -- What is returned, given what was read and the errors that were found.
 module _ (required : Bool) (text : List ℕ) (entries : List CodeEntry) (end : Result (Bor (List ℕ)) CodeFault) (errors : Vec (HeaderError Span) Global)

@@ -10,11 +10,11 @@ use Rattle.std.proofs.lemmas.Slice.Eq.{bytes_eq-Decides}
 use Rattle.std.specs.Str.{bytes_eq}
 use Rattle.std.proofs.lemmas.List.{map-append, take_more}
 use Rattle.std.proofs.lemmas.List.Elements.{filter-append}
-use Rattle.lemmas.specs.Lists.{with_fronts}
-use Rattle.lemmas.proofs.Fronts.{with_fronts-push}
+use Rattle.lemmas.specs.Lists.{with_prefixes}
+use Rattle.lemmas.proofs.Prefixes.{with_prefixes-push}
 use Rattle.cfgbase.specs.declared.span.Span.{Span}
 use Rattle.cfgsection.specs.SectionGrammar.{Entry}
-use Rattle.cfgsection.specs.SectionErrors.{places_of, is_first_repeat, repeated, duplicate_error, duplicate_errors}
+use Rattle.cfgsection.specs.SectionErrors.{offsets_of, is_first_repeat, repeated, duplicate_error, duplicate_errors}
 use Rattle.cfgerrors.specs.declared.header.HeaderError.{HeaderError}
 use Rattle.cfgerrors.specs.declared.header.HeaderErrorKind.TheVariants as kinds
 use Rattle.cfgerrors.specs.HeaderErrors.{DuplicateEntry, error_view}
@@ -22,25 +22,25 @@ use Rattle.cfgsection.specs.SectionReads.{entry_view, errors_view}
 use Rattle.cfgsection.specs.declared.section.entry.Entry.{Entry as CodeEntry}
 use Rattle.cfgsection.specs.Inner.Steps.{spans_at, duplicate_at}
 
-pub places_of-push : (done : List Entry) (x : Entry) (key : List ℕ)
-    → places_of (done ++ x ∷ []) key ≡ cond (bytes_eq x.key key) (places_of done key ++ x.key_span ∷ []) (places_of done key)
-places_of-push done x key =
+pub offsets_of-push : (done : List Entry) (x : Entry) (key : List ℕ)
+    → offsets_of (done ++ x ∷ []) key ≡ cond (bytes_eq x.key key) (offsets_of done key ++ x.key_span ∷ []) (offsets_of done key)
+offsets_of-push done x key =
     ap (map (λ (e : Entry). e.key_span)) (filter-append is done (x ∷ []))
     ∙ map-append (λ (e : Entry). e.key_span) (filter is done) (filter is (x ∷ [])) ∙ go (is x)
   where
     is : Entry → Bool
     is e = bytes_eq e.key key
 
-    go : (here : Bool) → places_of done key ++ map (λ (e : Entry). e.key_span) (cond here (x ∷ []) []) ≡ cond here (places_of done key ++ x.key_span ∷ []) (places_of done key)
+    go : (here : Bool) → offsets_of done key ++ map (λ (e : Entry). e.key_span) (cond here (x ∷ []) []) ≡ cond here (offsets_of done key ++ x.key_span ∷ []) (offsets_of done key)
     go true = refl
     go false = append-nil _
 
-pub repeated-push : (done : List Entry) (x : Entry) → repeated (done ++ x ∷ []) ≡ cond (eqb (length (places_of done x.key)) 1) (repeated done ++ x.key ∷ []) (repeated done)
+pub repeated-push : (done : List Entry) (x : Entry) → repeated (done ++ x ∷ []) ≡ cond (eqb (length (offsets_of done x.key)) 1) (repeated done ++ x.key ∷ []) (repeated done)
 unfolding repeated
 repeated-push done x =
-    ap (λ t. map key_of (filter is_first_repeat t)) (with_fronts-push done x)
-    ∙ ap (map key_of) (filter-append is_first_repeat (with_fronts done) ((done, x) ∷ []))
-    ∙ map-append key_of (filter is_first_repeat (with_fronts done)) (filter is_first_repeat ((done, x) ∷ []))
+    ap (λ t. map key_of (filter is_first_repeat t)) (with_prefixes-push done x)
+    ∙ ap (map key_of) (filter-append is_first_repeat (with_prefixes done) ((done, x) ∷ []))
+    ∙ map-append key_of (filter is_first_repeat (with_prefixes done)) (filter is_first_repeat ((done, x) ∷ []))
     ∙ go (is_first_repeat (done, x))
   where
     key_of : List Entry × Entry → List ℕ
@@ -51,40 +51,40 @@ repeated-push done x =
     go false = append-nil _
 
 -- the spans and the repeated keys of the entries so far
-pub record InPlaces (done : List Entry) (places : BTreeMap (Bor (List ℕ)) (Vec Span Global)) (again : List (Bor (List ℕ))) : Type 0 where
-  pub spans : (key : List ℕ) → spans_at places key ≡ places_of done key
+pub record InOffsets (done : List Entry) (offsets : BTreeMap (Bor (List ℕ)) (Vec Span Global)) (again : List (Bor (List ℕ))) : Type 0 where
+  pub spans : (key : List ℕ) → spans_at offsets key ≡ offsets_of done key
   pub keys : map (λ (key : Bor (List ℕ)). key.now) again ≡ repeated done
 
-pub places_start : (places : BTreeMap (Bor (List ℕ)) (Vec Span Global)) (again : List (Bor (List ℕ))) → places.entries ≡ [] → again ≡ [] → InPlaces [] places again
+pub offsets_start : (offsets : BTreeMap (Bor (List ℕ)) (Vec Span Global)) (again : List (Bor (List ℕ))) → offsets.entries ≡ [] → again ≡ [] → InOffsets [] offsets again
 unfolding repeated
-places_start places again none nobody = record {
+offsets_start offsets again none nobody = record {
   spans = λ key. ap (λ es. option_map_or (λ (spans : Vec Span Global). spans.items) (lookup (is_at (λ (k : Bor (List ℕ)). slice_cmp nat_cmp key k.now)) es) []) none;
   keys = ap (map (λ (key : Bor (List ℕ)). key.now)) nobody;
 }
 
-module _ (done : List Entry) (places : BTreeMap (Bor (List ℕ)) (Vec Span Global)) (again : List (Bor (List ℕ))) (so_far : InPlaces done places again)
+module _ (done : List Entry) (offsets : BTreeMap (Bor (List ℕ)) (Vec Span Global)) (again : List (Bor (List ℕ))) (so_far : InOffsets done offsets again)
     (x : Entry) (key : Bor (List ℕ)) (is : key.now ≡ x.key) (grown : BTreeMap (Bor (List ℕ)) (Vec Span Global))
-    (noted : (other : List ℕ) → spans_at grown other ≡ cond (bytes_eq key.now other) (spans_at places other ++ x.key_span ∷ []) (spans_at places other))
+    (noted : (other : List ℕ) → spans_at grown other ≡ cond (bytes_eq key.now other) (spans_at offsets other ++ x.key_span ∷ []) (spans_at offsets other))
     (all : List Entry) (all_are : all ≡ done ++ x ∷ []) where
-  places_on : (other : List ℕ) → spans_at grown other ≡ places_of (done ++ x ∷ []) other
-  places_on other = noted other
+  offsets_on : (other : List ℕ) → spans_at grown other ≡ offsets_of (done ++ x ∷ []) other
+  offsets_on other = noted other
       ∙ (λ i. cond (bytes_eq (is i) other) (so_far.spans other i ++ x.key_span ∷ []) (so_far.spans other i))
-      ∙ sym (places_of-push done x other)
+      ∙ sym (offsets_of-push done x other)
 
-  counted : eqb (length (spans_at places key.now)) 1 ≡ eqb (length (places_of done x.key)) 1
-  counted = ap (λ ps. eqb (length ps) 1) (so_far.spans key.now) ∙ ap (λ k. eqb (length (places_of done k)) 1) is
+  counted : eqb (length (spans_at offsets key.now)) 1 ≡ eqb (length (offsets_of done x.key)) 1
+  counted = ap (λ ps. eqb (length ps) 1) (so_far.spans key.now) ∙ ap (λ k. eqb (length (offsets_of done k)) 1) is
 
-  pub places_again : eqb (length (spans_at places key.now)) 1 ≡ true → (more : List (Bor (List ℕ))) → more ≡ again ++ key ∷ [] → InPlaces all grown more
-  places_again second more e = subst (λ d. InPlaces d grown more) (sym all_are) (record {
-    spans = places_on;
+  pub offsets_again : eqb (length (spans_at offsets key.now)) 1 ≡ true → (more : List (Bor (List ℕ))) → more ≡ again ++ key ∷ [] → InOffsets all grown more
+  offsets_again second more e = subst (λ d. InOffsets d grown more) (sym all_are) (record {
+    spans = offsets_on;
     keys = ap (map (λ (key : Bor (List ℕ)). key.now)) e ∙ map-append (λ (key : Bor (List ℕ)). key.now) again (key ∷ [])
         ∙ (λ i. so_far.keys i ++ is i ∷ [])
         ∙ sym (repeated-push done x ∙ ap (λ b. cond b (repeated done ++ x.key ∷ []) (repeated done)) (sym counted ∙ second));
   })
 
-  pub places_once : eqb (length (spans_at places key.now)) 1 ≡ false → (more : List (Bor (List ℕ))) → more ≡ again → InPlaces all grown more
-  places_once other more e = subst (λ d. InPlaces d grown more) (sym all_are) (record {
-    spans = places_on;
+  pub offsets_once : eqb (length (spans_at offsets key.now)) 1 ≡ false → (more : List (Bor (List ℕ))) → more ≡ again → InOffsets all grown more
+  offsets_once other more e = subst (λ d. InOffsets d grown more) (sym all_are) (record {
+    spans = offsets_on;
     keys = ap (map (λ (key : Bor (List ℕ)). key.now)) e ∙ so_far.keys
         ∙ sym (repeated-push done x ∙ ap (λ b. cond b (repeated done ++ x.key ∷ []) (repeated done)) (sym counted ∙ other));
   })
@@ -94,7 +94,7 @@ pub entries_more : (xs : List CodeEntry) (i : ℕ) (x : CodeEntry) → i < lengt
 entries_more xs i x within is = ap (map entry_view) (take_more xs i x within ∙ ap (λ y. take i xs ++ y ∷ []) (sym is)) ∙ map-append entry_view (take i xs) (x ∷ [])
 
 abbrev pub found_at : BTreeMap (Bor (List ℕ)) (Vec Span Global) → List ℕ → Option (Vec Span Global)
-found_at places key = get_by (λ k. slice_cmp nat_cmp key k.now) places
+found_at offsets key = get_by (λ k. slice_cmp nat_cmp key k.now) offsets
 
 -- the spans that were taken out of a map, or none
 pub items_or : (o : Option (Vec Span Global)) (none : Vec Span Global) → none.items ≡ [] → (unwrap_or o none).items ≡ option_map_or (λ (spans : Vec Span Global). spans.items) o []
@@ -117,28 +117,28 @@ module _ (old mid new : BTreeMap (Bor (List ℕ)) (Vec Span Global)) (key : List
       go false e = refl
 
 -- one more error for a repeated key
-pub one_more_error : (places : BTreeMap (Bor (List ℕ)) (Vec Span Global)) (keys : List (Bor (List ℕ))) (key : Bor (List ℕ)) (old : List (HeaderError Span)) (locations : Vec Span Global)
-    (new : List (HeaderError Span)) → errors_view old ≡ map (λ (key : Bor (List ℕ)). duplicate_at places key.now) keys
-    → new ≡ old ++ record { kind = kinds.DuplicateEntry; locations = locations } ∷ [] → locations.items ≡ spans_at places key.now
-    → errors_view new ≡ map (λ (key : Bor (List ℕ)). duplicate_at places key.now) (keys ++ key ∷ [])
-one_more_error places keys key old locations new so_far e at =
+pub one_more_error : (offsets : BTreeMap (Bor (List ℕ)) (Vec Span Global)) (keys : List (Bor (List ℕ))) (key : Bor (List ℕ)) (old : List (HeaderError Span)) (locations : Vec Span Global)
+    (new : List (HeaderError Span)) → errors_view old ≡ map (λ (key : Bor (List ℕ)). duplicate_at offsets key.now) keys
+    → new ≡ old ++ record { kind = kinds.DuplicateEntry; locations = locations } ∷ [] → locations.items ≡ spans_at offsets key.now
+    → errors_view new ≡ map (λ (key : Bor (List ℕ)). duplicate_at offsets key.now) (keys ++ key ∷ [])
+one_more_error offsets keys key old locations new so_far e at =
     ap errors_view e ∙ map-append error_view old (record { kind = kinds.DuplicateEntry; locations = locations } ∷ [])
     ∙ (λ i. so_far i ++ record { kind = DuplicateEntry; locations = at i } ∷ [])
-    ∙ sym (map-append (λ (key : Bor (List ℕ)). duplicate_at places key.now) keys (key ∷ []))
+    ∙ sym (map-append (λ (key : Bor (List ℕ)). duplicate_at offsets key.now) keys (key ∷ []))
 
 -- the errors for all repeated keys
-module _ (entries : List Entry) (places : BTreeMap (Bor (List ℕ)) (Vec Span Global)) (keys : List (Bor (List ℕ)))
-    (spans : (key : List ℕ) → spans_at places key ≡ places_of entries key) (again : map (λ (key : Bor (List ℕ)). key.now) keys ≡ repeated entries) where
-  all_errors : map (λ (key : Bor (List ℕ)). duplicate_at places key.now) keys ≡ duplicate_errors entries
+module _ (entries : List Entry) (offsets : BTreeMap (Bor (List ℕ)) (Vec Span Global)) (keys : List (Bor (List ℕ)))
+    (spans : (key : List ℕ) → spans_at offsets key ≡ offsets_of entries key) (again : map (λ (key : Bor (List ℕ)). key.now) keys ≡ repeated entries) where
+  all_errors : map (λ (key : Bor (List ℕ)). duplicate_at offsets key.now) keys ≡ duplicate_errors entries
   unfolding duplicate_errors
   all_errors = go keys ∙ ap (map (duplicate_error entries)) again
     where
-      go : (keys : List (Bor (List ℕ))) → map (λ (key : Bor (List ℕ)). duplicate_at places key.now) keys ≡ map (duplicate_error entries) (map (λ (key : Bor (List ℕ)). key.now) keys)
+      go : (keys : List (Bor (List ℕ))) → map (λ (key : Bor (List ℕ)). duplicate_at offsets key.now) keys ≡ map (duplicate_error entries) (map (λ (key : Bor (List ℕ)). key.now) keys)
       go [] = refl
       go (key ∷ keys) = λ i. record { kind = DuplicateEntry; locations = spans key.now i } ∷ go keys i
 
   pub all_errors_of : {E : Type 0} (result : Result (Vec (HeaderError Span) Global) E)
-      → IfOk result (λ errors. errors_view errors.items ≡ map (λ (key : Bor (List ℕ)). duplicate_at places key.now) keys)
+      → IfOk result (λ errors. errors_view errors.items ≡ map (λ (key : Bor (List ℕ)). duplicate_at offsets key.now) keys)
       → IfOk result (λ errors. errors_view errors.items ≡ duplicate_errors entries)
   all_errors_of (Ok errors) e = e ∙ all_errors
   all_errors_of (Err e) h = tt

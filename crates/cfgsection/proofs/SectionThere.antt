@@ -2,12 +2,12 @@
 use Rattle.std.proofs.Common.{◌≡◌, ℕ, ◌⊎◌, inl, inr, Bool, true, false, List, [], ◌∷◌, ◌++◌, length, Option, Some, None, Result, Ok, Err, All, refl, ap, codes}
 use Rattle.std.proofs.lemmas.List.Elements.{All-head}
 use Rattle.cfgbase.specs.declared.span.Span.{Span}
-use Rattle.reading.specs.Leaves.{Gives, Leaves}
-use Rattle.reading.specs.Construct.{Construct, computes, ends, repeat}
-use Rattle.reading.specs.Pieces.{strip}
-use Rattle.reading.specs.Read.{Read, follow_outcome, behind_word, case_of, prefixed}
-use Rattle.reading.proofs.Agree.{agree}
-use Rattle.reading.proofs.Keeps.{Keeps, keeps}
+use Rattle.constructs.specs.Leaves.{Gives, Leaves}
+use Rattle.constructs.specs.Construct.{Construct, computes, ends, repeat}
+use Rattle.constructs.specs.Pieces.{strip}
+use Rattle.constructs.specs.Read.{Read, follow_outcome, after_word, case_of, prefixed}
+use Rattle.constructs.proofs.Agree.{agree}
+use Rattle.constructs.proofs.Keeps.{Keeps, keeps}
 use Rattle.cfgwords.specs.SectionWords.{ascii_characters, wide_characters}
 use Rattle.cfgerrors.specs.HeaderErrors.{ShownError}
 use Rattle.cfgsection.specs.SectionErrors.{duplicate_errors, repeated}
@@ -49,7 +49,7 @@ module _ (text : List ℕ) where
   module _ (there : List ℕ → Read Entry Fault (List ℕ)) where
     -- the rest after white space and the word `%grmtools`, if it is there
     abbrev by_word : Bool → Option (List ℕ) → List ℕ → Read Entry Fault (List ℕ)
-    by_word required found rest = behind_word there (computes (missing (length text) required text) rest) found
+    by_word required found rest = after_word there (computes (missing (length text) required text) rest) found
 
     at_word : (items : List Entry) → items ≡ [] → (rest : List ℕ) (found : Option (List ℕ))
         → IsSameOrMissing (answer (prefixed items (by_word true found rest))) (answer (prefixed items (by_word false found rest)))

@@ -5,6 +5,6 @@ pub mod Named
 pub mod SectionRefusal
 pub mod SectionErrors
 pub mod SectionGrammar
-pub mod SectionPlaces
+pub mod SectionOffsets
 pub mod SectionReads
 pub mod SectionTexts

@@ -16,16 +16,16 @@ Naming = Result YaccKind (List (ShownError Span))
 
 -- no kind is named, because of what is at these spans
 abbrev pub unnamed : List Span → List (ShownError Span)
-unnamed places = record { kind = InvalidEntry (codes "yacckind"); locations = places } ∷ []
+unnamed offsets = record { kind = InvalidEntry (codes "yacckind"); locations = offsets } ∷ []
 
-abbrev pub kind_or_places : Result YaccKind (List Span) → Naming
-kind_or_places (Ok kind) = Ok kind
-kind_or_places (Err places) = Err (unnamed places)
+abbrev pub kind_or_offsets : Result YaccKind (List Span) → Naming
+kind_or_offsets (Ok kind) = Ok kind
+kind_or_offsets (Err offsets) = Err (unnamed offsets)
 
 -- given the value for the key `yacckind`; without one, the error has the empty span at offset 0
 abbrev pub kind_given : Option (ShownHeaderValue Span) → Naming
 kind_given None = Err (unnamed (record { start = 0; end = 0 } ∷ []))
-kind_given (Some given) = kind_or_places (kind_of_value given.value)
+kind_given (Some given) = kind_or_offsets (kind_of_value given.value)
 
 abbrev pub kind_in : Result (List Entry × List ℕ) (List (ShownError Span)) → Naming
 kind_in (Err errors) = Err errors

@@ -2,16 +2,16 @@
 -- read.
 use Rattle.std.specs.Prelude.{ℕ, zero, suc, ◌+◌, Bool, true, false, List, [], ◌∷◌, Some, None, ◌==◌, not, codes, if◌then◌else◌}
 use Rattle.cfgbase.specs.declared.span.Span.{Span}
-use Rattle.reading.specs.Pieces.{starts, run}
-use Rattle.reading.specs.Leaves.{One, OneOrEnd, Less, NoMore}
-use Rattle.reading.specs.Construct.{Construct, ◌>>=◌, ◌>>◌, case_of, choice, here, again, goes_on, ends, many, repeat, while_test, word_or, gives, emits, fails, expect}
+use Rattle.constructs.specs.Pieces.{starts, run}
+use Rattle.constructs.specs.Leaves.{One, OneOrEnd, Less, NoMore}
+use Rattle.constructs.specs.Construct.{Construct, ◌>>=◌, ◌>>◌, case_of, choice, here, again, goes_on, ends, many, repeat, while_test, word_or, gives, emits, fails, expect}
 use Rattle.cfgwords.specs.declared.bytes.ByteClass.TheVariants as bytes
 use Rattle.cfgwords.specs.Bytes.{holds}
-use Rattle.cfgwords.specs.Text.{place, span_of}
+use Rattle.cfgwords.specs.Text.{offset_of, span_of}
 use Rattle.cfgwords.specs.FileWords.{integer_at}
 use Rattle.cfgwords.specs.SectionWords.{ascii_characters, wide_characters, name_at, text_at}
 use Rattle.cfgerrors.specs.HeaderErrors.{ShownErrorKind, MissingGrmtoolsSection, IllegalName, ExpectedToken, UnexpectedToken, InvalidEntry, ShownError}
-use Rattle.cfgkinds.specs.Values.{Placed, ShownNamespaced, ShownSetting, Unitary, Constructor, Number, Text, Array, settings_of, ShownValue, Flag, Given}
+use Rattle.cfgkinds.specs.Values.{Located, ShownNamespaced, ShownSetting, Unitary, Constructor, Number, Text, Array, settings_of, ShownValue, Flag, Given}
 use Rattle.cfgsection.specs.SectionWordKinds.{name_kind, text_kind, integer_kind}
 
 -- an entry of a section: its key in lower case, the key's span, and its value
@@ -55,11 +55,11 @@ error_over kind start end = record { kind = kind; locations = record { start = s
 
 -- a fault right where the text is left
 abbrev pub fault_at : ℕ → ShownErrorKind → List ℕ → Fault
-fault_at len kind text = error_over kind (place len text) (place len text)
+fault_at len kind text = error_over kind (offset_of len text) (offset_of len text)
 
 -- the span from one offset to a later one
 abbrev pub between : ℕ → List ℕ → List ℕ → Span
-between len text rest = record { start = place len text; end = place len rest }
+between len text rest = record { start = offset_of len text; end = offset_of len rest }
 
 -- the span of one byte
 abbrev pub byte_at : ℕ → Span
@@ -75,7 +75,7 @@ name_fault len text = fault_at len (if begins 42 text then unexpected_star else 
 
 -- over the digits of a number that is too large
 abbrev pub number_fault : ℕ → List ℕ → Fault
-number_fault len text = record { kind = InvalidEntry (codes "number"); locations = span_of (place len text) (run (holds bytes.Digit) text).0 ∷ [] }
+number_fault len text = record { kind = InvalidEntry (codes "number"); locations = span_of (offset_of len text) (run (holds bytes.Digit) text).0 ∷ [] }
 
 -- over a bracket that may not open
 abbrev pub nesting_fault : Span → Fault
@@ -84,8 +84,8 @@ nesting_fault opens = record { kind = InvalidEntry (codes "nesting"); locations 
 -- the fault if there is no comma or `}` in a section whose `{` is at opening
 abbrev pub end_fault : ℕ → ℕ → List ℕ → Fault
 end_fault len opening text =
-    if begins 42 text then record { kind = unexpected_star; locations = byte_at (place len text) ∷ [] }
-    else error_over (ExpectedToken 125) opening (place len text)
+    if begins 42 text then record { kind = unexpected_star; locations = byte_at (offset_of len text) ∷ [] }
+    else error_over (ExpectedToken 125) opening (offset_of len text)
 
 -- one of these characters if the text begins with one, or else what c says
 abbrev pub one_of : List (ℕ × List ℕ) → Turn (Unit {0}) → Turn (Unit {0})
@@ -117,7 +117,7 @@ comma = case_of (codes ",") (do
 
 -- len is the whole text's length
 module _ (len : ℕ) where
-  unfoldable pub name : Strict (Placed Span)
+  unfoldable pub name : Strict (Located Span)
   name = word_or name_kind (name_at len) gives (fails (name_fault len))
 
   -- `name` or `name :: name`, and the white space after it
@@ -168,14 +168,14 @@ module _ (len : ℕ) where
     values ← elements setting
     here (λ closing. do
       expect (codes "]") (fault_at len (ExpectedToken 93))
-      here (λ behind. gives (Array (settings_of values) opens (between len closing behind))))
+      here (λ after. gives (Array (settings_of values) opens (between len closing after))))
 
   -- a setting, by what follows its bracket if it has one
   unfoldable pub bare_setting : (Span → Strict (ShownSetting Span)) → Strict (ShownSetting Span)
   bare_setting bracketed =
       choice (starts (holds bytes.Digit)) number
       (word_or text_kind (text_at len) (λ text. gives (Text text.0 text.1))
-      (here (λ opening. case_of (codes "[") (here (λ behind. bracketed (between len opening behind))) applied)))
+      (here (λ opening. case_of (codes "[") (here (λ after. bracketed (between len opening after))) applied)))
 
   -- the same, and the white space after it
   unfoldable pub setting_by : (Span → Strict (ShownSetting Span)) → Strict (ShownSetting Span)
@@ -201,7 +201,7 @@ module _ (len : ℕ) where
     gives (record { key = key.0; key_span = key.1; value = Flag false (record { start = start; end = key.1.end }) })
 
   -- what follows a key
-  unfoldable pub value_of : Placed Span → Lax Entry
+  unfoldable pub value_of : Located Span → Lax Entry
   value_of key = case_of (codes ":") (do
     white
     value ← setting most_brackets
@@ -216,7 +216,7 @@ module _ (len : ℕ) where
 
   -- an entry, and the white space after it
   unfoldable pub entry : Strict Entry
-  entry = here (λ text. case_of (codes "!") (negated (place len text)) affirmed)
+  entry = here (λ text. case_of (codes "!") (negated (offset_of len text)) affirmed)
 
   -- an entry, after which the list of entries continues if there is a comma; it also ends before `}` and at the text's end
   unfoldable pub entry_turn : Turn (Unit {0})
@@ -236,7 +236,7 @@ module _ (len : ℕ) where
     expect (codes "{") (fault_at len (ExpectedToken 123))
     white
     entries
-    expect (codes "}") (end_fault len (place len opening)))
+    expect (codes "}") (end_fault len (offset_of len opening)))
 
   -- if there is no section: it may be optional, or required
   unfoldable pub missing : Bool → List ℕ → Lax (List ℕ)

@@ -4,9 +4,9 @@ use Rattle.std.specs.Str.{bytes_eq}
 use Rattle.std.specs.declared.alloc.Global.{Global}
 use denote.Ref.{Bor}
 use Rattle.cfgbase.specs.declared.span.Span.{Span}
-use Rattle.reading.specs.Construct.{Says, computes}
-use Rattle.reading.specs.Read.{Read}
-use Rattle.cfgwords.specs.Text.{place}
+use Rattle.constructs.specs.Construct.{Says, computes}
+use Rattle.constructs.specs.Read.{Read}
+use Rattle.cfgwords.specs.Text.{offset_of}
 use Rattle.cfgerrors.specs.declared.header.HeaderError.{HeaderError}
 use Rattle.cfgsection.specs.declared.section.entry.Entry.{Entry as CodeEntry}
 use Rattle.cfgsection.specs.declared.section.header_fault.HeaderFault.{HeaderFault}
@@ -56,7 +56,7 @@ IsAfterSection text rest = (entries : List Entry) × (section_of false text ≡ 
 
 -- what an entry gives for its key
 abbrev pub given_by : Entry → ShownHeaderValue Span
-given_by entry = record { place = entry.key_span; value = entry.value }
+given_by entry = record { location = entry.key_span; value = entry.value }
 
 -- what the entries give for a key: at most one entry has it, if no key is given twice
 unfoldable pub given : List Entry → List ℕ → Option (ShownHeaderValue Span)
@@ -78,12 +78,12 @@ IsSectionRead shown (Err faults.OutOfMemory) = Unit {0}
 -- What is returned of one entry: its key, the key's span, its value, and the offset after it and the white space that follows.
 abbrev pub IsEntryAnswer : ℕ → Result (String Global × Span × Value Span × ℕ) HeaderFault → Result (Entry × List ℕ) Fault → Type 0
 IsEntryAnswer len (Ok (key, key_span, value, offset)) (Ok (entry, rest)) =
-    (entry ≡ record { key = string_bytes key; key_span = key_span; value = value_view value }) × (offset ≡ place len rest)
+    (entry ≡ record { key = string_bytes key; key_span = key_span; value = value_view value }) × (offset ≡ offset_of len rest)
 IsEntryAnswer len (Ok answer) (Err fault) = ⊥
 IsEntryAnswer len (Err faults.OutOfMemory) expected = Unit {0}
 IsEntryAnswer len (Err (faults.Errors errors)) (Ok expected) = ⊥
 IsEntryAnswer len (Err (faults.Errors errors)) (Err fault) = errors_view errors.items ≡ fault ∷ []
 
 -- What is returned of the entry at the start of the rest of a text of len bytes is what its reading gives, of which there is exactly one.
-abbrev pub AnswersEntry : ℕ → List ℕ → Result (String Global × Span × Value Span × ℕ) HeaderFault → Type 0
-AnswersEntry len text result = (read : Read Entry Fault Entry) → Says (entry len) text read → IsEntryAnswer len result read.outcome
+abbrev pub ReturnsEntry : ℕ → List ℕ → Result (String Global × Span × Value Span × ℕ) HeaderFault → Type 0
+ReturnsEntry len text result = (read : Read Entry Fault Entry) → Says (entry len) text read → IsEntryAnswer len result read.outcome

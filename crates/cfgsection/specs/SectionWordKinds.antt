@@ -1,6 +1,6 @@
 -- The kinds of words in a section. Each includes the proofs that its program finds exactly it, so this file refers to proofs.
 use Rattle.std.specs.Prelude.{ℕ, List}
-use Rattle.reading.specs.WordKind.{WordKind}
+use Rattle.constructs.specs.WordKind.{WordKind}
 use Rattle.cfgwords.specs.SectionWords.{IsName, IsText, name_of, text_of}
 use Rattle.cfgwords.specs.FileWords.{IsInteger, integer_of}
 use Rattle.cfgwords.proofs.Finders.{integer_finder, integer_shorter}

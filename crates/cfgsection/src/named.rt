@@ -4,7 +4,7 @@ ghost use Rattle.std.specs.Prelude.{◌≡◌, ◌∷◌, [], option_map, IfOk, 
 ghost use Rattle.cfgerrors.specs.HeaderErrors.{InvalidEntry, error_view};
 ghost use Rattle.cfgsection.specs.Named.{HasOneNaming, IsKindIfNamed, IsNaming, Naming, Names, first_part, kind_given};
 ghost use Rattle.cfgsection.specs.SectionRefusal.{ListsErrors};
-ghost use Rattle.cfgsection.specs.SectionPlaces.{IsFaultAt};
+ghost use Rattle.cfgsection.specs.SectionOffsets.{IsFaultAt};
 ghost use Rattle.cfgsection.specs.SectionReads.{IsAfterSection, entry_view, given_by};
 
 use crate::section::{Entry, HeaderFault, entry_of, section_entries};
@@ -54,7 +54,7 @@ pub fn kind_named(alloc: Global, text: &str) -> Result<(YaccKind, &str), HeaderF
     ensures one { HasOneNaming text.now }
     ensures naming { (naming : Naming) → Names text.now naming → IsNaming naming (first_part result) }
     ensures rest { IfOk result (λ x. IsAfterSection text.now x.1.now) }
-    ensures places { IfErr result (IsFaultAt text.now) }
+    ensures offsets { IfErr result (IsFaultAt text.now) }
     ensures listed { IfErr result ListsErrors }
 {
     let (entries, rest) = section_entries(alloc, text, true)?;
@@ -72,7 +72,7 @@ pub fn kind_named(alloc: Global, text: &str) -> Result<(YaccKind, &str), HeaderF
 pub fn kind_if_named(alloc: Global, text: &str) -> Result<(Option<YaccKind>, &str), HeaderFault>
     ensures naming { IsKindIfNamed text.now (first_part result) }
     ensures rest { IfOk result (λ x. IsAfterSection text.now x.1.now) }
-    ensures places { IfErr result (IsFaultAt text.now) }
+    ensures offsets { IfErr result (IsFaultAt text.now) }
     ensures listed { IfErr result ListsErrors }
 {
     let (entries, rest) = section_entries(alloc, text, false)?;

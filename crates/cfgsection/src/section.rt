@@ -12,10 +12,10 @@ mod settings;
 
 ghost use Rattle.std.specs.Prelude.{length, drop, IfOk, IfErr};
 ghost use Rattle.std.specs.Str.{IsCharBoundary, IsUtf8};
-ghost use Rattle.cfgwords.specs.Places.{IsPiece};
+ghost use Rattle.cfgwords.specs.TextSpans.{IsPiece};
 ghost use Rattle.cfgsection.specs.SectionRefusal.{ListsErrors};
-ghost use Rattle.cfgsection.specs.SectionPlaces.{IsFaultAt};
-ghost use Rattle.cfgsection.specs.SectionReads.{AnswersEntry, HasOneSection, IsSectionRead, section_of};
+ghost use Rattle.cfgsection.specs.SectionOffsets.{IsFaultAt};
+ghost use Rattle.cfgsection.specs.SectionReads.{ReturnsEntry, HasOneSection, IsSectionRead, section_of};
 
 use cfgbase::Span;
 use cfgkinds::Value;
@@ -24,7 +24,7 @@ use errors::{error_of, errors_found};
 use fault::ReadFault;
 pub use header_fault::HeaderFault;
 pub use laws::{
-    entry_is_graph, section_answers_its_reading, section_errors_are_at_places, section_is_graph,
+    entry_is_graph, section_errors_are_at_offsets, section_is_graph, section_returns_its_reading,
 };
 use read::read;
 use reader::Reader;
@@ -48,7 +48,7 @@ pub fn section_entries(
     ensures one { HasOneSection required text.now }
     ensures utf8 { IsUtf8 text.now }
     ensures answer { IsSectionRead (section_of required text.now) result }
-    ensures fault_places { IfErr result (IsFaultAt text.now) }
+    ensures fault_offsets { IfErr result (IsFaultAt text.now) }
     ensures listed { IfErr result ListsErrors }
 {
     let (entries, end) = read(alloc, text, required)?;
@@ -75,15 +75,15 @@ pub fn entry_at(
     i: usize,
 ) -> Result<(String, Span, Value<Span>, usize), HeaderFault>
     requires { IsCharBoundary text.now i }
-    ensures answer { AnswersEntry (length text.now) (drop i text.now) result }
-    ensures places { IfOk result (λ x. IsPiece text.now x.1 × IsCharBoundary text.now x.3) }
-    ensures fault_places { IfErr result (IsFaultAt text.now) }
+    ensures answer { ReturnsEntry (length text.now) (drop i text.now) result }
+    ensures offsets { IfOk result (λ x. IsPiece text.now x.1 × IsCharBoundary text.now x.3) }
+    ensures fault_offsets { IfErr result (IsFaultAt text.now) }
     ensures listed { IfErr result ListsErrors }
 {
     let (_, rest) = text.split_at(i);
     let mut reader = Reader::new(alloc, text.len(), rest);
     match reader.entry() {
-        Ok(entry) => Ok((entry.key, entry.key_span, entry.value, reader.place())),
+        Ok(entry) => Ok((entry.key, entry.key_span, entry.value, reader.offset())),
         Err(ReadFault::OutOfMemory) => Err(HeaderFault::OutOfMemory),
         Err(ReadFault::Fault(fault)) => {
             let mut errors = Vec::new(alloc);

@@ -1,1 +1,1 @@
-pub mod Beginnings
+pub mod Prefixes

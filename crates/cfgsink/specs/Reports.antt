@@ -5,7 +5,7 @@ use Rattle.std.specs.Io.KnownBytes.{Appends, Keeps}
 use Rattle.cfgsink.specs.declared.outcome.Outcome.{Outcome}
 use Rattle.cfgsink.specs.declared.outcome.ReportFault.{ReportFault}
 use Rattle.cfgsink.specs.declared.outcome.ReportFault.TheVariants as faults
-use Rattle.cfgsink.specs.Sinks.{AppendsBeginning}
+use Rattle.cfgsink.specs.Sinks.{AppendsPrefix}
 
 -- how many faults of its sink a report meets
 abbrev pub faults_met : Result Outcome ReportFault → ℕ
@@ -23,7 +23,7 @@ fault_text faults.OutOfMemory = codes "out of memory"
 abbrev pub WritesMade : {E : Type 0} → Result (Outcome × String Global) E → Option (List ℕ) → Option (List ℕ)
     → Result Outcome ReportFault → Type 0
 WritesMade (Ok made) old new (Ok outcome) = (outcome ≡ made.0) × Appends old new (string_bytes made.1)
-WritesMade (Ok made) old new (Err faults.Write) = AppendsBeginning old new (string_bytes made.1)
+WritesMade (Ok made) old new (Err faults.Write) = AppendsPrefix old new (string_bytes made.1)
 WritesMade (Ok made) old new (Err faults.OutOfMemory) = ⊥
 WritesMade (Err refused) old new (Err faults.OutOfMemory) = Keeps old new
 WritesMade (Err refused) old new answer = ⊥

@@ -10,7 +10,7 @@ use crate::outcome::{Outcome, ReportFault};
 use crate::sink::SinkFault;
 
 /// Two outcomes or faults are equal exactly if they are the same. A clone equals its source and allocates nothing.
-pub fn outcomes_are_told_apart()
+pub fn outcomes_are_distinct()
     ensures equal { (a b : Outcome) → IsTrue (⟦<Outcome as PartialEq>⟧.eq a b) ↔ (a ≡ b) }
     ensures clone { (a b : Outcome) → ⟦<Outcome as Clone>⟧.is_clone a b → b ≡ a }
     ensures cloned { (a : Outcome) → ⟦<Outcome as Clone>⟧.is_infallible a }

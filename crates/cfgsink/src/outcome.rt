@@ -67,7 +67,7 @@ pub fn write_report<W: Sink>(
     made: Result<(Outcome, String), AllocError>,
 ) -> Result<Outcome, ReportFault>
     requires { W.faults_counted out.old < 2 ^ 64 - 1 }
-    ensures told { WritesMade made (W.written out.old) (W.written out.new) result }
+    ensures reported { WritesMade made (W.written out.old) (W.written out.new) result }
     ensures faults { W.faults_counted out.new ≡ W.faults_counted out.old + faults_met result }
     ensures untouched { IsErrOf result variants.OutOfMemory → out.new ≡ out.old }
 {

@@ -4,7 +4,7 @@ ghost use Rattle.std.specs.Prelude.{◌≡◌, ℕ, ◌+◌, ◌-◌, ◌^◌, �
 ghost use Rattle.std.specs.Prelude.{OnOk, codes, length};
 ghost use Rattle.std.specs.Io.{WritesAtMost};
 ghost use Rattle.std.specs.Io.KnownBytes.{Appends, WriteAppends};
-ghost use Rattle.cfgsink.specs.Sinks.{AppendsBeginning, faults_of};
+ghost use Rattle.cfgsink.specs.Sinks.{AppendsPrefix, faults_of};
 
 use std::error::Error;
 use std::fmt;
@@ -92,7 +92,7 @@ pub fn write_whole<W: Sink>(out: &mut W, bytes: &[u8]) -> Result<(), SinkFault>
     requires { W.faults_counted out.old < 2 ^ 64 - 1 }
     ensures ok { OnOk result (Appends (W.written out.old) (W.written out.new) bytes.now) }
     ensures ok_faults { OnOk result (W.faults_counted out.new ≡ W.faults_counted out.old) }
-    ensures err { OnErr result (AppendsBeginning (W.written out.old) (W.written out.new) bytes.now) }
+    ensures err { OnErr result (AppendsPrefix (W.written out.old) (W.written out.new) bytes.now) }
     ensures err_faults { OnErr result (W.faults_counted out.new ≡ W.faults_counted out.old + 1) }
 {
     let mut taken = 0;

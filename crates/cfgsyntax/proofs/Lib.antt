@@ -1,5 +1,5 @@
-mod Behind
-pub mod ErrorPlaces
+mod After
+pub mod ErrorOffsets
 pub mod OfItselfLemmas
 pub mod OneReading
 pub mod SoundLemmas

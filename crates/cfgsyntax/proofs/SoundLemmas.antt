@@ -39,8 +39,8 @@ without_first None more e = e
 without_first (Some error) more e = cc
 
 -- all checks except that of the start
-abbrev asked : Syntax → Option GrammarError
-asked s =
+abbrev requested : Syntax → Option GrammarError
+requested s =
     option_or (first_error (rule_error s) s.rules)
     (option_or (first_error (printed_error s) s.tables.printed_forms) (first_error (symbol_error s) s.expect_unused))
 
@@ -59,6 +59,6 @@ IsSound-restarted s errors word sound there = record {
     implicit_are_tokens = sound.well_formed.implicit_are_tokens;
   };
   rules_are_names = sound.rules_are_names;
-  checked = λ none. ap (λ known. option_or (if known then None else Some (error_at (InvalidStartRule word.name) word.span)) (asked s)) there
-      ∙ without_first (start_error s s.start) (asked s) (sound.checked none);
+  checked = λ none. ap (λ known. option_or (if known then None else Some (error_at (InvalidStartRule word.name) word.span)) (requested s)) there
+      ∙ without_first (start_error s s.start) (requested s) (sound.checked none);
 }

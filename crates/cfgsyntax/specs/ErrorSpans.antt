@@ -20,4 +20,4 @@ pub record EachParsedSpan (P Q : Span → Type 0) (parsed : Parsed) : Type 0 whe
 -- P holds of each span of the errors; running out of memory has none.
 abbrev pub EachFaultSpan : (Span → Type 0) → YaccFault → Type 0
 EachFaultSpan P faults.OutOfMemory = Unit {0}
-EachFaultSpan P (faults.Errors told) = All (EachErrorSpan P) told.items
+EachFaultSpan P (faults.Errors reported) = All (EachErrorSpan P) reported.items

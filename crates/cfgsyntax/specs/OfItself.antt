@@ -21,28 +21,28 @@ pub record IsParsedAs (kind : YaccKind) (text : List ℕ) (parsed : Parsed) : Ty
   pub errors : (items : List Item) (stop : Option Stop) → Reads kind text items stop → parsed.errors ≡ errors_of items stop
 
 -- for a text that names this kind
-abbrev pub AnswersKind : YaccKind → List ℕ → Result Parsed YaccFault → Type 0
-AnswersKind kind text (Ok parsed) = IsParsedAs kind text parsed
-AnswersKind kind text (Err faults.OutOfMemory) = Unit {0}
-AnswersKind kind text (Err (faults.Errors told)) = ⊥
+abbrev pub ReturnsKind : YaccKind → List ℕ → Result Parsed YaccFault → Type 0
+ReturnsKind kind text (Ok parsed) = IsParsedAs kind text parsed
+ReturnsKind kind text (Err faults.OutOfMemory) = Unit {0}
+ReturnsKind kind text (Err (faults.Errors reported)) = ⊥
 
 -- for a text that names none, because of these errors
-abbrev pub AnswersErrors : List GrammarError → Result Parsed YaccFault → Type 0
-AnswersErrors errors (Ok parsed) = ⊥
-AnswersErrors errors (Err faults.OutOfMemory) = Unit {0}
-AnswersErrors errors (Err (faults.Errors told)) = told.items ≡ errors
+abbrev pub ReturnsErrors : List GrammarError → Result Parsed YaccFault → Type 0
+ReturnsErrors errors (Ok parsed) = ⊥
+ReturnsErrors errors (Err faults.OutOfMemory) = Unit {0}
+ReturnsErrors errors (Err (faults.Errors reported)) = reported.items ≡ errors
 
-abbrev pub AnswersNaming : List ℕ → Naming → Result Parsed YaccFault → Type 0
-AnswersNaming text (Ok kind) result = AnswersKind kind text result
-AnswersNaming text (Err errors) result = AnswersErrors (map header_error errors) result
+abbrev pub ReturnsNaming : List ℕ → Naming → Result Parsed YaccFault → Type 0
+ReturnsNaming text (Ok kind) result = ReturnsKind kind text result
+ReturnsNaming text (Err errors) result = ReturnsErrors (map header_error errors) result
 
 -- The text names a kind, or has errors that keep it from naming one, and this is the result.
-abbrev pub AnswersItself : List ℕ → Result Parsed YaccFault → Type 0
-AnswersItself text result = (NamesNoKind text → ⊥) × ((naming : Naming) × Names text naming × AnswersNaming text naming result)
+abbrev pub ReturnsItself : List ℕ → Result Parsed YaccFault → Type 0
+ReturnsItself text result = (NamesNoKind text → ⊥) × ((naming : Naming) × Names text naming × ReturnsNaming text naming result)
 
 -- for a text that is read as a file of this kind if it names none
-abbrev pub AnswersOr : YaccKind → List ℕ → Result (Parsed × KindSource) YaccFault → Type 0
-AnswersOr default text (Ok (parsed, sources.Default)) = NamesNoKind text × IsParsedAs default text parsed
-AnswersOr default text (Ok (parsed, sources.Section)) = AnswersItself text (Ok parsed)
-AnswersOr default text (Err faults.OutOfMemory) = Unit {0}
-AnswersOr default text (Err (faults.Errors told)) = AnswersItself text (Err (faults.Errors told))
+abbrev pub ReturnsOr : YaccKind → List ℕ → Result (Parsed × KindSource) YaccFault → Type 0
+ReturnsOr default text (Ok (parsed, sources.Default)) = NamesNoKind text × IsParsedAs default text parsed
+ReturnsOr default text (Ok (parsed, sources.Section)) = ReturnsItself text (Ok parsed)
+ReturnsOr default text (Err faults.OutOfMemory) = Unit {0}
+ReturnsOr default text (Err (faults.Errors reported)) = ReturnsItself text (Err (faults.Errors reported))

@@ -1,8 +1,8 @@
 -- A reading of a text: of its section, and of the file after that. The items that count as read, and what stopped the reading, if anything
 -- did.
 use Rattle.std.specs.Prelude.{◌≡◌, ℕ, false, List, [], length, Option, Some, option_map, Result, Ok, Err}
-use Rattle.reading.specs.Construct.{Says}
-use Rattle.reading.specs.Read.{Read, stop_of}
+use Rattle.constructs.specs.Construct.{Says}
+use Rattle.constructs.specs.Read.{Read, stop_of}
 use Rattle.cfgbase.specs.declared.span.Span.{Span}
 use Rattle.cfgwords.specs.declared.fault.Fault.{Fault}
 use Rattle.cfgast.specs.Items.{Item}
@@ -25,16 +25,16 @@ pub record ReadsFile (kind : YaccKind) (len : ℕ) (rest : List ℕ) (items : Li
   pub stop_is : option_map InFile (stop_of read.outcome) ≡ stop
 
 -- the same of the whole text, if its section is such: after a section with errors nothing is read
-abbrev pub ReadsBehind : YaccKind → ℕ → Result (List Entry × List ℕ) (List (ShownError Span)) → List Item → Option Stop → Type 0
-ReadsBehind kind len (Err errors) items stop = (items ≡ []) × (stop ≡ Some (InSection errors))
-ReadsBehind kind len (Ok (entries, rest)) items stop = ReadsFile kind len rest items stop
+abbrev pub ReadsAfter : YaccKind → ℕ → Result (List Entry × List ℕ) (List (ShownError Span)) → List Item → Option Stop → Type 0
+ReadsAfter kind len (Err errors) items stop = (items ≡ []) × (stop ≡ Some (InSection errors))
+ReadsAfter kind len (Ok (entries, rest)) items stop = ReadsFile kind len rest items stop
 
 -- The text has a section or none, and after that a file of this kind, up to stop.
 pub record Reads (kind : YaccKind) (text : List ℕ) (items : List Item) (stop : Option Stop) : Type 0 where
   pub entries : List Entry
   pub end : Result (List ℕ) SectionFault
   pub section : IsSection false text entries end
-  pub behind : ReadsBehind kind (length text) (section_answer entries end) items stop
+  pub after : ReadsAfter kind (length text) (section_answer entries end) items stop
 
 -- Exactly one pair of items and stop is a reading of the text.
 pub record HasOneReading (kind : YaccKind) (text : List ℕ) : Type 0 where

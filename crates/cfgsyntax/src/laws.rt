@@ -6,7 +6,7 @@ ghost use Rattle.cfgsyntax.specs.declared.yacc.ast.source.KindSource.{KindSource
 use crate::yacc::ast::KindSource;
 
 /// Two kind sources are equal exactly if they are the same. A clone equals its source and allocates nothing.
-pub fn kind_sources_are_told_apart()
+pub fn kind_sources_are_distinct()
     ensures equal { (a b : KindSource) → IsTrue (⟦<KindSource as PartialEq>⟧.eq a b) ↔ (a ≡ b) }
     ensures clone { (a b : KindSource) → ⟦<KindSource as Clone>⟧.is_clone a b → b ≡ a }
     ensures cloned { (a : KindSource) → ⟦<KindSource as Clone>⟧.is_infallible a }

@@ -5,7 +5,7 @@ ghost use Rattle.cfgast.specs.Items.{Item};
 ghost use Rattle.cfgast.specs.Syntax.{syntax_of};
 ghost use Rattle.cfgtree.specs.TreeView.{syntax};
 ghost use Rattle.cfgsyntax.specs.Reads.{HasOneReading, InFile, Reads, Stop};
-ghost use Rattle.cfgsyntax.specs.Inner.Steps.{IsReadBehind, IsReadSection, stop_view};
+ghost use Rattle.cfgsyntax.specs.Inner.Steps.{IsReadAfter, IsReadSection, stop_view};
 
 use cfgast::Syntax;
 use cfgbase::Span;
@@ -43,14 +43,14 @@ fn stop_in_file(fault: Option<Fault>) -> Option<Stopped>
 
 /// Reads the rest of a text of `len` bytes after its section: what was read, and what stopped the reading, if anything
 /// did.
-fn read_behind(
+fn read_after(
     alloc: Global,
     kind: YaccKind,
     len: usize,
     rest: &str,
 ) -> Result<(GrammarAST, Option<Stopped>), AllocError>
     requires { length rest.now ≤ len }
-    ensures { IfOk result (IsReadBehind kind len rest.now) }
+    ensures { IfOk result (IsReadAfter kind len rest.now) }
 {
     let (syntax, fault) = read_file(alloc, kind, len, rest)?;
     Ok((tree_of(syntax), stop_in_file(fault)))
@@ -70,7 +70,7 @@ pub(crate) fn read(
         → (syntax x.0 ≡ syntax_of items) × (option_map stop_view x.1 ≡ stop)) }
 {
     match rest {
-        Ok(rest) => read_behind(alloc, kind, text.len(), rest),
+        Ok(rest) => read_after(alloc, kind, text.len(), rest),
         Err(HeaderFault::Errors(errors)) => {
             let nothing = Syntax::none(alloc);
             Ok((tree_of(nothing), Some(Stopped::Section(errors))))

@@ -5,9 +5,9 @@ ghost use Rattle.cfgast.specs.Building.{has_entry, has_name, has_rule};
 ghost use Rattle.cfgast.specs.SyntaxView.{symbol_view, production_view};
 ghost use Rattle.cfgtree.specs.TreeView.{syntax};
 ghost use Rattle.cfgtree.specs.Check.{start_error, symbol_error};
-ghost use Rattle.cfgtree.specs.Check.{precedence_error, production_error, printed_error, place_error, rule_error};
+ghost use Rattle.cfgtree.specs.Check.{precedence_error, production_error, printed_error, locate_error, rule_error};
 ghost use Rattle.cfgtree.specs.Check.{first_error, check_of};
-ghost use Rattle.cfgsyntax.specs.Inner.Unfit.{found, unfit_error};
+ghost use Rattle.cfgsyntax.specs.Inner.ValidationError.{found, validation_error};
 
 use cfgast::{Production, Rule, Symbol};
 use cfgbase::Span;
@@ -20,7 +20,7 @@ use std::alloc::{AllocError, Global};
 
 /// What a check finds wrong. It borrows the name, so checks allocate nothing.
 #[derive(Drop)]
-pub(crate) enum Unfit<'a> {
+pub(crate) enum ValidationError<'a> {
     /// No rule is the start.
     NoStart,
     /// The start, with its name and span, is not a rule.
@@ -36,25 +36,37 @@ pub(crate) enum Unfit<'a> {
     PrintedForm(&'a str, Span),
 }
 
-impl Unfit<'_> {
+impl ValidationError<'_> {
     /// The error for this finding.
     ///
     /// # Errors
     ///
     /// `AllocError` if an allocation fails.
     pub(crate) fn error(self, alloc: Global) -> Result<YaccGrammarError, AllocError>
-        ensures { IfOk result (λ error. error ≡ unfit_error self.entry) }
+        ensures { IfOk result (λ error. error ≡ validation_error self.entry) }
     {
         let (kind, span) = match self {
-            Unfit::NoStart => (NoStartRule, Span::new(0, 0)),
-            Unfit::Start(name, span) => (InvalidStartRule(String::from_str(alloc, name)?), span),
-            Unfit::Rule(name, span) => (UnknownRuleRef(String::from_str(alloc, name)?), span),
-            Unfit::Token(name, span) => (UnknownToken(String::from_str(alloc, name)?), span),
-            Unfit::Precedence(name) => (
+            ValidationError::NoStart => (NoStartRule, Span::new(0, 0)),
+            ValidationError::Start(name, span) => (
+                InvalidStartRule(String::from_str(alloc, name)?),
+                span,
+            ),
+            ValidationError::Rule(name, span) => (
+                UnknownRuleRef(String::from_str(alloc, name)?),
+                span,
+            ),
+            ValidationError::Token(name, span) => (
+                UnknownToken(String::from_str(alloc, name)?),
+                span,
+            ),
+            ValidationError::Precedence(name) => (
                 NoPrecForToken(String::from_str(alloc, name)?),
                 Span::new(0, 0),
             ),
-            Unfit::PrintedForm(name, span) => (UnknownEPP(String::from_str(alloc, name)?), span),
+            ValidationError::PrintedForm(name, span) => (
+                UnknownEPP(String::from_str(alloc, name)?),
+                span,
+            ),
         };
         error_at(alloc, kind, span)
     }
@@ -73,24 +85,24 @@ fn has_token(ast: &GrammarAST, name: &str) -> bool
     ast.has_token(name)
 }
 
-fn check_start(ast: &GrammarAST) -> Result<(), Unfit<'_>>
+fn check_start(ast: &GrammarAST) -> Result<(), ValidationError<'_>>
     ensures { found result ≡ start_error (syntax ast.now) (syntax ast.now).start }
 {
     match ast.start() {
-        None => Err(Unfit::NoStart),
+        None => Err(ValidationError::NoStart),
         Some((name, _)) if has_rule(ast, name.as_str()) => Ok(()),
-        Some((name, span)) => Err(Unfit::Start(name.as_str(), *span)),
+        Some((name, span)) => Err(ValidationError::Start(name.as_str(), *span)),
     }
 }
 
-fn check_symbol<'a>(ast: &GrammarAST, symbol: &'a Symbol) -> Result<(), Unfit<'a>>
+fn check_symbol<'a>(ast: &GrammarAST, symbol: &'a Symbol) -> Result<(), ValidationError<'a>>
     ensures { found result ≡ symbol_error (syntax ast.now) (symbol_view symbol.now) }
 {
     match symbol {
         Symbol::Rule(name, _) if has_rule(ast, name.as_str()) => Ok(()),
-        Symbol::Rule(name, span) => Err(Unfit::Rule(name.as_str(), *span)),
+        Symbol::Rule(name, span) => Err(ValidationError::Rule(name.as_str(), *span)),
         Symbol::Token(name, _) if has_token(ast, name.as_str()) => Ok(()),
-        Symbol::Token(name, span) => Err(Unfit::Token(name.as_str(), *span)),
+        Symbol::Token(name, span) => Err(ValidationError::Token(name.as_str(), *span)),
     }
 }
 
@@ -100,20 +112,23 @@ fn has_precedence(ast: &GrammarAST, name: &str) -> bool
     ast.precs().contains_key(name)
 }
 
-fn check_precedence<'a>(ast: &GrammarAST, token: &'a Option<String>) -> Result<(), Unfit<'a>>
+fn check_precedence<'a>(
+    ast: &GrammarAST,
+    token: &'a Option<String>,
+) -> Result<(), ValidationError<'a>>
     ensures { found result ≡ precedence_error (syntax ast.now) (option_map string_bytes token.now) }
 {
     match token {
         None => Ok(()),
         Some(name) if !has_token(ast, name.as_str()) => {
-            Err(Unfit::Token(name.as_str(), Span::new(0, 0)))
+            Err(ValidationError::Token(name.as_str(), Span::new(0, 0)))
         }
         Some(name) if has_precedence(ast, name.as_str()) => Ok(()),
-        Some(name) => Err(Unfit::Precedence(name.as_str())),
+        Some(name) => Err(ValidationError::Precedence(name.as_str())),
     }
 }
 
-fn check_symbols<'a>(ast: &GrammarAST, symbols: &'a [Symbol]) -> Result<(), Unfit<'a>>
+fn check_symbols<'a>(ast: &GrammarAST, symbols: &'a [Symbol]) -> Result<(), ValidationError<'a>>
     ensures { found result ≡ first_error (symbol_error (syntax ast.now)) (map symbol_view symbols.now) }
 {
     for symbol in symbols {
@@ -122,32 +137,35 @@ fn check_symbols<'a>(ast: &GrammarAST, symbols: &'a [Symbol]) -> Result<(), Unfi
     Ok(())
 }
 
-fn check_production<'a>(ast: &GrammarAST, production: &'a Production) -> Result<(), Unfit<'a>>
+fn check_production<'a>(
+    ast: &GrammarAST,
+    production: &'a Production,
+) -> Result<(), ValidationError<'a>>
     ensures { found result ≡ production_error (syntax ast.now) (production_view production.now) }
 {
     check_precedence(ast, &production.precedence)?;
     check_symbols(ast, &production.symbols)
 }
 
-fn check_place(ast: &GrammarAST, place: usize) -> Result<(), Unfit<'_>>
-    ensures { found result ≡ place_error (syntax ast.now) place }
+fn check_index(ast: &GrammarAST, index: usize) -> Result<(), ValidationError<'_>>
+    ensures { found result ≡ locate_error (syntax ast.now) index }
 {
-    match ast.prods().get(place) {
+    match ast.prods().get(index) {
         None => Ok(()),
         Some(production) => check_production(ast, production),
     }
 }
 
-fn check_rule<'a>(ast: &'a GrammarAST, rule: &Rule) -> Result<(), Unfit<'a>>
-    ensures { found result ≡ first_error (place_error (syntax ast.now)) rule.now.pidxs.items }
+fn check_rule<'a>(ast: &'a GrammarAST, rule: &Rule) -> Result<(), ValidationError<'a>>
+    ensures { found result ≡ first_error (locate_error (syntax ast.now)) rule.now.pidxs.items }
 {
-    for place in &rule.pidxs {
-        check_place(ast, *place)?;
+    for index in &rule.pidxs {
+        check_index(ast, *index)?;
     }
     Ok(())
 }
 
-fn check_rules(ast: &GrammarAST) -> Result<(), Unfit<'_>>
+fn check_rules(ast: &GrammarAST) -> Result<(), ValidationError<'_>>
     ensures { found result ≡ first_error (rule_error (syntax ast.now)) (syntax ast.now).rules }
 {
     for (_, rule) in ast.rules() {
@@ -156,12 +174,12 @@ fn check_rules(ast: &GrammarAST) -> Result<(), Unfit<'_>>
     Ok(())
 }
 
-fn check_printed_forms(ast: &GrammarAST) -> Result<(), Unfit<'_>>
+fn check_printed_forms(ast: &GrammarAST) -> Result<(), ValidationError<'_>>
     ensures { found result ≡ first_error (printed_error (syntax ast.now)) (syntax ast.now).tables.printed_forms }
 {
     for (name, (span, _)) in ast.epp() {
         if !has_token(ast, name.as_str()) {
-            return Err(Unfit::PrintedForm(name.as_str(), *span));
+            return Err(ValidationError::PrintedForm(name.as_str(), *span));
         }
     }
     Ok(())
@@ -175,7 +193,7 @@ fn check_printed_forms(ast: &GrammarAST) -> Result<(), Unfit<'_>>
 ///
 /// The first check that the syntax fails.
 #[tactic(auto, unfolding(cfgtree::specs::Check::check_of))]
-pub(crate) fn check(ast: &GrammarAST) -> Result<(), Unfit<'_>>
+pub(crate) fn check(ast: &GrammarAST) -> Result<(), ValidationError<'_>>
     ensures { found result ≡ check_of (syntax ast.now) }
 {
     check_start(ast)?;

@@ -1,2 +1,2 @@
-pub mod Placed
+pub mod Located
 pub mod Slices

@@ -6,9 +6,9 @@ abbrev pub nth_production : Grammar → ℕ → Production
 nth_production g p = slice_index_or g.productions p (record { rule = 0; symbols = [] })
 
 -- the numbers of a rule's productions
-pub record ArePlacesOf (g : Grammar) (rule : ℕ) (places : List ℕ) : Type 0 where
-  pub within : All (λ p. p < length g.productions) places
-  pub listed : (p : ℕ) → p < length g.productions → (Contains places p ↔ ((nth_production g p).rule ≡ rule))
+pub record ArePositionsOf (g : Grammar) (rule : ℕ) (positions : List ℕ) : Type 0 where
+  pub within : All (λ p. p < length g.productions) positions
+  pub listed : (p : ℕ) → p < length g.productions → (Contains positions p ↔ ((nth_production g p).rule ≡ rule))
 
 -- a grammar, how often each of its productions was opened, and how often in total
 pub record Counts : Type 0 where

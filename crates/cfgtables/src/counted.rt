@@ -2,7 +2,7 @@
 
 ghost use Rattle.std.specs.Prelude.{◌≡◌, ◌^◌, ◌<◌, ◌≤◌, All, length, map, replicate, IfOk};
 ghost use Rattle.derivation.specs.Grammar.{Grammar, IsGrammar};
-ghost use Rattle.cfgtables.specs.Openings.{ArePlacesOf, nth_production};
+ghost use Rattle.cfgtables.specs.Openings.{ArePositionsOf, nth_production};
 ghost use Rattle.cfgtables.specs.NumberedSymbols.{sym_of};
 
 use crate::productions::Productions;
@@ -50,7 +50,7 @@ pub trait Tables<S: Storage> {
     /// The productions of a rule.
     fn rule_to_prods(&self, ridx: RIdx<S>) -> &[PIdx<S>]
         requires { S.number ridx.0 < (grammar self.now).rules }
-        ensures { ArePlacesOf (grammar self.now) (S.number ridx.0) (map (λ p. S.number p.0) result.now) };
+        ensures { ArePositionsOf (grammar self.now) (S.number ridx.0) (map (λ p. S.number p.0) result.now) };
 
     /// The symbols of a production.
     fn prod(&self, pidx: PIdx<S>) -> &[Symbol<S>]

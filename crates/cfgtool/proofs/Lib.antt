@@ -1,6 +1,6 @@
 pub mod OfText
 pub mod SentenceTexts
 pub mod SentencesListed
-pub mod Told
-pub mod WarningPlaces
+pub mod Reported
+pub mod WarningPositions
 pub mod Written

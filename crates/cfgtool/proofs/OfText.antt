@@ -9,7 +9,7 @@ use Rattle.cfgsink.specs.declared.outcome.ReportFault.{ReportFault}
 use Rattle.cfgsink.specs.declared.outcome.ReportFault.TheVariants as faults
 use Rattle.cfgsink.specs.Reports.{WritesMade}
 use Rattle.cfgdriver.specs.ReadText.{IsMadeOf}
-use Rattle.cfgtool.specs.Report.{IsReport, IsReported, Tells}
+use Rattle.cfgtool.specs.Report.{IsReport, IsReported, Reports}
 use Rattle.cfgtool.specs.ReportLines.{error_lines}
 
 module _ (AreLines : Syntax → Numbered → List ℕ → Type 0) (text : List ℕ) where
@@ -27,12 +27,12 @@ module _ (AreLines : Syntax → Numbered → List ℕ → Type 0) (text : List �
       subst (λ outcome. IsReport AreLines text (WasRead parsed) outcome (string_bytes report.1)) (sym made.0) (valid, fits, made.1)
 
   -- and what is written of it is reported for the text
-  pub made_told : {E : Type 0} (found : Found) (made : Result (Outcome × String Global) E) (old new : Option (List ℕ)) (answer : Result Outcome ReportFault)
-      → IfOk made (IsMadeReport found) → WritesMade made old new answer → Tells AreLines text found old new answer
-  made_told found (Ok made) old new (Ok outcome) is (same, appends) =
+  pub made_reported : {E : Type 0} (found : Found) (made : Result (Outcome × String Global) E) (old new : Option (List ℕ)) (answer : Result Outcome ReportFault)
+      → IfOk made (IsMadeReport found) → WritesMade made old new answer → Reports AreLines text found old new answer
+  made_reported found (Ok made) old new (Ok outcome) is (same, appends) =
       (string_bytes made.1, subst (λ outcome. IsReport AreLines text found outcome (string_bytes made.1)) (sym same) (reported found made is), appends)
-  made_told found (Ok made) old new (Err faults.Write) is began = (made.0, string_bytes made.1, reported found made is, began)
-  made_told found (Ok made) old new (Err faults.OutOfMemory) is wrong = absurd wrong
-  made_told found (Err refused) old new (Err faults.OutOfMemory) is keeps = keeps
-  made_told found (Err refused) old new (Ok outcome) is wrong = absurd wrong
-  made_told found (Err refused) old new (Err faults.Write) is wrong = absurd wrong
+  made_reported found (Ok made) old new (Err faults.Write) is began = (made.0, string_bytes made.1, reported found made is, began)
+  made_reported found (Ok made) old new (Err faults.OutOfMemory) is wrong = absurd wrong
+  made_reported found (Err refused) old new (Err faults.OutOfMemory) is keeps = keeps
+  made_reported found (Err refused) old new (Ok outcome) is wrong = absurd wrong
+  made_reported found (Err refused) old new (Err faults.Write) is wrong = absurd wrong

@@ -6,12 +6,12 @@ use Rattle.std.proofs.lemmas.List.Elements.{All-nil, Contains-get_or}
 use Rattle.cfgrammar.specs.Grammar.{Sym, Grammar, IsGrammar, HasProduction}
 use Rattle.cfgrammar.specs.Sentence.{cost_of}
 use Rattle.cfgrammar.specs.Costs.{Minimal}
-use Rattle.cfgrammar.specs.Generator.{HasNone, IsTooDear}
-use Rattle.cfgrammar.specs.FirstSentence.{dictionary}
+use Rattle.cfgrammar.specs.Generator.{HasNone, IsTooLarge}
+use Rattle.cfgrammar.specs.FirstSentence.{lexicographic}
 use Rattle.cfgrammar.specs.Sentences.{ListsMinimal}
 use Rattle.cfgrammar.proofs.SentenceTokens.{sentence_tokens}
 
-none_sorted : IsStrictlySortedBy dictionary []
+none_sorted : IsStrictlySortedBy lexicographic []
 unfolding IsStrictlySortedBy
 none_sorted = tt
 
@@ -20,26 +20,26 @@ none_contained w h = let within = h.1 in omega (arith, within)
 
 module _ (P : ℕ → List Sym → Type 0) (cost : ℕ → ℕ) (r : ℕ) where
   pub listed : (sentences : List (List ℕ)) → ((w : List ℕ) → Contains sentences w ↔ Minimal P cost r w)
-      → IsStrictlySortedBy dictionary sentences → (IsTooDear P cost r → ⊥) → ListsMinimal P cost r sentences
+      → IsStrictlySortedBy lexicographic sentences → (IsTooLarge P cost r → ⊥) → ListsMinimal P cost r sentences
   listed sentences all order cheap = record { all = λ w. (λ h. let m = (all w).0 h in (m, low w m), λ h. (all w).1 h.0); order = order }
     where
       low : (w : List ℕ) → Minimal P cost r w → cost_of cost w ≤ 65535
       low w m = elim (cases_lt 65535 (cost_of cost w)) [
-        | inl dear ↦ absurd (cheap ((w, m.0), λ v s. let least = m.1 v s in omega (arith, dear, least)))
+        | inl too_large ↦ absurd (cheap ((w, m.0), λ v s. let least = m.1 v s in omega (arith, too_large, least)))
         | inr paid ↦ paid
       ]
 
   none_listed : ((w : List ℕ) → Minimal P cost r w → 65535 < cost_of cost w) → ListsMinimal P cost r []
-  none_listed dear = record {
-    all = λ w. (λ h. absurd (none_contained w h), λ h. let more = dear w h.0 in let few = h.1 in absurd (omega (arith, more, few)));
+  none_listed too_large = record {
+    all = λ w. (λ h. absurd (none_contained w h), λ h. let more = too_large w h.0 in let few = h.1 in absurd (omega (arith, more, few)));
     order = none_sorted;
   }
 
   pub none_there : (sentences : List (List ℕ)) → sentences ≡ [] → HasNone P r → ListsMinimal P cost r sentences
   none_there sentences empty none = subst (ListsMinimal P cost r) (sym empty) (none_listed (λ w m. absurd (none w m.0)))
 
-  pub none_cheap : (sentences : List (List ℕ)) → sentences ≡ [] → IsTooDear P cost r → ListsMinimal P cost r sentences
-  none_cheap sentences empty dear = subst (ListsMinimal P cost r) (sym empty) (none_listed (λ w m. dear.1 w m.0))
+  pub none_cheap : (sentences : List (List ℕ)) → sentences ≡ [] → IsTooLarge P cost r → ListsMinimal P cost r sentences
+  none_cheap sentences empty too_large = subst (ListsMinimal P cost r) (sym empty) (none_listed (λ w m. too_large.1 w m.0))
 
 pub all_of_none : (Q : List ℕ → Type 0) (sentences : List (List ℕ)) → sentences ≡ [] → All Q sentences
 all_of_none Q sentences empty = subst (All Q) (sym empty) (All-nil Q)

@@ -11,7 +11,7 @@ use Rattle.cfgtool.specs.TokenSets.{Adds}
 pub record AreWritten {A : Type 0} (text_of : ℕ × A → List ℕ) (elements : List A) (before : List ℕ) (left : Range ℕ) (lines : List ℕ) : Type 0 where
   pub all : left.end ≡ length elements
   pub within : left.start ≤ left.end
-  pub told : lines ≡ before ++ flat_map text_of (take left.start (enumerate_from 0 elements))
+  pub reported : lines ≡ before ++ flat_map text_of (take left.start (enumerate_from 0 elements))
 
 pub none_written : {A : Type 0} (text_of : ℕ × A → List ℕ) (elements : List A) (before : List ℕ) (left : Range ℕ)
     → left ≡ record { start = 0; end = length elements } → AreWritten text_of elements before left before
@@ -20,7 +20,7 @@ none_written text_of elements before left all =
     record {
       all = ap (λ (r : Range ℕ). r.end) all;
       within = omega (arith, start);
-      told = sym (append-nil before) ∙ ap (λ k. before ++ flat_map text_of (take k (enumerate_from 0 elements))) (sym start);
+      reported = sym (append-nil before) ∙ ap (λ k. before ++ flat_map text_of (take k (enumerate_from 0 elements))) (sym start);
     }
 
 module _ {A : Type 0} (text_of : ℕ × A → List ℕ) (elements : List A) (before : List ℕ) (left : Range ℕ) (lines : List ℕ) (here : AreWritten text_of elements before left lines) where
@@ -35,11 +35,11 @@ module _ {A : Type 0} (text_of : ℕ × A → List ℕ) (elements : List A) (bef
       record {
         all = end ∙ here.all;
         within = omega arith;
-        told = added ∙ ap (λ t. t ++ text) here.told ∙ append_assoc before (flat_map text_of (take left.start counted)) text
+        reported = added ∙ ap (λ t. t ++ text) here.reported ∙ append_assoc before (flat_map text_of (take left.start counted)) text
             ∙ ap (λ t. before ++ t) (one_more_shown text_of elements left.start text first_shown ∙ ap (λ k. flat_map text_of (take k counted)) (sym start));
       }
 
   pub all_written : left.end ≤ left.start → lines ≡ before ++ flat_map text_of (enumerate_from 0 elements)
   all_written over =
-      here.told ∙ ap (λ t. before ++ flat_map text_of t)
+      here.reported ∙ ap (λ t. before ++ flat_map text_of t)
       (take_all left.start (enumerate_from 0 elements) (omega (arith, over, here.all, length-enumerate_from 0 elements)))

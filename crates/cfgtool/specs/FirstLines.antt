@@ -2,14 +2,14 @@
 use Rattle.std.specs.Prelude.{◌≡◌, ◌↔◌, ℕ, List, [], ◌++◌, Bool, IsTrue, if◌then◌else◌, codes}
 use Rattle.std.specs.List.{flat_map, enumerate_from}
 use Rattle.cfgrammar.specs.Grammar.{HasProduction}
-use Rattle.cfgrammar.specs.First.{First, Empty}
+use Rattle.cfgrammar.specs.First.{First, Nullable}
 use Rattle.cfgrammar.specs.Numbered.{Numbered, NumberedRule, core}
 use Rattle.cfgtool.specs.TokenSets.{set_word}
 
 -- `begins` says of a rule and a token, and `empty` of a rule, exactly what derivations show
-pub record TellsFirst (g : Numbered) (begins : ℕ → ℕ → Bool) (empty : ℕ → Bool) : Type 0 where
+pub record ReportsFirst (g : Numbered) (begins : ℕ → ℕ → Bool) (empty : ℕ → Bool) : Type 0 where
   pub begins_is : (r t : ℕ) → (IsTrue (begins r t) ↔ First (HasProduction (core g)) r t)
-  pub empty_is : (r : ℕ) → (IsTrue (empty r) ↔ Empty (HasProduction (core g)) r)
+  pub empty_is : (r : ℕ) → (IsTrue (empty r) ↔ Nullable (HasProduction (core g)) r)
 
 abbrev pub empty_word : Bool → List ℕ
 empty_word empty = if empty then codes " %empty" else []
@@ -25,4 +25,4 @@ first_lines g begins empty = flat_map (first_line g begins empty) (enumerate_fro
 
 -- the lines of a grammar's rules, in the order of their indices
 abbrev pub AreFirstLines : Numbered → List ℕ → Type 0
-AreFirstLines g lines = (begins : ℕ → ℕ → Bool) × (empty : ℕ → Bool) × TellsFirst g begins empty × (lines ≡ first_lines g begins empty)
+AreFirstLines g lines = (begins : ℕ → ℕ → Bool) × (empty : ℕ → Bool) × ReportsFirst g begins empty × (lines ≡ first_lines g begins empty)

@@ -6,7 +6,7 @@ use Rattle.cfgrammar.specs.Numbered.{Numbered, NumberedRule, core}
 use Rattle.cfgtool.specs.TokenSets.{set_word}
 
 -- `follows` says of a rule and a token exactly what derivations show
-pub record TellsFollow (g : Numbered) (follows : ℕ → ℕ → Bool) : Type 0 where
+pub record ReportsFollow (g : Numbered) (follows : ℕ → ℕ → Bool) : Type 0 where
   pub follows_is : (r t : ℕ) → (IsTrue (follows r t) ↔ MayFollow (core g) r t)
 
 -- a rule's line: its name and a colon, and the tokens that follow it in the order of their indices
@@ -19,4 +19,4 @@ follow_lines g follows = flat_map (follow_line g follows) (enumerate_from 0 g.ru
 
 -- the lines of a grammar's rules, in the order of their indices
 abbrev pub AreFollowLines : Numbered → List ℕ → Type 0
-AreFollowLines g lines = (follows : ℕ → ℕ → Bool) × TellsFollow g follows × (lines ≡ follow_lines g follows)
+AreFollowLines g lines = (follows : ℕ → ℕ → Bool) × ReportsFollow g follows × (lines ≡ follow_lines g follows)

@@ -9,8 +9,8 @@ use Rattle.cfgsink.specs.declared.outcome.Outcome.{Outcome}
 use Rattle.cfgsink.specs.declared.outcome.Outcome.TheVariants.{Done, Refused}
 use Rattle.cfgsink.specs.declared.outcome.ReportFault.{ReportFault}
 use Rattle.cfgsink.specs.declared.outcome.ReportFault.TheVariants as faults
-use Rattle.cfgshell.specs.declared.words.Command.{Command}
-use Rattle.cfgshell.specs.declared.words.Command.TheVariants.{Grammar, Firsts, Follows, Sentences, Warnings}
+use Rattle.cfgtool_shell.specs.declared.arguments.Command.{Command}
+use Rattle.cfgtool_shell.specs.declared.arguments.Command.TheVariants.{Grammar, Firsts, Follows, Sentences, Warnings}
 use Rattle.cfgprogram.specs.declared.kinds.KindArg.{KindArg}
 use Rattle.cfgdriver.specs.ReadText.{IsFound, IsMadeOfErrors, IsMadeOfGrammar}
 use Rattle.cfgtool.specs.FirstLines.{AreFirstLines}
@@ -20,7 +20,7 @@ use Rattle.cfgtool.specs.SentenceLines.{AreSentenceLines}
 use Rattle.cfgtool.specs.LexerLines.{lexer_lines, names_in}
 use Rattle.cfgtool.specs.declared.engine.Request.{Request}
 use Rattle.cfgtool.specs.declared.engine.Request.TheVariants as requests
-use Rattle.cfgsink.specs.Sinks.{AppendsBeginning}
+use Rattle.cfgsink.specs.Sinks.{AppendsPrefix}
 
 -- the lines that a command prints for a text with this syntax, which is this grammar in numbers
 abbrev pub AreLinesOf : Command → List ℕ → Syntax → Numbered → List ℕ → Type 0
@@ -35,9 +35,9 @@ abbrev pub AreLexerLines : List ℕ → Syntax → Numbered → List ℕ → Typ
 AreLexerLines names s g lines = lines ≡ lexer_lines g (names_in names)
 
 -- the lines that are requested
-abbrev pub AreAskedLines : Request → List ℕ → Syntax → Numbered → List ℕ → Type 0
-AreAskedLines (requests.Command command) text s g lines = AreLinesOf command text s g lines
-AreAskedLines (requests.Names names) text s g lines = AreLexerLines names.now s g lines
+abbrev pub AreRequestedLines : Request → List ℕ → Syntax → Numbered → List ℕ → Type 0
+AreRequestedLines (requests.Command command) text s g lines = AreLinesOf command text s g lines
+AreRequestedLines (requests.Names names) text s g lines = AreLexerLines names.now s g lines
 
 -- a report ends like this, and its lines satisfy this
 abbrev pub IsReported : Outcome → (List ℕ → Type 0) → Outcome × String Global → Type 0
@@ -53,20 +53,20 @@ module _ (AreLines : Syntax → Numbered → List ℕ → Type 0) where
 
   -- What a report adds to the known bytes of its sink: the lines of how it ended; nothing if memory ran out; if the sink counted a fault, a
   -- prefix of the lines of how it would have ended.
-  abbrev pub Tells : List ℕ → Found → Option (List ℕ) → Option (List ℕ) → Result Outcome ReportFault → Type 0
-  Tells text found old new (Ok outcome) = (lines : List ℕ) × IsReport text found outcome lines × Appends old new lines
-  Tells text found old new (Err faults.Write) = (outcome : Outcome) × (lines : List ℕ)
-      × IsReport text found outcome lines × AppendsBeginning old new lines
-  Tells text found old new (Err faults.OutOfMemory) = Keeps old new
+  abbrev pub Reports : List ℕ → Found → Option (List ℕ) → Option (List ℕ) → Result Outcome ReportFault → Type 0
+  Reports text found old new (Ok outcome) = (lines : List ℕ) × IsReport text found outcome lines × Appends old new lines
+  Reports text found old new (Err faults.Write) = (outcome : Outcome) × (lines : List ℕ)
+      × IsReport text found outcome lines × AppendsPrefix old new lines
+  Reports text found old new (Err faults.OutOfMemory) = Keeps old new
 
 -- A report on a text prints this for what the text turns out to be: its only reading, or the errors that keep it from naming a kind.
-abbrev pub TellsText : KindArg → Command → List ℕ → Option (List ℕ) → Option (List ℕ) → Result Outcome ReportFault
+abbrev pub ReportsText : KindArg → Command → List ℕ → Option (List ℕ) → Option (List ℕ) → Result Outcome ReportFault
     → Type 0
-TellsText kind command text old new answer =
-    (found : Found) × IsFound kind text found × Tells (AreLinesOf command text) text found old new answer
+ReportsText kind command text old new answer =
+    (found : Found) × IsFound kind text found × Reports (AreLinesOf command text) text found old new answer
 
 -- the same for a report on the names in a text
-abbrev pub TellsLexer : KindArg → List ℕ → List ℕ → Option (List ℕ) → Option (List ℕ) → Result Outcome ReportFault
+abbrev pub ReportsLexer : KindArg → List ℕ → List ℕ → Option (List ℕ) → Option (List ℕ) → Result Outcome ReportFault
     → Type 0
-TellsLexer kind text names old new answer =
-    (found : Found) × IsFound kind text found × Tells (AreLexerLines names) text found old new answer
+ReportsLexer kind text names old new answer =
+    (found : Found) × IsFound kind text found × Reports (AreLexerLines names) text found old new answer

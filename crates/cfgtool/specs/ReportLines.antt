@@ -15,23 +15,23 @@ use Rattle.cfgrammar.specs.Numbered.{Numbered, NumberedProduction}
 use Rattle.cfgrammar.specs.Accessors.{production_text}
 
 -- `LINE:COLUMN: ` of an offset in the text
-abbrev pub place_text : List ℕ → ℕ → List ℕ
-place_text text b = decimal (line_number text b) ++ (codes ":" ++ (decimal (column text b) ++ codes ": "))
+abbrev pub position_text : List ℕ → ℕ → List ℕ
+position_text text b = decimal (line_number text b) ++ (codes ":" ++ (decimal (column text b) ++ codes ": "))
 
 -- the position where the first of these spans starts, or nothing if there are none
-abbrev pub first_place : List ℕ → List Span → List ℕ
-first_place text spans = option_map_or (λ span. place_text text span.start) (slice_get spans 0) []
+abbrev pub first_position : List ℕ → List Span → List ℕ
+first_position text spans = option_map_or (λ span. position_text text span.start) (slice_get spans 0) []
 
 -- an error's line: its position and its text
 abbrev pub error_line : List ℕ → GrammarError → List ℕ
-error_line text error = first_place text error.spans ++ (error_text error.kind ++ codes "\n")
+error_line text error = first_position text error.spans ++ (error_text error.kind ++ codes "\n")
 
 abbrev pub error_lines : List ℕ → List GrammarError → List ℕ
 error_lines text errors = flat_map (error_line text) errors
 
 -- a warning's line: its position and its text
 abbrev pub warning_line : List ℕ → GrammarWarning → List ℕ
-warning_line text warning = first_place text warning.spans ++ (warning_text warning.kind ++ codes "\n")
+warning_line text warning = first_position text warning.spans ++ (warning_text warning.kind ++ codes "\n")
 
 abbrev pub warning_lines : List ℕ → List GrammarWarning → List ℕ
 warning_lines text warnings = flat_map (warning_line text) warnings

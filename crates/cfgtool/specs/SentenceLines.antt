@@ -3,8 +3,8 @@ use Rattle.std.specs.Prelude.{◌≡◌, ℕ, ◌+◌, ◌<◌, List, [], ◌++�
 use Rattle.std.specs.List.{concat}
 use Rattle.std.specs.Fmt.{decimal}
 use Rattle.cfgrammar.specs.Grammar.{Token, HasProduction}
-use Rattle.cfgrammar.specs.Generator.{AnswersLeast}
-use Rattle.cfgrammar.specs.Sentences.{AnswersGreatest, ListsMinimal}
+use Rattle.cfgrammar.specs.Generator.{ReturnsLeast}
+use Rattle.cfgrammar.specs.Sentences.{ReturnsGreatest, ListsMinimal}
 use Rattle.cfgrammar.specs.CostError.{CostError}
 use Rattle.cfgrammar.specs.CostError.TheVariants.{NoSentence, CostTooLarge}
 use Rattle.cfgrammar.specs.Numbered.{Numbered, core}
@@ -39,23 +39,23 @@ abbrev pub AreNamed : Numbered → List ℕ → Type 0
 AreNamed g sentence = All (λ t. t + 1 < length g.tokens) sentence
 
 -- the lines of a rule: its costs, and its sentences of least cost
-pub record TellsRule (g : Numbered) (cost : ℕ → ℕ) (r : ℕ) (lines : List ℕ) : Type 0 where
+pub record ReportsRule (g : Numbered) (cost : ℕ → ℕ) (r : ℕ) (lines : List ℕ) : Type 0 where
   pub name : List ℕ
   pub least : Result ℕ CostError
   pub greatest : Result (Option ℕ) CostError
   pub sentences : List (List ℕ)
   pub named : rule_part (λ rule. rule.name) g r ≡ Some name
-  pub tells_least : AnswersLeast (HasProduction (core g)) cost r least
-  pub tells_greatest : AnswersGreatest (HasProduction (core g)) cost r greatest
-  pub tells_sentences : ListsMinimal (HasProduction (core g)) cost r sentences
-  pub told : lines ≡ cost_line name least greatest ++ concat (map (sentence_line g) sentences)
+  pub reports_least : ReturnsLeast (HasProduction (core g)) cost r least
+  pub reports_greatest : ReturnsGreatest (HasProduction (core g)) cost r greatest
+  pub reports_sentences : ListsMinimal (HasProduction (core g)) cost r sentences
+  pub reported : lines ≡ cost_line name least greatest ++ concat (map (sentence_line g) sentences)
 
 -- texts for the first `count` numbers, one after the other
-pub record TellsEach (Tells : ℕ → List ℕ → Type 0) (count : ℕ) (lines : List ℕ) : Type 0 where
+pub record ReportsEach (Reports : ℕ → List ℕ → Type 0) (count : ℕ) (lines : List ℕ) : Type 0 where
   pub texts : List (List ℕ)
   pub counted : length texts ≡ count
-  pub each : EachIndex texts (λ r. Tells r (slice_index_or texts r []))
-  pub told : lines ≡ concat texts
+  pub each : EachIndex texts (λ r. Reports r (slice_index_or texts r []))
+  pub reported : lines ≡ concat texts
 
 -- each token of the grammar costs 1
 abbrev pub CostsOne : Numbered → (ℕ → ℕ) → Type 0
@@ -63,4 +63,4 @@ CostsOne g cost = (t : ℕ) → t < length g.tokens → cost t ≡ 1
 
 -- the lines of a grammar's rules, in the order of their indices
 abbrev pub AreSentenceLines : Numbered → List ℕ → Type 0
-AreSentenceLines g lines = (cost : ℕ → ℕ) × CostsOne g cost × TellsEach (TellsRule g cost) (length g.rules) lines
+AreSentenceLines g lines = (cost : ℕ → ℕ) × CostsOne g cost × ReportsEach (ReportsRule g cost) (length g.rules) lines

@@ -1,7 +1,7 @@
 //! The report on a text.
 
 ghost use Rattle.std.specs.Prelude.{◌≡◌, ◌+◌, ◌-◌, ◌^◌, ◌<◌, Some, IfOk, IsErrOf, string_bytes};
-ghost use Rattle.cfgrammar.specs.Places.{IsPiece, IsWithin};
+ghost use Rattle.cfgrammar.specs.TextSpans.{IsPiece, IsWithin};
 ghost use Rattle.cfgrammar.specs.Syntax.{EachSpan};
 ghost use Rattle.cfgrammar.specs.TreeView.{syntax};
 ghost use Rattle.cfgrammar.specs.Answer.{Found};
@@ -9,8 +9,8 @@ ghost use Rattle.cfgdriver.specs.ReadText.{IsFound};
 ghost use Rattle.cfgtool.specs.FirstLines.{AreFirstLines};
 ghost use Rattle.cfgtool.specs.FollowLines.{AreFollowLines};
 ghost use Rattle.cfgtool.specs.ReportLines.{AreWarningLines};
-ghost use Rattle.cfgtool.specs.Report.{AreAskedLines, AreLinesOf, Tells};
-ghost use Rattle.cfgtool.specs.Report.{TellsLexer, TellsText};
+ghost use Rattle.cfgtool.specs.Report.{AreRequestedLines, AreLinesOf, Reports};
+ghost use Rattle.cfgtool.specs.Report.{ReportsLexer, ReportsText};
 ghost use Rattle.cfgsink.specs.Reports.{faults_met};
 ghost use Rattle.cfgsink.specs.declared.outcome.ReportFault.TheVariants as variants;
 
@@ -23,9 +23,9 @@ use cfgdriver::{TextReader, read_text};
 use cfgprogram::KindArg;
 use cfgrammar::yacc::ast::GrammarAST;
 use cfgrammar::yacc::{YaccGrammar, YaccGrammarError};
-use cfgshell::words::Command;
 pub use cfgsink::{Outcome, ReportFault};
 use cfgsink::{Sink, write_report};
+use cfgtool_shell::arguments::Command;
 use std::alloc::{AllocError, Global};
 
 /// Writes what the command prints for the text's grammar, whose indices have 32 bits, or else the errors of the text,
@@ -42,11 +42,11 @@ pub fn report<W: Sink>(
     out: &mut W,
 ) -> Result<Outcome, ReportFault>
     requires { W.faults_counted out.old < 2 ^ 64 - 1 }
-    ensures told { TellsText kind command text.now (W.written out.old) (W.written out.new) result }
+    ensures reported { ReportsText kind command text.now (W.written out.old) (W.written out.new) result }
     ensures faults { W.faults_counted out.new ≡ W.faults_counted out.old + faults_met result }
     ensures untouched { IsErrOf result variants.OutOfMemory → out.new ≡ out.old }
 {
-    write_asked(alloc, kind, Request::Command(command), text, out)
+    write_requested(alloc, kind, Request::Command(command), text, out)
 }
 
 /// Writes the differences between the tokens of the text's grammar and the names that a lexer has, or else the errors
@@ -63,11 +63,11 @@ pub fn report_lex<W: Sink>(
     out: &mut W,
 ) -> Result<Outcome, ReportFault>
     requires { W.faults_counted out.old < 2 ^ 64 - 1 }
-    ensures told { TellsLexer kind text.now names.now (W.written out.old) (W.written out.new) result }
+    ensures reported { ReportsLexer kind text.now names.now (W.written out.old) (W.written out.new) result }
     ensures faults { W.faults_counted out.new ≡ W.faults_counted out.old + faults_met result }
     ensures untouched { IsErrOf result variants.OutOfMemory → out.new ≡ out.old }
 {
-    write_asked(alloc, kind, Request::Names(names), text, out)
+    write_requested(alloc, kind, Request::Names(names), text, out)
 }
 
 /// What is requested of a text's grammar.
@@ -82,12 +82,12 @@ pub(crate) enum Request<'a> {
 impl TextReader<(Outcome, String)> for Request<'_> {
     ghost use Rattle.std.specs.Prelude.{◌≡◌};
     ghost use Rattle.cfgsink.specs.declared.outcome.Outcome.TheVariants.{Done, Refused};
-    ghost use Rattle.cfgtool.specs.Report.{AreAskedLines, IsReported};
+    ghost use Rattle.cfgtool.specs.Report.{AreRequestedLines, IsReported};
     ghost use Rattle.cfgtool.specs.ReportLines.{error_lines};
 
     ghost of_errors = { λ request text errors. IsReported Refused (λ lines. lines ≡ error_lines text errors) };
 
-    ghost of_grammar = { λ request text s g. IsReported Done (AreAskedLines request text s g) };
+    ghost of_grammar = { λ request text s g. IsReported Done (AreRequestedLines request text s g) };
 
     fn errors(
         &self,
@@ -113,7 +113,7 @@ impl TextReader<(Outcome, String)> for Request<'_> {
 }
 
 /// Makes the whole report, and then writes it.
-fn write_asked<W: Sink>(
+fn write_requested<W: Sink>(
     alloc: Global,
     kind: KindArg,
     request: Request<'_>,
@@ -121,8 +121,8 @@ fn write_asked<W: Sink>(
     out: &mut W,
 ) -> Result<Outcome, ReportFault>
     requires { W.faults_counted out.old < 2 ^ 64 - 1 }
-    ensures told { (found : Found) × IsFound kind text.now found
-        × Tells (AreAskedLines request.entry text.now) text.now found (W.written out.old) (W.written out.new) result }
+    ensures reported { (found : Found) × IsFound kind text.now found
+        × Reports (AreRequestedLines request.entry text.now) text.now found (W.written out.old) (W.written out.new) result }
     ensures faults { W.faults_counted out.new ≡ W.faults_counted out.old + faults_met result }
     ensures untouched { IsErrOf result variants.OutOfMemory → out.new ≡ out.old }
 {
@@ -140,7 +140,7 @@ fn request_lines(
 ) -> Result<String, AllocError>
     requires { EachSpan (IsPiece text.now) (IsWithin text.now) (syntax ast.now) }
     ensures { IfOk result (λ lines.
-        AreAskedLines request.entry text.now (syntax ast.now) grammar.now (string_bytes lines)) }
+        AreRequestedLines request.entry text.now (syntax ast.now) grammar.now (string_bytes lines)) }
 {
     match request {
         Request::Command(command) => command_lines(alloc, command, text, ast, grammar),
@@ -161,15 +161,15 @@ fn command_lines(
 {
     match command {
         Command::Grammar => production_lines(alloc, grammar),
-        Command::Firsts => told_firsts(alloc, grammar),
-        Command::Follows => told_follows(alloc, grammar),
+        Command::Firsts => reported_firsts(alloc, grammar),
+        Command::Follows => reported_follows(alloc, grammar),
         Command::Sentences => sentence_lines(alloc, grammar),
-        Command::Warnings => told_warnings(alloc, text, ast),
+        Command::Warnings => reported_warnings(alloc, text, ast),
     }
 }
 
 /// The lines of a grammar's FIRST sets.
-fn told_firsts(alloc: Global, grammar: &YaccGrammar<u32>) -> Result<String, AllocError>
+fn reported_firsts(alloc: Global, grammar: &YaccGrammar<u32>) -> Result<String, AllocError>
     ensures { IfOk result (λ lines. AreFirstLines grammar.now (string_bytes lines)) }
 {
     let firsts = grammar.firsts(alloc)?;
@@ -177,7 +177,7 @@ fn told_firsts(alloc: Global, grammar: &YaccGrammar<u32>) -> Result<String, Allo
 }
 
 /// The lines of a grammar's FOLLOW sets.
-fn told_follows(alloc: Global, grammar: &YaccGrammar<u32>) -> Result<String, AllocError>
+fn reported_follows(alloc: Global, grammar: &YaccGrammar<u32>) -> Result<String, AllocError>
     ensures { IfOk result (λ lines. AreFollowLines grammar.now (string_bytes lines)) }
 {
     let follows = grammar.follows(alloc)?;
@@ -185,7 +185,7 @@ fn told_follows(alloc: Global, grammar: &YaccGrammar<u32>) -> Result<String, All
 }
 
 /// The lines of the warnings of a text with this tree.
-fn told_warnings(alloc: Global, text: &str, ast: &GrammarAST) -> Result<String, AllocError>
+fn reported_warnings(alloc: Global, text: &str, ast: &GrammarAST) -> Result<String, AllocError>
     requires { EachSpan (IsPiece text.now) (IsWithin text.now) (syntax ast.now) }
     ensures { IfOk result (λ lines. AreWarningLines text.now (syntax ast.now) (string_bytes lines)) }
 {

@@ -33,13 +33,13 @@ fn names_in(alloc: Global, list: &str) -> Result<Vec<&str>, AllocError>
 }
 
 /// Writes a line for each of the names at these indices.
-fn write_unknown(lines: &mut String, names: &[&str], places: &[usize]) -> Result<(), AllocError>
-    requires { All (λ place. place < length names.now) places.now }
+fn write_unknown(lines: &mut String, names: &[&str], positions: &[usize]) -> Result<(), AllocError>
+    requires { All (λ position. position < length names.now) positions.now }
     ensures { OnOk result (string_bytes lines.new
-        ≡ string_bytes lines.old ++ flat_map (unknown_line_at (map (λ name. name.now) names.now)) places.now) }
+        ≡ string_bytes lines.old ++ flat_map (unknown_line_at (map (λ name. name.now) names.now)) positions.now) }
 {
-    for place in places {
-        let name = names[*place];
+    for position in positions {
+        let name = names[*position];
         writeln!(lines, "unknown \"{name}\"")?;
     }
     Ok(())

@@ -11,9 +11,9 @@ mod sentence_lines;
 pub mod system;
 mod token_sets;
 
-pub use cfgshell::{
-    Command, Counted, Ended, Input, KindArg, Outcome, ReportFault, Sink, SinkFault, Source, kinds,
-    laws, sink, source, words,
+pub use cfgtool_shell::{
+    Command, Counted, Ended, Input, KindArg, Outcome, ReportFault, Sink, SinkFault, Source,
+    arguments, kinds, laws, sink, source,
 };
 pub use engine::{report, report_lex};
 pub use program::run;

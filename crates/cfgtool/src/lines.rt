@@ -1,15 +1,15 @@
 //! The lines of a report.
 
 ghost use Rattle.std.specs.Prelude.{◌≡◌, ◌++◌, ◌<◌, All, length, IfOk, OnOk, string_bytes};
-ghost use Rattle.cfgrammar.specs.Places.{IsPiece};
+ghost use Rattle.cfgrammar.specs.TextSpans.{IsPiece};
 ghost use Rattle.cfgrammar.specs.Accessors.{production_part};
 ghost use Rattle.cfgrammar.specs.ErrorSpans.{EachErrorSpan};
-ghost use Rattle.cfgtool.specs.ReportLines.{EachWarningSpan, error_line, error_lines, first_place, production_line};
+ghost use Rattle.cfgtool.specs.ReportLines.{EachWarningSpan, error_line, error_lines, first_position, production_line};
 ghost use Rattle.cfgtool.specs.ReportLines.{production_lines, warning_line, warning_lines};
 ghost use Rattle.cfgtool.specs.TokenSets.{Adds};
 
 use cfgrammar::yacc::{YaccGrammar, YaccGrammarError, YaccGrammarWarning};
-use cfgrammar::{PIdx, Places, Span, Spanned};
+use cfgrammar::{PIdx, Positions, Span, Spanned};
 use std::alloc::{AllocError, Global};
 
 /// The productions of a grammar, each as a line: its index, a space and its text.
@@ -48,10 +48,10 @@ pub fn error_lines(
     requires { All (EachErrorSpan (IsPiece text.now)) errors.now }
     ensures { IfOk result (λ lines. string_bytes lines ≡ error_lines text.now errors.now) }
 {
-    let places = Places::new(alloc, text)?;
+    let positions = Positions::new(alloc, text)?;
     let mut lines = String::new(alloc);
     for error in errors {
-        write_error(&mut lines, &places, error)?;
+        write_error(&mut lines, &positions, error)?;
     }
     Ok(lines)
 }
@@ -68,10 +68,10 @@ pub fn warning_lines(
     if warnings.is_empty() {
         return Ok(String::new(alloc));
     }
-    let places = Places::new(alloc, text)?;
+    let positions = Positions::new(alloc, text)?;
     let mut lines = String::new(alloc);
     for warning in warnings {
-        write_warning(&mut lines, &places, warning)?;
+        write_warning(&mut lines, &positions, warning)?;
     }
     Ok(lines)
 }
@@ -79,36 +79,40 @@ pub fn warning_lines(
 /// Writes the line of an error.
 fn write_error(
     lines: &mut String,
-    places: &Places<'_>,
+    positions: &Positions<'_>,
     error: &YaccGrammarError,
 ) -> Result<(), AllocError>
-    requires { EachErrorSpan (IsPiece places.now) error.now }
-    ensures { OnOk result (string_bytes lines.new ≡ string_bytes lines.old ++ error_line places.now error.now) }
+    requires { EachErrorSpan (IsPiece positions.now) error.now }
+    ensures { OnOk result (string_bytes lines.new ≡ string_bytes lines.old ++ error_line positions.now error.now) }
 {
-    write_place(lines, places, error.spans())?;
+    write_position(lines, positions, error.spans())?;
     writeln!(lines, "{error}")
 }
 
 /// Writes the line of a warning.
 fn write_warning(
     lines: &mut String,
-    places: &Places<'_>,
+    positions: &Positions<'_>,
     warning: &YaccGrammarWarning,
 ) -> Result<(), AllocError>
-    requires { EachWarningSpan (IsPiece places.now) warning.now }
-    ensures { OnOk result (string_bytes lines.new ≡ string_bytes lines.old ++ warning_line places.now warning.now) }
+    requires { EachWarningSpan (IsPiece positions.now) warning.now }
+    ensures { OnOk result (string_bytes lines.new ≡ string_bytes lines.old ++ warning_line positions.now warning.now) }
 {
-    write_place(lines, places, warning.spans())?;
+    write_position(lines, positions, warning.spans())?;
     writeln!(lines, "{warning}")
 }
 
 /// Writes the line and the column of the first span, each followed by a colon.
-fn write_place(lines: &mut String, places: &Places<'_>, spans: &[Span]) -> Result<(), AllocError>
+fn write_position(
+    lines: &mut String,
+    positions: &Positions<'_>,
+    spans: &[Span],
+) -> Result<(), AllocError>
     requires some { 0 < length spans.now }
-    requires placed { All (IsPiece places.now) spans.now }
-    ensures { OnOk result (string_bytes lines.new ≡ string_bytes lines.old ++ first_place places.now spans.now) }
+    requires located { All (IsPiece positions.now) spans.now }
+    ensures { OnOk result (string_bytes lines.new ≡ string_bytes lines.old ++ first_position positions.now spans.now) }
 {
     let start = spans[0].start();
-    let (line, column) = places.line_and_column(start).unwrap();
+    let (line, column) = positions.line_and_column(start).unwrap();
     write!(lines, "{line}:{column}: ")
 }

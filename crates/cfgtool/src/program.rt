@@ -1,16 +1,16 @@
 //! A run of the program.
 
 ghost use Rattle.std.specs.Prelude.{◌-◌, ◌^◌, ◌<◌, ◌≤◌, map};
-ghost use Rattle.cfgshell.specs.Endings.{faults_at, line_of, status_of};
+ghost use Rattle.cfgtool_shell.specs.Endings.{faults_at, line_of, status_of};
 ghost use Rattle.cfgsink.specs.Runs.{EndsWith};
-ghost use Rattle.cfgtool.specs.Run.{HandlesWords};
+ghost use Rattle.cfgtool.specs.Run.{HandlesArguments};
 
 use crate::engine::{Outcome, ReportFault, report, report_lex};
 use cfgprogram::KindArg;
 use cfgprogram::source::Source;
-use cfgshell::program::{self, Reporter};
-use cfgshell::sink::Sink;
-use cfgshell::words::Command;
+use cfgtool_shell::arguments::Command;
+use cfgtool_shell::program::{self, Reporter};
+use cfgtool_shell::sink::Sink;
 use std::alloc::Global;
 
 /// Runs the program on its command-line arguments, and returns its status. Its report is written to `out`, and a line
@@ -26,7 +26,7 @@ pub fn run<S: Source, O: Sink, E: Sink>(
     requires err_counts { E.faults_counted err.old < 2 ^ 64 - 1 }
     ensures small { result ≤ 3 }
     ensures ends { EndsWith status_of faults_at line_of
-        (HandlesWords (map (λ word. word.now) args.now) S.fetches source.old source.new)
+        (HandlesArguments (map (λ word. word.now) args.now) S.fetches source.old source.new)
         O.written O.faults_counted out.old out.new E.written E.faults_counted err.old err.new result }
 {
     program::run(alloc, &Reports, args, source, out, err)
@@ -37,11 +37,11 @@ pub fn run<S: Source, O: Sink, E: Sink>(
 pub(crate) struct Reports;
 
 impl Reporter for Reports {
-    ghost use Rattle.cfgtool.specs.Report.{TellsLexer, TellsText};
+    ghost use Rattle.cfgtool.specs.Report.{ReportsLexer, ReportsText};
 
-    ghost tells = { TellsText };
+    ghost reports = { ReportsText };
 
-    ghost tells_lexer = { TellsLexer };
+    ghost reports_lexer = { ReportsLexer };
 
     fn report<W: Sink>(
         &self,

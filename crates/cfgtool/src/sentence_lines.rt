@@ -6,7 +6,7 @@ ghost use Rattle.cfgrammar.specs.Grammar.{HasProduction};
 ghost use Rattle.cfgrammar.specs.Generator.{token_cost};
 ghost use Rattle.cfgrammar.specs.Sentences.{ListsMinimal, numbers_of};
 ghost use Rattle.cfgrammar.specs.Numbered.{core};
-ghost use Rattle.cfgtool.specs.SentenceLines.{AreNamed, AreSentenceLines, TellsEach, TellsRule};
+ghost use Rattle.cfgtool.specs.SentenceLines.{AreNamed, AreSentenceLines, ReportsEach, ReportsRule};
 ghost use Rattle.cfgtool.specs.SentenceLines.{cost_line, greatest_word, least_word, sentence_line, token_text};
 
 use cfgrammar::yacc::YaccGrammar;
@@ -30,7 +30,7 @@ fn rule_lines(
     generator: &SentenceGenerator<'_, u32, YaccGrammar<u32>>,
 ) -> Result<String, AllocError>
     requires { generator.now.grammar ≡ core grammar.now }
-    ensures { IfOk result (λ lines. TellsEach (TellsRule grammar.now (token_cost generator.now))
+    ensures { IfOk result (λ lines. ReportsEach (ReportsRule grammar.now (token_cost generator.now))
         (length grammar.now.rules)
         (string_bytes lines)) }
 {
@@ -51,7 +51,7 @@ fn write_rule(
 ) -> Result<(), AllocError>
     requires within { ridx.0 < length grammar.now.rules }
     requires same { generator.now.grammar ≡ core grammar.now }
-    ensures { OnOk result ((text : _) × TellsRule grammar.now (token_cost generator.now) ridx.0 text
+    ensures { OnOk result ((text : _) × ReportsRule grammar.now (token_cost generator.now) ridx.0 text
         × (string_bytes lines.new ≡ string_bytes lines.old ++ text)) }
 {
     let least = generator.min_sentence_cost(ridx);

@@ -1,11 +1,11 @@
 //! The program over a runtime.
 
 ghost use Rattle.std.specs.Prelude.{◌≡◌};
-ghost use Rattle.cfgshell.specs.Endings.{Ending, status_of};
+ghost use Rattle.cfgtool_shell.specs.Endings.{Ending, status_of};
 
 use crate::program::Reports;
 use cfgprogram::ending::{Ended, ended_with};
-use cfgshell::runtime;
+use cfgtool_shell::runtime;
 use std::rt::{Env, Files};
 
 /// Runs the program `cfgtool` over a runtime: [`run`](crate::run) on the command-line arguments, over the

@@ -4,7 +4,7 @@ use Rattle.std.specs.List.{IsDistinct, AllByRecursion}
 use Rattle.std.specs.Map.{keys_of}
 use Rattle.std.specs.Str.{bytes_eq}
 use Rattle.std.proofs.lemmas.Simd.{map-map}
-use Rattle.lemmas.proofs.Places.{position-map}
+use Rattle.lemmas.proofs.Positions.{position-map}
 use Rattle.cfgast.specs.Syntax.{entry_name}
 use Rattle.cfgast.specs.SyntaxView.{rule_entry}
 use Rattle.cfgast.specs.declared.rule.Rule as source

@@ -6,31 +6,31 @@ use Rattle.std.specs.Map.{lookup, set_value, keys_of}
 use Rattle.cfgbase.specs.declared.span.Span.{Span}
 use Rattle.cfgast.specs.declared.occurrence.Unique.{Unique as CodeUnique}
 use Rattle.cfgast.specs.Occurrences.{Unique, Occurrence}
-use Rattle.cfgtree.specs.Duplicates.{Duplicate, is_same, places_of}
+use Rattle.cfgtree.specs.Duplicates.{Duplicate, is_same, offsets_of}
 use Rattle.cfgtree.specs.TreeView.{duplicate_view}
-use Rattle.cfgtree.proofs.Repeats.{is_same_equivalence, key_view, same_key, same_shown, places_of-push}
+use Rattle.cfgtree.proofs.Repeats.{is_same_equivalence, key_view, same_key, same_shown, offsets_of-push}
 use Rattle.cfgast.proofs.Written.{changed-absent, changed-set_value}
 
 -- with its spans so far, and one more if the occurrence is of the same
-abbrev pub placed : List Occurrence → Unique → Duplicate
-placed done what = record { what = what; spans = places_of done what }
+abbrev pub located : List Occurrence → Unique → Duplicate
+located done what = record { what = what; spans = offsets_of done what }
 
 abbrev pub longer : Occurrence → Duplicate → Duplicate
 longer o d = cond (is_same o.what d.what) (record d { spans = d.spans ++ o.span ∷ [] }) d
 
-placed-push : (done : List Occurrence) (o : Occurrence) (us : List Unique) → map (longer o) (map (placed done) us) ≡ map (placed (done ++ o ∷ [])) us
-placed-push done o [] = refl
-placed-push done o (u ∷ us) = λ i. (go (is_same o.what u) ∙ ap (λ spans. record { what = u; spans = spans }) (sym (places_of-push done o u))) i ∷ placed-push done o us i
+located-push : (done : List Occurrence) (o : Occurrence) (us : List Unique) → map (longer o) (map (located done) us) ≡ map (located (done ++ o ∷ [])) us
+located-push done o [] = refl
+located-push done o (u ∷ us) = λ i. (go (is_same o.what u) ∙ ap (λ spans. record { what = u; spans = spans }) (sym (offsets_of-push done o u))) i ∷ located-push done o us i
   where
-    go : (b : Bool) → cond b (record { what = u; spans = places_of done u ++ o.span ∷ [] }) (placed done u) ≡ record { what = u; spans = cond b (places_of done u ++ o.span ∷ []) (places_of done u) }
+    go : (b : Bool) → cond b (record { what = u; spans = offsets_of done u ++ o.span ∷ [] }) (located done u) ≡ record { what = u; spans = cond b (offsets_of done u ++ o.span ∷ []) (offsets_of done u) }
     go true = refl
     go false = refl
 
 -- if nothing is declared again, it has no spans
-pub placed_nowhere : {E : Type 0} (shown : E → Duplicate) (es : List E) (f g : Unique → Duplicate) (us : List Unique) → length es ≡ 0 → map shown es ≡ map f us → map shown es ≡ map g us
-placed_nowhere shown [] f g [] none e = refl
-placed_nowhere shown [] f g (u ∷ us) none e = absurd (cc)
-placed_nowhere shown (x ∷ es) f g us none e = absurd (omega arith)
+pub located_nowhere : {E : Type 0} (shown : E → Duplicate) (es : List E) (f g : Unique → Duplicate) (us : List Unique) → length es ≡ 0 → map shown es ≡ map f us → map shown es ≡ map g us
+located_nowhere shown [] f g [] none e = refl
+located_nowhere shown [] f g (u ∷ us) none e = absurd (cc)
+located_nowhere shown (x ∷ es) f g us none e = absurd (omega arith)
 
 module _ (o : Occurrence) (k : Bor CodeUnique) (is : key_view k ≡ o.what) where
   of_this : (x : Bor CodeUnique) → is_same o.what (key_view x) ≡ same_key k x
@@ -43,16 +43,16 @@ module _ (o : Occurrence) (k : Bor CodeUnique) (is : key_view k ≡ o.what) wher
   others e other = ap (λ b. cond b (record (duplicate_view e) { spans = e.1.items ++ o.span ∷ [] }) (duplicate_view e)) (of_this e.0 ∙ other)
 
   module _ (done all : List Occurrence) (all_are : all ≡ done ++ o ∷ []) (us : List Unique)
-      (entries grown : List (Bor CodeUnique × Vec Span Global)) (so_far : map duplicate_view entries ≡ map (placed done) us) where
-    more : map (longer o) (map duplicate_view entries) ≡ map (placed all) us
-    more = ap (map (longer o)) so_far ∙ placed-push done o us ∙ ap (λ d. map (placed d) us) (sym all_are)
+      (entries grown : List (Bor CodeUnique × Vec Span Global)) (so_far : map duplicate_view entries ≡ map (located done) us) where
+    more : map (longer o) (map duplicate_view entries) ≡ map (located all) us
+    more = ap (map (longer o)) so_far ∙ located-push done o us ∙ ap (λ d. map (located d) us) (sym all_are)
 
-    pub place_apart : lookup (same_key k) entries ≡ None → grown ≡ entries → map duplicate_view grown ≡ map (placed all) us
-    place_apart none e = ap (map duplicate_view) e ∙ sym (changed-absent same_key (same_key k) own duplicate_view (longer o) others entries none) ∙ more
+    pub offset_apart : lookup (same_key k) entries ≡ None → grown ≡ entries → map duplicate_view grown ≡ map (located all) us
+    offset_apart none e = ap (map duplicate_view) e ∙ sym (changed-absent same_key (same_key k) own duplicate_view (longer o) others entries none) ∙ more
 
-    pub place_added : (old new : Vec Span Global) → IsDistinct same_key (keys_of entries) → lookup (same_key k) entries ≡ Some old → new.items ≡ old.items ++ o.span ∷ []
-        → grown ≡ set_value (same_key k) entries new → map duplicate_view grown ≡ map (placed all) us
-    place_added old new distinct found added e =
+    pub offset_added : (old new : Vec Span Global) → IsDistinct same_key (keys_of entries) → lookup (same_key k) entries ≡ Some old → new.items ≡ old.items ++ o.span ∷ []
+        → grown ≡ set_value (same_key k) entries new → map duplicate_view grown ≡ map (located all) us
+    offset_added old new distinct found added e =
         ap (map duplicate_view) e
         ∙ changed-set_value same_key (same_key k) own duplicate_view (longer o) others entries old new distinct found written ∙ more
       where

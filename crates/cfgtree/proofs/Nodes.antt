@@ -10,8 +10,8 @@ use Rattle.std.proofs.lemmas.List.Quantifiers.{position-Some}
 use Rattle.std.proofs.lemmas.Map.Made.{is_some-lookup}
 use Rattle.std.proofs.lemmas.Option.{slice_get-get_or, slice_get-map, slice_get_within, same_Some}
 use Rattle.lemmas.proofs.Elements.{element_at}
-use Rattle.lemmas.proofs.Places.{first_place, position-distinct}
-use Rattle.search.specs.Reached.{FoundBy, IsReachedIn, Reached, Reaches, SearchState, led, seed}
+use Rattle.lemmas.proofs.Positions.{first_position, position-distinct}
+use Rattle.search.specs.Reachable.{FoundBy, IsReachableIn, Reachable, Reaches, SearchState, led, seed}
 use Rattle.search.proofs.Reaching.{reaches_as, reaches_known, reaches_then}
 use Rattle.cfgbase.specs.declared.span.Span.{Span}
 use Rattle.cfgast.specs.Syntax.{Syntax, Rule, entry_name}
@@ -19,10 +19,10 @@ use Rattle.cfgtree.specs.Unused.{Name, RuleName, TokenName, Holds, IsUsed, IsSta
 use Rattle.cfgtree.specs.Inner.Nodes.{nodes, IsNodeOf, HeldAt, Knows, LeadsTo}
 
 -- the elements of the second of two lists
-behind : {A : Type 0} (xs ys : List A) (n i : ℕ) → n ≡ length xs + i → slice_get (xs ++ ys) n ≡ slice_get ys i
-behind [] ys n i e = ap (slice_get ys) (omega (arith, e))
-behind (x ∷ xs) ys zero i e = absurd (omega (arith, e))
-behind (x ∷ xs) ys (suc n) i e = behind xs ys n i (omega (arith, e))
+after : {A : Type 0} (xs ys : List A) (n i : ℕ) → n ≡ length xs + i → slice_get (xs ++ ys) n ≡ slice_get ys i
+after [] ys n i e = ap (slice_get ys) (omega (arith, e))
+after (x ∷ xs) ys zero i e = absurd (omega (arith, e))
+after (x ∷ xs) ys (suc n) i e = after xs ys n i (omega (arith, e))
 
 found_at : (names : List (List ℕ)) (name : List ℕ) (i : ℕ) → position (bytes_eq name) names ≡ Some i → slice_get names i ≡ Some name
 found_at names name i found =
@@ -47,7 +47,7 @@ module _ (s : Syntax) where
       go (x ∷ rules) (suc n) at = go rules n at
 
   token_there : (n i : ℕ) → n ≡ length s.rules + i → slice_get (nodes s) n ≡ option_map TokenName (slice_get s.tokens i)
-  token_there n i e = behind (map (λ rule. RuleName rule.0) s.rules) (map TokenName s.tokens) n i (e ∙ ap (λ m. m + i) (sym rules_before))
+  token_there n i e = after (map (λ rule. RuleName rule.0) s.rules) (map TokenName s.tokens) n i (e ∙ ap (λ m. m + i) (sym rules_before))
       ∙ slice_get-map TokenName s.tokens i
 
   -- a name is at its node
@@ -59,9 +59,9 @@ module _ (s : Syntax) where
       rule_there n rule there ∙ ap (λ m. Some (RuleName m)) same
   named (TokenName name) n is = go (position (bytes_eq name) s.tokens) refl is
     where
-      go : (o : Option ℕ) → position (bytes_eq name) s.tokens ≡ o → option_map (λ place. length s.rules + place) o ≡ Some n → slice_get (nodes s) n ≡ Some (TokenName name)
+      go : (o : Option ℕ) → position (bytes_eq name) s.tokens ≡ o → option_map (λ index. length s.rules + index) o ≡ Some n → slice_get (nodes s) n ≡ Some (TokenName name)
       go None found e = cc
-      go (Some place) found e = token_there n place (same_Some _ _ (sym e)) ∙ ap (option_map TokenName) (found_at s.tokens name place found)
+      go (Some index) found e = token_there n index (same_Some _ _ (sym e)) ∙ ap (option_map TokenName) (found_at s.tokens name index found)
 
   pub node_within : (name : Name) (n : ℕ) → IsNodeOf s name n → n < length (nodes s)
   node_within name n is = slice_get_within (nodes s) n name (named name n is)
@@ -73,35 +73,35 @@ module _ (s : Syntax) where
     | inl lt ↦ let (rule, there) = element_at s.rules n lt in
         subst (λ name. IsNodeOf s name n) (same_Some _ _ (sym (rule_there n rule there) ∙ at))
         (position-distinct nat_list_eq_equiv (map entry_name s.rules) n rule.0 rules (slice_get-map entry_name s.rules n ∙ ap (option_map entry_name) there))
-    | inr le ↦ let behind : n ≡ length s.rules + (n - length s.rules) = omega (arith, le) in
-        token (n - length s.rules) behind (slice_get s.tokens (n - length s.rules)) refl (sym (token_there n (n - length s.rules) behind) ∙ at)
+    | inr le ↦ let after : n ≡ length s.rules + (n - length s.rules) = omega (arith, le) in
+        token (n - length s.rules) after (slice_get s.tokens (n - length s.rules)) refl (sym (token_there n (n - length s.rules) after) ∙ at)
   ]
     where
       token : (i : ℕ) → n ≡ length s.rules + i → (o : Option (List ℕ)) → slice_get s.tokens i ≡ o → option_map TokenName o ≡ Some name → IsNodeOf s name n
       token i e None there is = cc
       token i e (Some word) there is = subst (λ name. IsNodeOf s name n) (same_Some _ _ is)
-          (ap (option_map (λ place. length s.rules + place)) (position-distinct nat_list_eq_equiv s.tokens i word tokens there) ∙ ap Some (sym e))
+          (ap (option_map (λ index. length s.rules + index)) (position-distinct nat_list_eq_equiv s.tokens i word tokens there) ∙ ap Some (sym e))
 
   -- a rule that is found by its name has a node
   rule_node : (name : List ℕ) (head : Rule) → lookup (bytes_eq name) s.rules ≡ Some head → (n : ℕ) × IsNodeOf s (RuleName name) n
   rule_node name head found =
       let known = sym (is_some-lookup (bytes_eq name) s.rules) ∙ ap is_some found in
-      (position_or_len (bytes_eq name) (map entry_name s.rules), first_place (bytes_eq name) (map entry_name s.rules) known)
+      (position_or_len (bytes_eq name) (map entry_name s.rules), first_position (bytes_eq name) (map entry_name s.rules) known)
 
   module _ (Seed : ℕ → Type 0) (seeds : (n : ℕ) → (Seed n ↔ ((name : Name) × IsStart s name × IsNodeOf s name n))) where
-    pub name_reached : {n : ℕ} → Reached Seed (LeadsTo s) n → (name : Name) × (slice_get (nodes s) n ≡ Some name) × IsUsed s name
-    name_reached (seed {a = n} h) = let k = (seeds n).0 h in (k.0, named k.0 n k.2, seed k.1)
-    name_reached (led {a = m} {b = n} r h) =
-        let k = name_reached r in
+    pub name_reachable : {n : ℕ} → Reachable Seed (LeadsTo s) n → (name : Name) × (slice_get (nodes s) n ≡ Some name) × IsUsed s name
+    name_reachable (seed {a = n} h) = let k = (seeds n).0 h in (k.0, named k.0 n k.2, seed k.1)
+    name_reachable (led {a = m} {b = n} r h) =
+        let k = name_reachable r in
         let from = subst (λ name. Leads s name h.to) (same_Some _ _ (sym h.there ∙ k.1)) h.leads in
         (h.to, named h.to n h.is, led k.2 from)
 
-    pub node_reached : {name : Name} → IsUsed s name → (n : ℕ) → IsNodeOf s name n → Reached Seed (LeadsTo s) n
-    node_reached (seed {a = name} h) n is = seed ((seeds n).1 (name, h, is))
-    node_reached (led {a = RuleName rule} {b = name} r h) n is =
+    pub node_reachable : {name : Name} → IsUsed s name → (n : ℕ) → IsNodeOf s name n → Reachable Seed (LeadsTo s) n
+    node_reachable (seed {a = name} h) n is = seed ((seeds n).1 (name, h, is))
+    node_reachable (led {a = RuleName rule} {b = name} r h) n is =
         let at = rule_node rule h.head h.named in
-        led (node_reached r at.0 at.1) (record { from = RuleName rule; there = named (RuleName rule) at.0 at.1; to = name; leads = h; is = is })
-    node_reached (led {a = TokenName token} {b = name} r h) n is = absurd h
+        led (node_reachable r at.0 at.1) (record { from = RuleName rule; there = named (RuleName rule) at.0 at.1; to = name; leads = h; is = is })
+    node_reachable (led {a = TokenName token} {b = name} r h) n is = absurd h
 
 module _ (s : Syntax) where
   -- the nodes of what is expected to be unused
@@ -147,7 +147,7 @@ module _ (s : Syntax) where
         leads = record {
           head = head;
           named = found;
-          place = h.thing;
+          index = h.thing;
           listed = h.among;
           production = h.finds.production;
           there = h.finds.there;
@@ -160,8 +160,8 @@ module _ (s : Syntax) where
     where
       from : (n : ℕ) (to : Name) → IsNodeOf s to n → Holds s name to → FoundBy (HeldAt s) head.productions n
       from n to is h = record {
-        thing = h.place;
-        among = subst (λ (r : Rule). Contains r.productions h.place) (same_Some _ _ (sym h.named ∙ found)) h.listed;
+        thing = h.index;
+        among = subst (λ (r : Rule). Contains r.productions h.index) (same_Some _ _ (sym h.named ∙ found)) h.listed;
         finds = record { production = h.production; there = h.there; holds = record { thing = to; among = h.holds; finds = is } };
       }
 
@@ -184,17 +184,17 @@ module _ (s : Syntax) where
 
   -- names that differ from each other are known as their nodes are
   pub knows : IsDistinct bytes_eq (map entry_name s.rules) → IsDistinct bytes_eq s.tokens → (Seed : ℕ → Type 0)
-      → ((n : ℕ) → (Seed n ↔ ((name : Name) × IsStart s name × IsNodeOf s name n))) → (mid new : SearchState) → length mid.reached ≡ length (nodes s)
-      → ((n : ℕ) → (IsReachedIn mid n ↔ Reached Seed (LeadsTo s) n)) → Reaches ExpectedNode mid new → Knows s new
+      → ((n : ℕ) → (Seed n ↔ ((name : Name) × IsStart s name × IsNodeOf s name n))) → (mid new : SearchState) → length mid.reachable ≡ length (nodes s)
+      → ((n : ℕ) → (IsReachableIn mid n ↔ Reachable Seed (LeadsTo s) n)) → Reaches ExpectedNode mid new → Knows s new
   knows rules tokens Seed seeds mid new long found w = record {
     shape = w.shape ∙ long;
     each = λ node name at. (
-      (λ h. elim ((w.reached node).0 h) [
-        | inl i ↦ let k = name_reached s Seed seeds ((found node).0 i) in inl (subst (IsUsed s) (same_Some _ _ (sym k.1 ∙ at)) k.2)
+      (λ h. elim ((w.reachable node).0 h) [
+        | inl i ↦ let k = name_reachable s Seed seeds ((found node).0 i) in inl (subst (IsUsed s) (same_Some _ _ (sym k.1 ∙ at)) k.2)
         | inr k ↦ inr (subst (Expected s) (same_Some _ _ (sym (named s k.0 node k.2) ∙ at)) k.1)
       ]),
-      (λ h. let is = node_there s rules tokens name node at in (w.reached node).1 (elim h [
-        | inl i ↦ inl ((found node).1 (node_reached s Seed seeds i node is))
+      (λ h. let is = node_there s rules tokens name node at in (w.reachable node).1 (elim h [
+        | inl i ↦ inl ((found node).1 (node_reachable s Seed seeds i node is))
         | inr i ↦ inr (name, i, is)
       ])),
     );

@@ -8,8 +8,8 @@ use Rattle.std.specs.Option.{option_eq, option_map}
 use Rattle.std.specs.Str.{bytes_eq}
 use Rattle.std.proofs.lemmas.Cmp.{and_equiv, nat_list_eq_equiv, on_equiv}
 use Rattle.std.proofs.lemmas.List.{map-append, take_more}
-use Rattle.lemmas.specs.Lists.{with_fronts, pushed_unless}
-use Rattle.lemmas.proofs.Fronts.{with_fronts-push}
+use Rattle.lemmas.specs.Lists.{with_prefixes, pushed_unless}
+use Rattle.lemmas.proofs.Prefixes.{with_prefixes-push}
 use Rattle.lemmas.proofs.Tests.{list_any-map}
 use Rattle.indexmap.specs.IndexMap.{insert_entry}
 use Rattle.indexmap.specs.IndexSet.{insert_key}
@@ -21,7 +21,7 @@ use Rattle.cfgast.specs.contracts.occurrence.UniqueKindEq.TheImpl.Laws.{laws-law
 use Rattle.cfgast.specs.contracts.occurrence.UniquePartialEq.TheImpl.{ghosts as uniques}
 use Rattle.cfgast.specs.Occurrences.{Unique, Occurrence}
 use Rattle.cfgast.specs.Syntax.{each_once}
-use Rattle.cfgtree.specs.Duplicates.{Duplicate, is_same, is_repeat, repeats, places_of}
+use Rattle.cfgtree.specs.Duplicates.{Duplicate, is_same, is_repeat, repeats, offsets_of}
 use Rattle.cfgast.specs.SyntaxView.{unique_view, occurrence_view}
 use Rattle.cfgtree.specs.TreeView.{duplicate_view}
 use Rattle.cfgast.proofs.Once.{filtered-push, each_once-push, known_once, key_known, key_inserted}
@@ -50,12 +50,12 @@ whats occurrences = map (λ o. o.what) occurrences
 pub repeats-push : (done : List Occurrence) (o : Occurrence) → repeats (done ++ o ∷ []) ≡ cond (list_any (is_same o.what) (whats done)) (repeats done ++ o.what ∷ []) (repeats done)
 unfolding repeats
 repeats-push done o =
-    ap (λ t. map (λ (x : List Occurrence × Occurrence). x.1.what) (filter is_repeat t)) (with_fronts-push done o)
-    ∙ filtered-push (λ (x : List Occurrence × Occurrence). x.1.what) is_repeat (with_fronts done) (done, o)
+    ap (λ t. map (λ (x : List Occurrence × Occurrence). x.1.what) (filter is_repeat t)) (with_prefixes-push done o)
+    ∙ filtered-push (λ (x : List Occurrence × Occurrence). x.1.what) is_repeat (with_prefixes done) (done, o)
     ∙ ap (λ b. cond b (repeats done ++ o.what ∷ []) (repeats done)) (sym (list_any-map (is_same o.what) (λ (o : Occurrence). o.what) done))
 
-pub places_of-push : (done : List Occurrence) (o : Occurrence) (what : Unique) → places_of (done ++ o ∷ []) what ≡ cond (is_same o.what what) (places_of done what ++ o.span ∷ []) (places_of done what)
-places_of-push done o what = filtered-push (λ (o : Occurrence). o.span) (λ o. is_same o.what what) done o
+pub offsets_of-push : (done : List Occurrence) (o : Occurrence) (what : Unique) → offsets_of (done ++ o ∷ []) what ≡ cond (is_same o.what what) (offsets_of done what ++ o.span ∷ []) (offsets_of done what)
+offsets_of-push done o what = filtered-push (λ (o : Occurrence). o.span) (λ o. is_same o.what what) done o
 
 -- what is declared more than once, without spans yet
 abbrev pub bare : Unique → Duplicate
@@ -73,16 +73,16 @@ module _ (k : Bor CodeUnique) (none : Vec Span Global) (empty : none.items ≡ [
       let there : map duplicate_view es ≡ map bare us = cc in
       go (same_key k x.0) (is_same (key_view k) u) (same_shown k x.0 ∙ ap (λ (d : Duplicate). is_same (key_view k) d.what) here) here there (insert_bare es us there)
     where
-      behind : (known : Bool) → bare u ∷ map bare (pushed_unless known us (key_view k)) ≡ map bare (pushed_unless known (u ∷ us) (key_view k))
-      behind true = refl
-      behind false = refl
+      after : (known : Bool) → bare u ∷ map bare (pushed_unless known us (key_view k)) ≡ map bare (pushed_unless known (u ∷ us) (key_view k))
+      after true = refl
+      after false = refl
 
       go : (b c : Bool) → b ≡ c → duplicate_view x ≡ bare u → map duplicate_view es ≡ map bare us
           → map duplicate_view (insert_entry same_key es k none) ≡ map bare (pushed_unless (list_any (is_same (key_view k)) us) us (key_view k))
           → map duplicate_view (cond b ((x.0, none) ∷ es) (x ∷ insert_entry same_key es k none))
           ≡ map bare (pushed_unless (c || list_any (is_same (key_view k)) us) (u ∷ us) (key_view k))
       go true true same here there rest = λ i. record { what = (ap (λ (d : Duplicate). d.what) here) i; spans = empty i } ∷ there i
-      go false false same here there rest = (λ i. here i ∷ rest i) ∙ behind (list_any (is_same (key_view k)) us)
+      go false false same here there rest = (λ i. here i ∷ rest i) ∙ after (list_any (is_same (key_view k)) us)
       go true false same here there rest = cc
       go false true same here there rest = cc
 

@@ -5,9 +5,9 @@ use Rattle.std.specs.Cmp.Lexicographic.{bytes_decides}
 use Rattle.std.proofs.lemmas.List.{length-map}
 use Rattle.std.proofs.lemmas.List.Elements.{All-nil, All-map, All-push, All-same, All-weaker}
 use Rattle.std.proofs.lemmas.Option.{slice_get-get_or}
-use Rattle.lemmas.proofs.Passing.{places_from-within}
+use Rattle.lemmas.proofs.Passing.{positions_from-within}
 use Rattle.lemmas.proofs.Tests.{list_any-map}
-use Rattle.lemmas.specs.Lists.{places}
+use Rattle.lemmas.specs.Lists.{positions}
 use Rattle.cfgast.specs.Items.{RuleHead}
 use Rattle.cfgast.specs.Syntax.{Syntax, Rule, Production, head_name, index_of}
 use Rattle.cfgast.specs.Building.{has_rule, new_rule, listed}
@@ -29,10 +29,10 @@ pub read_tree : (s : Syntax) → IsWellFormed s → IsTree s
 read_tree s well = record {
   rules_named = well.rules_named;
   productions_within = λ k d within.
-      All-same (λ i. i < length s.productions) _ (places (λ other. k == other) s.production_rules)
+      All-same (λ i. i < length s.productions) _ (positions (λ other. k == other) s.production_rules)
       (well.productions_listed k (get_or s.rules k d) (slice_get-get_or s.rules k d within))
       (All-weaker (λ i. i < 0 + length s.production_rules) (λ i. i < length s.productions) (λ i there. omega (arith, well.production_rules_as_long, there)) _
-      (places_from-within (λ other. k == other) 0 s.production_rules));
+      (positions_from-within (λ other. k == other) 0 s.production_rules));
   production_rules_as_long = well.production_rules_as_long;
   production_rules_within = well.production_rules_within;
   spans_as_long = well.spans_as_long;

@@ -10,7 +10,7 @@ use Rattle.cfgerrors.specs.Warnings.{GrammarWarning, warning_at}
 use Rattle.cfgerrors.specs.declared.warning.YaccGrammarWarningKind.TheVariants.{UnusedToken}
 use Rattle.cfgast.specs.Syntax.{Syntax, Rule}
 use Rattle.cfgtree.specs.Unused.{Name, RuleName, TokenName, IsUnused, Warned, none, taken, left, possible_warnings, rule_warning, token_warning}
-use Rattle.search.specs.Reached.{IsReachedIn, SearchState}
+use Rattle.search.specs.Reachable.{IsReachableIn, SearchState}
 use Rattle.cfgtree.specs.Inner.Nodes.{nodes, Knows}
 
 -- the warning that a node would have exists
@@ -62,19 +62,19 @@ token_there s i lt past = go s.rules i (i - length s.rules) lt past refl
     go (x ∷ rules) (suc i) k lt past e = go rules i k (omega (arith, lt)) past (omega (arith, e))
 
 module _ (s : Syntax) where
-  with_one : (xs : List (Name × GrammarWarning)) (told : List GrammarWarning) (e : Name × GrammarWarning) → Warned s xs told → IsUnused s e.0
-      → Warned s (xs ++ e ∷ []) (told ++ e.1 ∷ [])
+  with_one : (xs : List (Name × GrammarWarning)) (reported : List GrammarWarning) (e : Name × GrammarWarning) → Warned s xs reported → IsUnused s e.0
+      → Warned s (xs ++ e ∷ []) (reported ++ e.1 ∷ [])
   with_one _ _ e none h = taken h none
-  with_one _ _ e (taken {rest = xs} {warnings = told} k w) h = taken k (with_one xs told e w h)
-  with_one _ told e (left {rest = xs} k w) h = left k (with_one xs told e w h)
+  with_one _ _ e (taken {rest = xs} {warnings = reported} k w) h = taken k (with_one xs reported e w h)
+  with_one _ reported e (left {rest = xs} k w) h = left k (with_one xs reported e w h)
 
-  without_one : (xs : List (Name × GrammarWarning)) (told : List GrammarWarning) (e : Name × GrammarWarning) → Warned s xs told → (IsUnused s e.0 → ⊥)
-      → Warned s (xs ++ e ∷ []) told
+  without_one : (xs : List (Name × GrammarWarning)) (reported : List GrammarWarning) (e : Name × GrammarWarning) → Warned s xs reported → (IsUnused s e.0 → ⊥)
+      → Warned s (xs ++ e ∷ []) reported
   without_one _ _ e none h = left h none
-  without_one _ _ e (taken {rest = xs} {warnings = told} k w) h = taken k (without_one xs told e w h)
-  without_one _ told e (left {rest = xs} k w) h = left k (without_one xs told e w h)
+  without_one _ _ e (taken {rest = xs} {warnings = reported} k w) h = taken k (without_one xs reported e w h)
+  without_one _ reported e (left {rest = xs} k w) h = left k (without_one xs reported e w h)
 
-  pub unused : (x : SearchState) → Knows s x → (i : ℕ) → get_or x.reached i false ≡ false → (name : Name) → slice_get (nodes s) i ≡ Some name → IsUnused s name
+  pub unused : (x : SearchState) → Knows s x → (i : ℕ) → get_or x.reachable i false ≡ false → (name : Name) → slice_get (nodes s) i ≡ Some name → IsUnused s name
   unused x knows i off name at = (
     (λ h. true≢false (sym ((knows.each i name at).1 (inl h)) ∙ off)),
     (λ h. true≢false (sym ((knows.each i name at).1 (inr h)) ∙ off)),
@@ -85,9 +85,9 @@ module _ (s : Syntax) where
   longer i e at = take_more (possible_warnings s) i e (slice_get_within (possible_warnings s) i e at)
       ∙ ap (λ y. take i (possible_warnings s) ++ y ∷ []) (get_or_from_slice_get (possible_warnings s) i e e at)
 
-  module _ (i : ℕ) (told : List GrammarWarning) (w : Warned s (take i (possible_warnings s)) told) where
+  module _ (i : ℕ) (reported : List GrammarWarning) (w : Warned s (take i (possible_warnings s)) reported) where
     pub warned_more : (warning pushed : GrammarWarning) (now : List GrammarWarning) → Some warning ≡ option_map (λ named. named.1) (slice_get (possible_warnings s) i)
-        → ((name : Name) → slice_get (nodes s) i ≡ Some name → IsUnused s name) → pushed ≡ warning → now ≡ told ++ pushed ∷ []
+        → ((name : Name) → slice_get (nodes s) i ≡ Some name → IsUnused s name) → pushed ≡ warning → now ≡ reported ++ pushed ∷ []
         → Warned s (take (i + 1) (possible_warnings s)) now
     warned_more warning pushed now found unused same put = go (slice_get (possible_warnings s) i) refl found
       where
@@ -97,26 +97,26 @@ module _ (s : Syntax) where
         go (Some named) at e =
             let is : pushed ≡ named.1 = cc in
             subst (λ l. Warned s l now) (sym (longer i named at))
-            (subst (Warned s (take i (possible_warnings s) ++ named ∷ [])) (sym (put ∙ ap (λ y. told ++ y ∷ []) is))
-            (with_one (take i (possible_warnings s)) told named w (unused named.0 (named_there s.rules s.tokens s.spans i named at))))
+            (subst (Warned s (take i (possible_warnings s) ++ named ∷ [])) (sym (put ∙ ap (λ y. reported ++ y ∷ []) is))
+            (with_one (take i (possible_warnings s)) reported named w (unused named.0 (named_there s.rules s.tokens s.spans i named at))))
 
     -- there is no node, or it isn't unused
-    warned_left : ((e : Name × GrammarWarning) → slice_get (possible_warnings s) i ≡ Some e → IsUnused s e.0 → ⊥) → Warned s (take (i + 1) (possible_warnings s)) told
+    warned_left : ((e : Name × GrammarWarning) → slice_get (possible_warnings s) i ≡ Some e → IsUnused s e.0 → ⊥) → Warned s (take (i + 1) (possible_warnings s)) reported
     warned_left used = elim (cases_lt i (length (possible_warnings s))) [
       | inl within ↦ let (e, at) = element_at (possible_warnings s) i within in
-          subst (λ l. Warned s l told) (sym (longer i e at)) (without_one (take i (possible_warnings s)) told e w (used e at))
-      | inr past ↦ subst (λ l. Warned s l told) (take_all i (possible_warnings s) past ∙ sym (take_all (i + 1) (possible_warnings s) (omega (arith, past)))) w
+          subst (λ l. Warned s l reported) (sym (longer i e at)) (without_one (take i (possible_warnings s)) reported e w (used e at))
+      | inr past ↦ subst (λ l. Warned s l reported) (take_all i (possible_warnings s) past ∙ sym (take_all (i + 1) (possible_warnings s) (omega (arith, past)))) w
     ]
 
-    pub warned_known : (x : SearchState) → Knows s x → IsReachedIn x i → Warned s (take (i + 1) (possible_warnings s)) told
+    pub warned_known : (x : SearchState) → Knows s x → IsReachableIn x i → Warned s (take (i + 1) (possible_warnings s)) reported
     warned_known x knows on = warned_left (λ e at unused.
         elim ((knows.each i e.0 (named_there s.rules s.tokens s.spans i e at)).0 on) [ inl h ↦ unused.0 h | inr h ↦ unused.1 h ])
 
-    pub warned_past : None ≡ option_map (λ named. named.1) (slice_get (possible_warnings s) i) → Warned s (take (i + 1) (possible_warnings s)) told
+    pub warned_past : None ≡ option_map (λ named. named.1) (slice_get (possible_warnings s) i) → Warned s (take (i + 1) (possible_warnings s)) reported
     warned_past nothing = warned_left (λ e at unused. let no : None ≡ Some e.1 = nothing ∙ ap (option_map (λ named. named.1)) at in cc)
 
-    pub warned_all : length (nodes s) ≤ i → Warned s (possible_warnings s) told
-    warned_all all = subst (λ l. Warned s l told) (take_all i (possible_warnings s) (fewer s.rules s.tokens s.spans i all)) w
+    pub warned_all : length (nodes s) ≤ i → Warned s (possible_warnings s) reported
+    warned_all all = subst (λ l. Warned s l reported) (take_all i (possible_warnings s) (fewer s.rules s.tokens s.spans i all)) w
       where
         fewer : (rules : List (List ℕ × Rule)) (tokens : List (List ℕ)) (spans : List Span) (n : ℕ)
             → length (map (λ rule. RuleName rule.0) rules ++ map TokenName tokens) ≤ n

@@ -9,9 +9,9 @@ use Rattle.std.proofs.lemmas.List.Elements.{All-map}
 use Rattle.std.proofs.lemmas.List.Folds.{list_any_at}
 use Rattle.std.proofs.lemmas.Option.{slice_get-map, slice_get_within, get_or_from_slice_get, same_Some}
 use Rattle.std.proofs.lemmas.Simd.{map-map}
-use Rattle.lemmas.specs.Lists.{with_fronts, places}
+use Rattle.lemmas.specs.Lists.{with_prefixes, positions}
 use Rattle.lemmas.proofs.Options.{All-filter_map}
-use Rattle.lemmas.proofs.Passing.{places-same, places-map}
+use Rattle.lemmas.proofs.Passing.{positions-same, positions-map}
 use Rattle.lemmas.proofs.Tests.{list_any-map, list_any-filter_map}
 use Rattle.cfgwords.specs.FileWords.{Word}
 use Rattle.cfgbase.specs.declared.span.Span.{Span}
@@ -20,7 +20,7 @@ use Rattle.cfgast.specs.Syntax.{Rule, Production, word_name, head_name, index_of
 use Rattle.cfgast.specs.Building.{has_name}
 use Rattle.cfgtree.specs.WellFormed.{IsWellFormed}
 use Rattle.cfgast.proofs.Keeps.{All-firsts}
-use Rattle.cfgast.proofs.Names.{AreAmong, is_named-firsts, has_name-names, firsts-distinct, index_of-within, same_place}
+use Rattle.cfgast.proofs.Names.{AreAmong, is_named-firsts, has_name-names, firsts-distinct, index_of-within, same_offset}
 use Rattle.cfgast.proofs.Fields.{tokens, declared_token, alternative_named, rule_names, production_names}
 
 -- each of the names has an index among those that they are among
@@ -35,15 +35,15 @@ module _ (items : List Item) where
 
   distinct : IsDistinct bytes_eq (rule_names items)
   unfolding rule_heads
-  distinct = firsts-distinct head_name (filter_map typed_rule (with_fronts items))
+  distinct = firsts-distinct head_name (filter_map typed_rule (with_prefixes items))
 
   lists_own : (r : ℕ) (head : RuleHead) → slice_get (rule_heads items) r ≡ Some head
-      → places (λ a. bytes_eq (head_name head) a.0) done ≡ places (λ other. r == other) (indices_of (production_names items) (rule_names items))
+      → positions (λ a. bytes_eq (head_name head) a.0) done ≡ positions (λ other. r == other) (indices_of (production_names items) (rule_names items))
   unfolding done
   lists_own r head at =
-      places-same _ _ done (λ k d h. own (get_or done k d).0 (alternative_named items _ (named k d h)))
-      ∙ sym (places-map (λ n. r == index_of n (rule_names items)) (λ (a : List ℕ × Production). a.0) done)
-      ∙ sym (places-map (λ other. r == other) (λ n. index_of n (rule_names items)) (production_names items))
+      positions-same _ _ done (λ k d h. own (get_or done k d).0 (alternative_named items _ (named k d h)))
+      ∙ sym (positions-map (λ n. r == index_of n (rule_names items)) (λ (a : List ℕ × Production). a.0) done)
+      ∙ sym (positions-map (λ other. r == other) (λ n. index_of n (rule_names items)) (production_names items))
     where
       name_at : slice_get (rule_names items) r ≡ Some (head_name head)
       name_at = slice_get-map head_name (rule_heads items) r ∙ ap (option_map head_name) at
@@ -54,14 +54,14 @@ module _ (items : List Item) where
       own : (name : List ℕ) → has_name name (rule_names items) ≡ true → bytes_eq (head_name head) name ≡ (r == index_of name (rule_names items))
       own name there =
           ap (λ n. bytes_eq n name) (sym (get_or_from_slice_get (rule_names items) r (head_name head) [] name_at))
-          ∙ same_place name (rule_names items) distinct there r (slice_get_within (rule_names items) r (head_name head) name_at)
+          ∙ same_offset name (rule_names items) distinct there r (slice_get_within (rule_names items) r (head_name head) name_at)
 
   listed : (r : ℕ) (rule : List ℕ × Rule) → slice_get (map (rule_of done) (rule_heads items)) r ≡ Some rule
-      → rule.1.productions ≡ places (λ other. r == other) (indices_of (production_names items) (rule_names items))
+      → rule.1.productions ≡ positions (λ other. r == other) (indices_of (production_names items) (rule_names items))
   listed r rule e = at (slice_get (rule_heads items) r) refl (sym (slice_get-map (rule_of done) (rule_heads items) r) ∙ e)
     where
       at : (o : Option RuleHead) → slice_get (rule_heads items) r ≡ o → option_map (rule_of done) o ≡ Some rule
-          → rule.1.productions ≡ places (λ other. r == other) (indices_of (production_names items) (rule_names items))
+          → rule.1.productions ≡ positions (λ other. r == other) (indices_of (production_names items) (rule_names items))
       at None e is = let no : None ≡ Some rule = is in cc
       at (Some head) e is = ap (λ (r : List ℕ × Rule). r.1.productions) (sym (same_Some (rule_of done head) rule is)) ∙ lists_own r head e
 

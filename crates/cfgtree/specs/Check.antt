@@ -37,11 +37,11 @@ abbrev pub production_error : Syntax → Production → Option GrammarError
 production_error syntax production = option_or (precedence_error syntax production.precedence) (first_error (symbol_error syntax) production.symbols)
 
 -- of the production at an index of the list of all
-abbrev pub place_error : Syntax → ℕ → Option GrammarError
-place_error syntax place = option_and_then (production_error syntax) (slice_get syntax.productions place)
+abbrev pub locate_error : Syntax → ℕ → Option GrammarError
+locate_error syntax index = option_and_then (production_error syntax) (slice_get syntax.productions index)
 
 abbrev pub rule_error : Syntax → List ℕ × Rule → Option GrammarError
-rule_error syntax rule = first_error (place_error syntax) rule.1.productions
+rule_error syntax rule = first_error (locate_error syntax) rule.1.productions
 
 -- of a token that has a printed form
 abbrev pub printed_error : Syntax → List ℕ × (Span × (List ℕ × Span)) → Option GrammarError

@@ -1,7 +1,7 @@
 -- What holds of everything that was parsed: the syntax is well formed, its rules have names, and if there are no errors, it passes
 -- validation.
 use Rattle.std.specs.Prelude.{◌≡◌, List, [], None, All, true}
-use Rattle.reading.specs.Pieces.{starts}
+use Rattle.constructs.specs.Pieces.{starts}
 use Rattle.cfgwords.specs.declared.bytes.ByteClass.TheVariants as bytes
 use Rattle.cfgwords.specs.Bytes.{holds}
 use Rattle.cfgast.specs.Syntax.{Syntax}

@@ -2,7 +2,7 @@
 use Rattle.std.specs.Prelude.{◌≡◌, ℕ, List, [], ◌∷◌, ◌++◌, map, Contains, Some, slice_get, bytes_eq}
 use Rattle.std.specs.List.{zip}
 use Rattle.std.specs.Map.{lookup}
-use Rattle.search.specs.Reached.{Reached}
+use Rattle.search.specs.Reachable.{Reachable}
 use Rattle.cfgbase.specs.declared.span.Span.{Span}
 use Rattle.cfgwords.specs.FileWords.{Word}
 use Rattle.cfgerrors.specs.Warnings.{GrammarWarning, warning_at}
@@ -22,10 +22,10 @@ name_of (TokenSymbol word) = TokenName word.name
 pub record Holds (s : Syntax) (rule : List ℕ) (name : Name) : Type 0 where
   pub head : Rule
   pub named : lookup (bytes_eq rule) s.rules ≡ Some head
-  pub place : ℕ
-  pub listed : Contains head.productions place
+  pub index : ℕ
+  pub listed : Contains head.productions index
   pub production : Production
-  pub there : slice_get s.productions place ≡ Some production
+  pub there : slice_get s.productions index ≡ Some production
   pub holds : Contains (map name_of production.symbols) name
 
 -- a rule leads to what its productions hold, and a token to nothing
@@ -41,7 +41,7 @@ pub record IsStart (s : Syntax) (name : Name) : Type 0 where
 
 -- the start rule, and whatever is reachable from it
 abbrev pub IsUsed : Syntax → Name → Type 0
-IsUsed s = Reached (IsStart s) (Leads s)
+IsUsed s = Reachable (IsStart s) (Leads s)
 
 abbrev pub entry_token : List ℕ × Span → Name
 entry_token entry = TokenName entry.0

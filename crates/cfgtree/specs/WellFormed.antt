@@ -2,7 +2,7 @@
 use Rattle.std.specs.Prelude.{◌≡◌, ℕ, ◌<◌, ◌==◌, List, map, length, All, IfSome, slice_get, Some, true}
 use Rattle.std.specs.List.{IsDistinct, list_any}
 use Rattle.std.specs.Str.{bytes_eq}
-use Rattle.lemmas.specs.Lists.{places}
+use Rattle.lemmas.specs.Lists.{positions}
 use Rattle.cfgast.specs.Syntax.{Rule, Syntax}
 
 pub record IsWellFormed (s : Syntax) : Type 0 where
@@ -13,7 +13,7 @@ pub record IsWellFormed (s : Syntax) : Type 0 where
   -- each production is of an existing rule, and a rule lists its own productions, in order, and no others
   pub production_rules_as_long : length s.production_rules ≡ length s.productions
   pub production_rules_within : All (λ r. r < length s.rules) s.production_rules
-  pub productions_listed : (r : ℕ) (rule : List ℕ × Rule) → slice_get s.rules r ≡ Some rule → rule.1.productions ≡ places (λ other. r == other) s.production_rules
+  pub productions_listed : (r : ℕ) (rule : List ℕ × Rule) → slice_get s.rules r ≡ Some rule → rule.1.productions ≡ positions (λ other. r == other) s.production_rules
   -- each token has a span, and each directive is the index of a token
   pub spans_as_long : length s.spans ≡ length s.tokens
   pub directives_within : All (λ i. i < length s.tokens) s.token_directives

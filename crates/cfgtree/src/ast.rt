@@ -10,7 +10,7 @@ ghost use Rattle.cfgtree.specs.TreeView.{syntax};
 use cfgast::{Occurrence, Precedence, Production, Rule, Settings, Symbol, Syntax};
 use cfgbase::Span;
 use indexmap::{IndexMap, IndexSet};
-use lending::{Refill, refilled};
+use scoped::{Refill, refilled};
 use std::alloc::AllocError;
 
 /// What a grammar file says: its rules, productions and tokens, by their names.

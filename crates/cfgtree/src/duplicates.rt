@@ -25,8 +25,8 @@ pub fn duplicates(
         return Ok(found);
     }
     for occurrence in occurrences {
-        if let Some(places) = found.get_mut(&&occurrence.what) {
-            places.push(occurrence.span)?;
+        if let Some(offsets) = found.get_mut(&&occurrence.what) {
+            offsets.push(occurrence.span)?;
         }
     }
     Ok(found)

@@ -5,7 +5,7 @@ ghost use Rattle.std.specs.Prelude.{IfOk, IfSome, OnOk};
 ghost use Rattle.std.specs.List.{IsDistinct};
 ghost use Rattle.std.specs.Str.{bytes_eq};
 ghost use Rattle.cfgerrors.specs.Warnings.{warning_at};
-ghost use Rattle.search.specs.Reached.{FoundBy, Reaches};
+ghost use Rattle.search.specs.Reachable.{FoundBy, Reaches};
 ghost use Rattle.cfgtree.specs.Inner.Nodes.{nodes, node_of, HeldAt, IsNodeOf, Knows};
 ghost use Rattle.cfgtree.specs.Unused.{RuleName, TokenName, name_of, entry_token, Expected, IsStart, AreWarnings};
 ghost use Rattle.cfgtree.specs.Unused.{Name, possible_warnings};
@@ -35,7 +35,7 @@ impl GrammarAST {
         let known = self.known(alloc)?;
         let mut warnings = Vec::new(alloc);
         for node in 0..self.node_count() {
-            if !known.is_reached(node) {
+            if !known.is_reachable(node) {
                 if let Some((kind, span)) = self.kind_and_span(node) {
                     warnings.push(warning_at(alloc, kind, span)?)?;
                 }
@@ -79,7 +79,7 @@ impl GrammarAST {
 
     // Reaches what is expected to be unused.
     fn reach_expected(&self, search: &mut Search) -> Result<(), AllocError>
-        requires { length search.old.reached ≡ length (nodes (syntax self.now)) }
+        requires { length search.old.reachable ≡ length (nodes (syntax self.now)) }
         ensures { OnOk result (Reaches
             (λ node. (name : Name) × Expected (syntax self.now) name × IsNodeOf (syntax self.now) name node)
             search.old search.new) }
@@ -97,12 +97,12 @@ impl GrammarAST {
         search: &mut Search,
         table: &IndexMap<String, Span>,
     ) -> Result<(), AllocError>
-        requires { length search.old.reached ≡ length (nodes (syntax self.now)) }
+        requires { length search.old.reachable ≡ length (nodes (syntax self.now)) }
         ensures { OnOk result (Reaches (FoundBy (IsNodeOf (syntax self.now))
             (map entry_token (map span_entry table.now.entries))) search.old search.new) }
     {
-        for place in 0..table.len() {
-            if let Some((name, _)) = table.get_index(place) {
+        for index in 0..table.len() {
+            if let Some((name, _)) = table.get_index(index) {
                 reach_one(search, self.token_node(name))?;
             }
         }
@@ -111,7 +111,7 @@ impl GrammarAST {
 
     // Reaches what the productions hold.
     fn reach_all_held(&self, search: &mut Search, productions: &[usize]) -> Result<(), AllocError>
-        requires { length search.old.reached ≡ length (nodes (syntax self.now)) }
+        requires { length search.old.reachable ≡ length (nodes (syntax self.now)) }
         ensures { OnOk result (Reaches (FoundBy (HeldAt (syntax self.now)) productions.now) search.old search.new) }
     {
         for production in productions {
@@ -122,7 +122,7 @@ impl GrammarAST {
 
     // Reaches what a production holds.
     fn reach_held(&self, search: &mut Search, production: usize) -> Result<(), AllocError>
-        requires { length search.old.reached ≡ length (nodes (syntax self.now)) }
+        requires { length search.old.reachable ≡ length (nodes (syntax self.now)) }
         ensures { OnOk result (Reaches (HeldAt (syntax self.now) production) search.old search.new) }
     {
         match self.syntax.prods.get(production) {
@@ -133,7 +133,7 @@ impl GrammarAST {
 
     // Reaches the symbols.
     fn reach_symbols(&self, search: &mut Search, symbols: &[Symbol]) -> Result<(), AllocError>
-        requires { length search.old.reached ≡ length (nodes (syntax self.now)) }
+        requires { length search.old.reachable ≡ length (nodes (syntax self.now)) }
         ensures { OnOk result (Reaches (FoundBy (IsNodeOf (syntax self.now))
             (map name_of (map symbol_view symbols.now))) search.old search.new) }
     {
@@ -178,8 +178,8 @@ impl GrammarAST {
         ensures node { result ≡ node_of (syntax self.now) (TokenName name.now) }
     {
         let _tokens = self.syntax.tokens.len();
-        let place = self.syntax.tokens.get_index_of(name)?;
-        Some(self.syntax.rules.len() + place)
+        let index = self.syntax.tokens.get_index_of(name)?;
+        Some(self.syntax.rules.len() + index)
     }
 }
 
@@ -203,7 +203,7 @@ impl Edges<Bits> for GrammarAST {
 
 // Reaches the node, if there is one.
 fn reach_one(search: &mut Search, node: Option<usize>) -> Result<(), AllocError>
-    requires { IfSome node (λ n. n < length search.old.reached) }
+    requires { IfSome node (λ n. n < length search.old.reachable) }
     ensures { OnOk result (Reaches (λ n. node ≡ Some n) search.old search.new) }
 {
     match node {

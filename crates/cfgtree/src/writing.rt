@@ -105,10 +105,10 @@ impl GrammarAST {
             × (vec_len self.new.syntax.prods_rules < vec_capacity self.new.syntax.prods_rules)) }
         ensures unchanged { OnErr result (syntax self.new ≡ syntax self.old) }
     {
-        let place = self.syntax.prods.len();
+        let at = self.syntax.prods.len();
         self.syntax.prods.reserve(1)?;
         self.syntax.prods_rules.reserve(1)?;
-        list_production(&mut self.syntax.rules, name, place)
+        list_production(&mut self.syntax.rules, name, at)
     }
 
     /// Sets the text of the programs part, replacing the old one.

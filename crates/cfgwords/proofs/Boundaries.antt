@@ -6,17 +6,17 @@ use Rattle.std.proofs.lemmas.Bool.{cases_lt}
 use Rattle.std.proofs.lemmas.Bool.Decides.{nat_tests}
 use Rattle.std.proofs.lemmas.List.Sums.{prefix_len_passes, prefix_len_stops, prefix_len-le-length}
 use Rattle.std.proofs.lemmas.Str.{IsCharBoundary-start, IsCharBoundary-end, IsCharBoundary-after_ascii, IsCharBoundary-before_ascii}
-use Rattle.reading.specs.Pieces.{starts}
-use Rattle.reading.proofs.PiecesLemmas.{IsRun-run}
+use Rattle.constructs.specs.Pieces.{starts}
+use Rattle.constructs.proofs.PiecesLemmas.{IsRun-run}
 use Rattle.cfgwords.specs.declared.bytes.ByteClass.{ByteClass}
 use Rattle.cfgwords.specs.declared.bytes.ByteClass.TheVariants.{Blank, LineEnd, Line, Quote, Letter, NameStart, NameByte, IdentifierStart, IdentifierByte, Digit}
 use Rattle.cfgwords.specs.Bytes.{holds}
 
 -- after the last byte that passes, if only ASCII passes
-behind_passing : (test : ℕ → Bool) (text : List ℕ) → IsUtf8 text → ((b : ℕ) → test b ≡ true → b < 128)
+after_passing : (test : ℕ → Bool) (text : List ℕ) → IsUtf8 text → ((b : ℕ) → test b ≡ true → b < 128)
     → (n : ℕ) → prefix_len test text ≡ n → IsCharBoundary text n
-behind_passing test text utf8 ascii zero e = IsCharBoundary-start text utf8
-behind_passing test text utf8 ascii (suc n) e =
+after_passing test text utf8 ascii zero e = IsCharBoundary-start text utf8
+after_passing test text utf8 ascii (suc n) e =
     let below : n < prefix_len test text = omega arith in
     let within : n < length text = omega (arith, prefix_len-le-length test text) in
     let byte : get_or text n 0 < 128 = ascii (get_or text n 0) (prefix_len_passes test text n 0 below) in
@@ -26,7 +26,7 @@ behind_passing test text utf8 ascii (suc n) e =
 
 pub boundary_run : (test : ℕ → Bool) (text : List ℕ) → IsUtf8 text → ((b : ℕ) → test b ≡ true → b < 128)
     → IsCharBoundary text (prefix_len test text)
-boundary_run test text utf8 ascii = behind_passing test text utf8 ascii (prefix_len test text) refl
+boundary_run test text utf8 ascii = after_passing test text utf8 ascii (prefix_len test text) refl
 
 -- before the first byte that doesn't pass, if only ASCII bytes don't
 before_failing : (test : ℕ → Bool) (text : List ℕ) → ((b : ℕ) → test b ≡ false → b < 128)
@@ -59,23 +59,23 @@ pub run_stops : (class : ByteClass) (text : List ℕ) → starts (holds class) (
 run_stops class text = (IsRun-run (holds class) text).longest
 
 -- A text may be cut after a CR, an LF or a blank's byte that it begins with,
-pub behind_line_end : (text : List ℕ) → IsUtf8 text → starts (holds Line) text ≡ false → (length text == 0) ≡ false → IsCharBoundary text 1
-behind_line_end [] utf8 h some = let no : true ≡ false = some in absurd (cc)
-behind_line_end (b ∷ text) utf8 h some =
+pub after_line_end : (text : List ℕ) → IsUtf8 text → starts (holds Line) text ≡ false → (length text == 0) ≡ false → IsCharBoundary text 1
+after_line_end [] utf8 h some = let no : true ≡ false = some in absurd (cc)
+after_line_end (b ∷ text) utf8 h some =
     let ascii : b < 128 = grind (arith, nat_tests, h) in
     IsCharBoundary-after_ascii (b ∷ text) 0 utf8 (omega arith) ascii
 
-pub behind_blank : (text : List ℕ) → IsUtf8 text → holds Blank (get_or text 0 0) ≡ true → 1 ≤ length text → IsCharBoundary text 1
-behind_blank text utf8 h some =
+pub after_blank : (text : List ℕ) → IsUtf8 text → holds Blank (get_or text 0 0) ≡ true → 1 ≤ length text → IsCharBoundary text 1
+after_blank text utf8 h some =
     let ascii : get_or text 0 0 < 128 = grind (arith, nat_tests, h) in
     IsCharBoundary-after_ascii text 0 utf8 (omega arith) ascii
 
 -- and after a quote, a string's closing quote or a brace
-pub behind_byte : (text : List ℕ) → IsUtf8 text → get_or text 0 0 < 128 → 1 ≤ length text → IsCharBoundary text 1
-behind_byte text utf8 ascii some = IsCharBoundary-after_ascii text 0 utf8 (omega arith) ascii
+pub after_byte : (text : List ℕ) → IsUtf8 text → get_or text 0 0 < 128 → 1 ≤ length text → IsCharBoundary text 1
+after_byte text utf8 ascii some = IsCharBoundary-after_ascii text 0 utf8 (omega arith) ascii
 
-pub behind_quote : (text : List ℕ) → IsUtf8 text → holds Quote (get_or text 0 0) ≡ true → 1 ≤ length text → IsCharBoundary text 1
-behind_quote text utf8 h some = let ascii : get_or text 0 0 < 128 = grind (arith, nat_tests, h) in behind_byte text utf8 ascii some
+pub after_quote : (text : List ℕ) → IsUtf8 text → holds Quote (get_or text 0 0) ≡ true → 1 ≤ length text → IsCharBoundary text 1
+after_quote text utf8 h some = let ascii : get_or text 0 0 < 128 = grind (arith, nat_tests, h) in after_byte text utf8 ascii some
 
-pub behind_closing : (text : List ℕ) (quote : ℕ) → IsUtf8 text → holds Quote quote ≡ true → get_or text 0 0 ≡ quote → 1 ≤ length text → IsCharBoundary text 1
-behind_closing text quote utf8 h e some = behind_quote text utf8 (rw e h) some
+pub after_closing : (text : List ℕ) (quote : ℕ) → IsUtf8 text → holds Quote quote ≡ true → get_or text 0 0 ≡ quote → 1 ≤ length text → IsCharBoundary text 1
+after_closing text quote utf8 h e some = after_quote text utf8 (rw e h) some

@@ -3,9 +3,9 @@ use Rattle.std.proofs.Common.{◌≡◌, ℕ, ◌≤◌, Bool, true, false, cond
 use Rattle.std.specs.Str.{trim}
 use Rattle.std.proofs.lemmas.Bool.Decides.{nat_tests}
 use Rattle.std.proofs.lemmas.List.{append-nil}
-use Rattle.reading.specs.Graph.{IsGraph}
-use Rattle.reading.specs.Pieces.{starts}
-use Rattle.reading.proofs.Lengths.{left_same}
+use Rattle.constructs.specs.Graph.{IsGraph}
+use Rattle.constructs.specs.Pieces.{starts}
+use Rattle.constructs.proofs.Lengths.{left_same}
 use Rattle.cfgwords.specs.declared.fault.Fault.{Fault}
 use Rattle.cfgwords.specs.declared.fault.FaultKind.TheVariants.{ReachedEOL}
 use Rattle.cfgwords.specs.declared.passed.Passed.TheVariants.{BeforeColon}

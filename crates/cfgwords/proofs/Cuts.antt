@@ -7,13 +7,13 @@ use Rattle.std.proofs.lemmas.Bool.{and_parts}
 use Rattle.std.proofs.lemmas.Bool.Decides.{nat_tests}
 use Rattle.std.proofs.lemmas.List.{append-nil}
 use Rattle.std.proofs.lemmas.Str.{IsUtf8-nil, IsUtf8-take, IsUtf8-drop, IsUtf8-past_char, IsCharBoundary-at_seam, IsCharBoundary-before_ascii, encode_ascii}
-use Rattle.reading.specs.Pieces.{IsRun}
+use Rattle.constructs.specs.Pieces.{IsRun}
 use Rattle.cfgwords.specs.declared.bytes.ByteClass.TheVariants as bytes
 use Rattle.cfgwords.specs.declared.passed.Passed.{Passed}
 use Rattle.cfgwords.specs.declared.passed.Passed.TheVariants.{InString}
 use Rattle.cfgwords.specs.Bytes.{holds}
 use Rattle.cfgwords.specs.Passed.{stops, EndsInAscii}
-use Rattle.cfgwords.specs.Text.{place}
+use Rattle.cfgwords.specs.Text.{offset_of}
 use Rattle.cfgwords.specs.FileWords.{IsName, IsIdentifier, IsQuoted, IsInteger}
 use Rattle.cfgwords.proofs.PassedLemmas.{stop_ascii}
 
@@ -51,27 +51,27 @@ cut_word test ascii (b ∷ word) rest passes =
     cut_on (b ∷ (word ++ rest)) (word ++ rest) rest (cut_byte b (word ++ rest) (ascii b parts.0)) (cut_word test ascii word rest parts.1)
 
 -- before an ASCII byte, whatever precedes it
-pub cut_before : (front : List ℕ) (b : ℕ) (rest : List ℕ) → b < 128 → IsCut (front ++ b ∷ rest) (b ∷ rest)
-cut_before front b rest ascii = record {
-  piece = front;
+pub cut_before : (prefix : List ℕ) (b : ℕ) (rest : List ℕ) → b < 128 → IsCut (prefix ++ b ∷ rest) (b ∷ rest)
+cut_before prefix b rest ascii = record {
+  piece = prefix;
   whole = refl;
   utf8 = λ u.
-      let seam = get_or-append_seam front b rest 0 in
-      let long = length-append front (b ∷ rest) in
-      subst IsUtf8 (drop_at front (b ∷ rest) (length front) refl)
-      (IsUtf8-drop (front ++ b ∷ rest) (length front) u (IsCharBoundary-before_ascii (front ++ b ∷ rest) (length front) (omega arith) (omega arith)));
+      let seam = get_or-append_seam prefix b rest 0 in
+      let long = length-append prefix (b ∷ rest) in
+      subst IsUtf8 (drop_at prefix (b ∷ rest) (length prefix) refl)
+      (IsUtf8-drop (prefix ++ b ∷ rest) (length prefix) u (IsCharBoundary-before_ascii (prefix ++ b ∷ rest) (length prefix) (omega arith) (omega arith)));
 }
 
 -- at the end; and what precedes an ASCII byte is in UTF-8
 pub cut_end : (text : List ℕ) → IsCut text []
 cut_end text = record { piece = text; whole = sym (append-nil text); utf8 = λ u. IsUtf8-nil }
 
-pub front_utf8 : (front : List ℕ) (b : ℕ) (rest : List ℕ) → b < 128 → IsUtf8 (front ++ b ∷ rest) → IsUtf8 front
-front_utf8 front b rest ascii u =
-    let seam = get_or-append_seam front b rest 0 in
-    let long = length-append front (b ∷ rest) in
-    subst IsUtf8 (take_at front (b ∷ rest) (length front) refl)
-    (IsUtf8-take (front ++ b ∷ rest) (length front) u (IsCharBoundary-before_ascii (front ++ b ∷ rest) (length front) (omega arith) (omega arith)))
+pub prefix_utf8 : (prefix : List ℕ) (b : ℕ) (rest : List ℕ) → b < 128 → IsUtf8 (prefix ++ b ∷ rest) → IsUtf8 prefix
+prefix_utf8 prefix b rest ascii u =
+    let seam = get_or-append_seam prefix b rest 0 in
+    let long = length-append prefix (b ∷ rest) in
+    subst IsUtf8 (take_at prefix (b ∷ rest) (length prefix) refl)
+    (IsUtf8-take (prefix ++ b ∷ rest) (length prefix) u (IsCharBoundary-before_ascii (prefix ++ b ∷ rest) (length prefix) (omega arith) (omega arith)))
 
 -- after a name, an identifier, an integer and a quoted token
 run_cut : (test : ℕ → Bool) → ((b : ℕ) → test b ≡ true → b < 128) → (text word rest : List ℕ) → IsRun test text word rest → IsCut text rest
@@ -130,10 +130,10 @@ action_cut inside rest =
     (cut_on (inside ++ 125 ∷ rest) (125 ∷ rest) rest (cut_before inside 125 rest (omega arith)) (cut_byte 125 rest (omega arith)))
 
 -- the offset of the rest
-pub place_cut : (text rest : List ℕ) → IsCut text rest → place (length text) rest + length rest ≡ length text
-place_cut text rest cut = omega (arith, ap length cut.whole, length-append cut.piece rest)
+pub offset_cut : (text rest : List ℕ) → IsCut text rest → offset_of (length text) rest + length rest ≡ length text
+offset_cut text rest cut = omega (arith, ap length cut.whole, length-append cut.piece rest)
 
-pub boundary_cut : (text rest : List ℕ) → IsUtf8 text → IsCut text rest → IsCharBoundary text (place (length text) rest)
+pub boundary_cut : (text rest : List ℕ) → IsUtf8 text → IsCut text rest → IsCharBoundary text (offset_of (length text) rest)
 boundary_cut text rest u cut =
-    let at : length cut.piece ≡ place (length text) rest = omega (arith, ap length cut.whole, length-append cut.piece rest) in
+    let at : length cut.piece ≡ offset_of (length text) rest = omega (arith, ap length cut.whole, length-append cut.piece rest) in
     subst (IsCharBoundary text) at (IsCharBoundary-at_seam text cut.piece rest cut.whole (cut.utf8 u))

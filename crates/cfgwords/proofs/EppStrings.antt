@@ -1,9 +1,9 @@
 -- The string of `%epp` is unique, and its rest is no longer than the text.
 use Rattle.std.proofs.Common.{◌≡◌, ℕ, ◌≤◌, Bool, true, false, cond, List, [], ◌∷◌, ◌++◌, length, eqb, Result, Ok, Err, refl, ap, ◌∙◌, arith, length-append, eqb-true, eq-eqb}
 use Rattle.std.proofs.lemmas.Bool.Decides.{nat_tests}
-use Rattle.reading.specs.Graph.{IsGraph}
-use Rattle.reading.specs.Pieces.{starts}
-use Rattle.reading.proofs.Lengths.{left_same}
+use Rattle.constructs.specs.Graph.{IsGraph}
+use Rattle.constructs.specs.Pieces.{starts}
+use Rattle.constructs.proofs.Lengths.{left_same}
 use Rattle.cfgwords.specs.declared.fault.Fault.{Fault}
 use Rattle.cfgwords.specs.declared.fault.FaultKind.TheVariants.{InvalidString}
 use Rattle.cfgwords.specs.declared.bytes.ByteClass.TheVariants as bytes

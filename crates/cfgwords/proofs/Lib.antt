@@ -7,7 +7,7 @@ pub mod ColonTexts
 pub mod Cuts
 pub mod EppStrings
 pub mod Finders
-pub mod Fronts
+pub mod Prefixes
 pub mod IntegerFinder
 pub mod LineRests
 pub mod NameFinders
@@ -19,4 +19,4 @@ pub mod SectionFinders
 pub mod TokenFinder
 pub mod Trimming
 pub mod Unescaping
-pub mod WordPlaces
+pub mod WordOffsets

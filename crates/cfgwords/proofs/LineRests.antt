@@ -1,7 +1,7 @@
 -- The rest of a line is unique, and what it leaves is no longer than the text.
 use Rattle.std.proofs.Common.{◌≡◌, ℕ, ◌≤◌, List, length, Result, Ok, Err, ap, subst, arith, length-append}
-use Rattle.reading.specs.Graph.{IsGraph}
-use Rattle.reading.proofs.PiecesLemmas.{IsRun-run, run_only}
+use Rattle.constructs.specs.Graph.{IsGraph}
+use Rattle.constructs.proofs.PiecesLemmas.{IsRun-run, run_only}
 use Rattle.cfgwords.specs.declared.bytes.ByteClass.TheVariants as bytes
 use Rattle.cfgwords.specs.declared.fault.Fault.{Fault}
 use Rattle.cfgwords.specs.Bytes.{holds}

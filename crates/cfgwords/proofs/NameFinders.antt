@@ -3,9 +3,9 @@ use Rattle.std.proofs.Common.{◌≡◌, ℕ, ◌+◌, true, cond, List, [], ◌
 use Rattle.std.proofs.lemmas.Bool.Decides.{nat_tests}
 use Rattle.std.proofs.lemmas.Option.{some_pair_parts}
 use Rattle.lemmas.proofs.Options.{chosen}
-use Rattle.reading.specs.Pieces.{starts, IsRun, run}
-use Rattle.reading.proofs.PiecesLemmas.{IsRun-run, run_only, run_shorter}
-use Rattle.reading.specs.WordKind.{IsFinder, IsShorter}
+use Rattle.constructs.specs.Pieces.{starts, IsRun, run}
+use Rattle.constructs.proofs.PiecesLemmas.{IsRun-run, run_only, run_shorter}
+use Rattle.constructs.specs.WordKind.{IsFinder, IsShorter}
 use Rattle.cfgwords.specs.declared.bytes.ByteClass.{ByteClass}
 use Rattle.cfgwords.specs.declared.bytes.ByteClass.TheVariants as bytes
 use Rattle.cfgwords.specs.Bytes.{holds}

@@ -1,7 +1,7 @@
 -- A name's first byte is one that names begin with.
 use Rattle.std.proofs.Common.{◌≡◌, ℕ, true, List, [], ◌∷◌, sym, ap, ◌∙◌, true≢false}
 use Rattle.std.proofs.lemmas.Bool.{or_left}
-use Rattle.reading.specs.Pieces.{starts}
+use Rattle.constructs.specs.Pieces.{starts}
 use Rattle.cfgwords.specs.declared.bytes.ByteClass.TheVariants as bytes
 use Rattle.cfgwords.specs.Bytes.{holds}
 use Rattle.cfgwords.specs.FileWords.{IsName}

@@ -1,7 +1,7 @@
 -- Where a quoted token ends, by its bytes.
 use Rattle.std.proofs.Common.{◌≡◌, ◌≢◌, ℕ, suc, ◌+◌, ◌<◌, ◌≤◌, ◌==◌, true, false, List, [], ◌∷◌, length, take, drop, get_or, Some, None, refl, ◌∙◌, arith, add-one, drop-cons, eq-eqb, length-drop}
 use Rattle.std.proofs.lemmas.List.{drop-drop, drop_all}
-use Rattle.reading.specs.Pieces.{run}
+use Rattle.constructs.specs.Pieces.{run}
 use Rattle.std.specs.List.{prefix_len}
 use Rattle.std.specs.Str.{IsUtf8, IsCharBoundary}
 use Rattle.std.proofs.lemmas.Str.{IsCharBoundary-after_ascii, IsCharBoundary-before_ascii, IsUtf8-drop}

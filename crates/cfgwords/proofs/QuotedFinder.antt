@@ -3,9 +3,9 @@ use Rattle.std.proofs.Common.{◌≡◌, ℕ, ◌+◌, cond, not, ◌&&◌, ◌=
 use Rattle.std.proofs.lemmas.Bool.{and_parts, not-true}
 use Rattle.std.proofs.lemmas.Option.{some_pair_parts}
 use Rattle.lemmas.proofs.Options.{chosen}
-use Rattle.reading.specs.Pieces.{IsRun, run}
-use Rattle.reading.proofs.PiecesLemmas.{IsRun-run, run_only}
-use Rattle.reading.specs.WordKind.{IsFinder, IsShorter}
+use Rattle.constructs.specs.Pieces.{IsRun, run}
+use Rattle.constructs.proofs.PiecesLemmas.{IsRun-run, run_only}
+use Rattle.constructs.specs.WordKind.{IsFinder, IsShorter}
 use Rattle.cfgwords.specs.declared.bytes.ByteClass.TheVariants as bytes
 use Rattle.cfgwords.specs.Bytes.{holds}
 use Rattle.cfgwords.specs.FileWords.{is_inside, IsQuoted, closed, quoted_of}

@@ -3,9 +3,9 @@ use Rattle.std.proofs.Common.{◌≡◌, ℕ, true, List, [], ◌∷◌, ◌++�
 use Rattle.std.specs.Option.{option_and_then}
 use Rattle.std.proofs.lemmas.Bool.Decides.{nat_tests}
 use Rattle.std.proofs.lemmas.Option.{some_pair_parts}
-use Rattle.reading.specs.WordKind.{IsFinder, IsShorter}
-use Rattle.reading.specs.Pieces.{strip}
-use Rattle.reading.proofs.PiecesLemmas.{strip_sound, strip_only}
+use Rattle.constructs.specs.WordKind.{IsFinder, IsShorter}
+use Rattle.constructs.specs.Pieces.{strip}
+use Rattle.constructs.proofs.PiecesLemmas.{strip_sound, strip_only}
 use Rattle.cfgwords.specs.declared.bytes.ByteClass.TheVariants as bytes
 use Rattle.cfgwords.specs.declared.passed.Passed.TheVariants.{InQuotes}
 use Rattle.cfgwords.specs.Passed.{stops, passed}
@@ -28,9 +28,9 @@ quote_stops (c ∷ rest) = refl
 opened_sound : (opened : List ℕ) (inside left : List ℕ) → IsStopped InQuotes opened (inside, left) → (o : Option (List ℕ)) → strip (codes "\"") left ≡ o
     → (word rest : List ℕ) → option_map {U = List ℕ × List ℕ} (λ rest. (inside, rest)) o ≡ Some (word, rest) → IsText (34 ∷ opened) word rest
 opened_sound opened inside left s None is word rest e = cc
-opened_sound opened inside left s (Some behind) is word rest e =
+opened_sound opened inside left s (Some after) is word rest e =
     let same = some_pair_parts _ _ _ _ e in
-    let whole : left ≡ 34 ∷ behind = strip_sound (codes "\"") left behind is in
+    let whole : left ≡ 34 ∷ after = strip_sound (codes "\"") left after is in
     rw (← same.0, ← same.1) (record { inside = s.passes; whole = ap (λ x. 34 ∷ x) (s.whole ∙ ap (λ x. inside ++ x) whole) })
 
 text_sound : (text : List ℕ) (o : Option (List ℕ)) → strip (codes "\"") text ≡ o

@@ -3,8 +3,8 @@ use Rattle.std.proofs.Common.{◌≡◌, ℕ, ◌+◌, ◌<◌, Bool, true, fals
 use Rattle.std.specs.Prelude.{if◌then◌else◌}
 use Rattle.std.proofs.lemmas.Bool.Decides.{nat_tests}
 use Rattle.std.proofs.lemmas.Option.{some_pair_parts}
-use Rattle.reading.specs.Pieces.{starts}
-use Rattle.reading.specs.WordKind.{IsFinder, IsShorter}
+use Rattle.constructs.specs.Pieces.{starts}
+use Rattle.constructs.specs.WordKind.{IsFinder, IsShorter}
 use Rattle.cfgwords.specs.declared.bytes.ByteClass.TheVariants as bytes
 use Rattle.cfgwords.specs.Bytes.{holds}
 use Rattle.cfgwords.specs.FileWords.{TokenText, IsToken, identifier_of, quoted_of, token_text, token_of}

@@ -3,8 +3,8 @@ use Rattle.std.specs.Prelude.{◌≡◌, ℕ, zero, suc, Bool, false, List, [], 
 use Rattle.std.specs.Option.{option_and_then}
 use Rattle.std.specs.Str.{trim}
 use Rattle.cfgbase.specs.declared.span.Span.{Span}
-use Rattle.reading.specs.Pieces.{strip, with_first}
-use Rattle.cfgwords.specs.Text.{place, span_of}
+use Rattle.constructs.specs.Pieces.{strip, with_first}
+use Rattle.cfgwords.specs.Text.{offset_of, span_of}
 
 abbrev pub is_brace : ℕ → Bool
 is_brace b = b == 123 || b == 125
@@ -24,7 +24,7 @@ pub record IsAction (text word rest : List ℕ) : Type 0 where
 
 -- an action with its span, which begins right after the opening brace and is as long as the trimmed text
 abbrev pub action_at : ℕ → List ℕ → List ℕ → List ℕ → List ℕ × Span
-action_at len text word rest = (word, span_of (place len text + 1) word)
+action_at len text word rest = (word, span_of (offset_of len text + 1) word)
 
 -- The same as functions.
 

@@ -1,7 +1,7 @@
 -- Text up to a single colon. From the start on, two adjacent colons are passed as a pair; line ends are passed too.
 use Rattle.std.specs.Prelude.{◌≡◌, ℕ, Bool, false, List, [], ◌∷◌, ◌++◌, ◌==◌, Option, Some, None, Result, Ok, Err}
 use Rattle.std.specs.Str.{trim}
-use Rattle.reading.specs.Pieces.{starts}
+use Rattle.constructs.specs.Pieces.{starts}
 use Rattle.cfgwords.specs.declared.fault.Fault.{Fault}
 use Rattle.cfgwords.specs.declared.fault.FaultKind.TheVariants.{ReachedEOL}
 use Rattle.cfgwords.specs.declared.passed.Passed.TheVariants.{BeforeColon}

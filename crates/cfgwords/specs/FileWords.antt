@@ -5,12 +5,12 @@ use Rattle.std.specs.List.{list_all}
 use Rattle.std.specs.Option.{option_and_then}
 use Rattle.std.specs.Str.Parse.{digits_value}
 use Rattle.cfgbase.specs.declared.span.Span.{Span}
-use Rattle.reading.specs.Pieces.{starts, IsRun, run}
+use Rattle.constructs.specs.Pieces.{starts, IsRun, run}
 use Rattle.cfgwords.specs.declared.fault.Fault.{Fault}
 use Rattle.cfgwords.specs.declared.bytes.ByteClass.{ByteClass}
 use Rattle.cfgwords.specs.declared.bytes.ByteClass.TheVariants as bytes
 use Rattle.cfgwords.specs.Bytes.{holds}
-use Rattle.cfgwords.specs.Text.{place, span_of}
+use Rattle.cfgwords.specs.Text.{offset_of, span_of}
 
 -- a longest run of one class that begins with a byte of another
 pub record IsRunFrom (first others : ByteClass) (text word rest : List ℕ) : Type 0 where
@@ -75,19 +75,19 @@ pub record Token : Type 0 where
   pub end : ℕ
 
 abbrev pub word_at : ℕ → List ℕ → List ℕ → List ℕ → Word
-word_at len text name rest = record { name = name; span = span_of (place len text) name }
+word_at len text name rest = record { name = name; span = span_of (offset_of len text) name }
 
 abbrev pub token_at : ℕ → List ℕ → TokenText → List ℕ → Token
 token_at len text token rest = record {
   name = token.name;
-  span = span_of (if token.quoted then place len text + 1 else place len text) token.name;
+  span = span_of (if token.quoted then offset_of len text + 1 else offset_of len text) token.name;
   quoted = token.quoted;
-  end = place len rest;
+  end = offset_of len rest;
 }
 
 -- an integer with the span of its digits
 abbrev pub integer_at : ℕ → List ℕ → ℕ → List ℕ → ℕ × Span
-integer_at len text number rest = (number, record { start = place len text; end = place len rest })
+integer_at len text number rest = (number, record { start = offset_of len text; end = offset_of len rest })
 
 -- a token's name and span
 abbrev pub word_of : Token → Word

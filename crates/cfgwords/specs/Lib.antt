@@ -5,7 +5,7 @@ pub mod Bytes
 pub mod ColonText
 pub mod Inner
 pub mod Passed
-pub mod Places
+pub mod TextSpans
 pub mod SectionWords
 pub mod Strings
 pub mod Text

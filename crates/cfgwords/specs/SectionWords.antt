@@ -3,11 +3,11 @@ use Rattle.std.specs.Prelude.{◌≡◌, ℕ, List, [], ◌∷◌, ◌++◌, ◌
 use Rattle.std.specs.Option.{option_and_then}
 use Rattle.std.specs.Str.{str_to_ascii_lowercase}
 use Rattle.cfgbase.specs.declared.span.Span.{Span}
-use Rattle.reading.specs.Pieces.{strip}
+use Rattle.constructs.specs.Pieces.{strip}
 use Rattle.cfgwords.specs.declared.bytes.ByteClass.TheVariants as bytes
 use Rattle.cfgwords.specs.declared.passed.Passed.TheVariants.{InQuotes}
 use Rattle.cfgwords.specs.Passed.{IsPassed, passed}
-use Rattle.cfgwords.specs.Text.{place, span_of}
+use Rattle.cfgwords.specs.Text.{offset_of, span_of}
 use Rattle.cfgwords.specs.FileWords.{IsRunFrom, run_from}
 
 -- The characters of white space, each by its first byte and the further ones: U+0009 to U+000D and U+0020,
@@ -30,11 +30,11 @@ pub record IsText (text word rest : List ℕ) : Type 0 where
 
 -- a name in lower case, with its span
 abbrev pub name_at : ℕ → List ℕ → List ℕ → List ℕ → List ℕ × Span
-name_at len text word rest = (str_to_ascii_lowercase word, span_of (place len text) word)
+name_at len text word rest = (str_to_ascii_lowercase word, span_of (offset_of len text) word)
 
 -- what is between two quotes, with its span, which excludes the quotes
 abbrev pub text_at : ℕ → List ℕ → List ℕ → List ℕ → List ℕ × Span
-text_at len text word rest = (word, span_of (place len text + 1) word)
+text_at len text word rest = (word, span_of (offset_of len text + 1) word)
 
 -- The same as functions.
 

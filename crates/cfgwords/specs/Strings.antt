@@ -3,7 +3,7 @@
 use Rattle.std.specs.Prelude.{◌≡◌, ℕ, true, false, List, [], ◌∷◌, ◌++◌, ◌==◌, not, Result, Ok, Err, if◌then◌else◌}
 use Rattle.std.specs.List.{filter}
 use denote.Ref.{Bor}
-use Rattle.reading.specs.Pieces.{starts}
+use Rattle.constructs.specs.Pieces.{starts}
 use Rattle.cfgwords.specs.declared.fault.Fault.{Fault}
 use Rattle.cfgwords.specs.declared.fault.FaultKind.TheVariants.{InvalidString}
 use Rattle.cfgwords.specs.declared.bytes.ByteClass.TheVariants as bytes

@@ -6,8 +6,8 @@ use Rattle.cfgwords.specs.declared.fault.Fault.{Fault}
 use Rattle.cfgwords.specs.declared.fault.FaultKind.{FaultKind}
 
 -- the offset where left begins in a text of len bytes
-abbrev pub place : ℕ → List ℕ → ℕ
-place len left = len - length left
+abbrev pub offset_of : ℕ → List ℕ → ℕ
+offset_of len left = len - length left
 
 -- the span of a piece that begins at an offset
 abbrev pub span_of : ℕ → List ℕ → Span
@@ -15,4 +15,4 @@ span_of start piece = record { start = start; end = start + length piece }
 
 -- a fault of this kind, right where the text is left
 abbrev pub fault_at : ℕ → FaultKind → List ℕ → Fault
-fault_at len kind left = record { kind = kind; span = record { start = place len left; end = place len left } }
+fault_at len kind left = record { kind = kind; span = record { start = offset_of len left; end = offset_of len left } }

@@ -5,7 +5,7 @@ ghost use Rattle.std.specs.Option.{option_map};
 ghost use Rattle.cfgwords.specs.Actions.{action_of, split_balanced};
 ghost use Rattle.cfgwords.specs.Inner.Ends.{IsClosedAt};
 
-use reading::after_word;
+use constructs::after_word;
 
 /// How many bytes precede the brace that closes one more than are opened.
 fn balanced_len(bytes: &[u8]) -> Option<usize>

@@ -2,18 +2,18 @@
 
 ghost use Rattle.std.specs.Prelude.{◌≡◌, drop, true, false, length, ◌≤◌};
 ghost use Rattle.std.specs.List.{list_any};
-ghost use Rattle.reading.specs.Pieces.{starts};
+ghost use Rattle.constructs.specs.Pieces.{starts};
 ghost use Rattle.cfgwords.specs.Blank.{passes_line_end};
 ghost use Rattle.cfgwords.specs.Bytes.{holds};
 
 use crate::bytes::ByteClass;
 use crate::fault::FaultKind;
 use crate::run::run;
-use reading::{after_word, split_at_first};
+use constructs::{after_word, split_at_first};
 
 /// How a blank begins, and the rest after that.
 #[derive(Clone, Copy, Debug)]
-pub enum Front<'a> {
+pub enum Prefix<'a> {
     /// A space, a tab, a CR or an LF.
     Gap(u8, &'a str),
     /// A line comment, its line end included: the rest.
@@ -27,7 +27,7 @@ pub enum Front<'a> {
 }
 
 /// The rest after the CR or LF that a text begins with; an empty text is its own rest.
-fn behind_line_end(text: &str) -> &str
+fn after_line_end(text: &str) -> &str
     requires { starts (holds ByteClass.Line) text.now ≡ false }
     ensures { result.now ≡ drop 1 text.now }
 {
@@ -55,51 +55,51 @@ pub fn passes_line_end(text: &str, rest: &str) -> bool
         .any(|b| ByteClass::LineEnd.holds(*b))
 }
 
-impl<'a> Front<'a> {
-    ghost use Rattle.cfgwords.specs.Blank.{front_of, front_view, other_front, part_of, part_view};
+impl<'a> Prefix<'a> {
+    ghost use Rattle.cfgwords.specs.Blank.{prefix_of, prefix_view, other_prefix, part_of, part_view};
 
     /// How a text begins that opens no comment.
-    fn without_comment(text: &'a str) -> Front<'a>
-        ensures { front_view result ≡ other_front text.now }
+    fn without_comment(text: &'a str) -> Prefix<'a>
+        ensures { prefix_view result ≡ other_prefix text.now }
     {
         match text.as_bytes() {
-            [b, ..] if ByteClass::Blank.holds(*b) => Front::Gap(*b, text.split_at(1).1),
-            _ => Front::Bare,
+            [b, ..] if ByteClass::Blank.holds(*b) => Prefix::Gap(*b, text.split_at(1).1),
+            _ => Prefix::Bare,
         }
     }
 
     /// How the text begins.
-    #[tactic(auto, unfolding(crate::specs::Blank::front_of))]
-    pub fn of(text: &'a str) -> Front<'a>
-        ensures { front_view result ≡ front_of text.now }
+    #[tactic(auto, unfolding(crate::specs::Blank::prefix_of))]
+    pub fn of(text: &'a str) -> Prefix<'a>
+        ensures { prefix_view result ≡ prefix_of text.now }
     {
         if let Some(inside) = after_word(text, "//") {
             let (_, tail) = run(inside, ByteClass::Line);
-            return Front::LineComment(behind_line_end(tail));
+            return Prefix::LineComment(after_line_end(tail));
         }
         if let Some(inside) = after_word(text, "/*") {
             return match split_at_first(inside, "*/") {
-                Some((body, rest)) => Front::BlockComment(body, rest),
-                None => Front::OpenComment(inside),
+                Some((body, rest)) => Prefix::BlockComment(body, rest),
+                None => Prefix::OpenComment(inside),
             };
         }
-        Front::without_comment(text)
+        Prefix::without_comment(text)
     }
 
     /// The rest after a part of a blank; `None` if the blank ends before it. A blank within one line (`lines` is false)
     /// refuses a CR or LF with `ReachedEOL`, except for the one that ends a line comment; any other unclosed block
     /// comment is `IncompleteComment`.
     pub fn part(self, lines: bool) -> Result<Option<&'a str>, FaultKind>
-        ensures { part_view result ≡ part_of lines (front_view self.entry) }
+        ensures { part_view result ≡ part_of lines (prefix_view self.entry) }
     {
         match self {
-            Front::Gap(b, rest) if lines || !ByteClass::LineEnd.holds(b) => Ok(Some(rest)),
-            Front::LineComment(rest) => Ok(Some(rest)),
-            Front::BlockComment(body, rest) if lines || !has_line_end(body) => Ok(Some(rest)),
-            Front::OpenComment(inside) if lines || !has_line_end(inside) => {
+            Prefix::Gap(b, rest) if lines || !ByteClass::LineEnd.holds(b) => Ok(Some(rest)),
+            Prefix::LineComment(rest) => Ok(Some(rest)),
+            Prefix::BlockComment(body, rest) if lines || !has_line_end(body) => Ok(Some(rest)),
+            Prefix::OpenComment(inside) if lines || !has_line_end(inside) => {
                 Err(FaultKind::IncompleteComment)
             }
-            Front::Bare => Ok(None),
+            Prefix::Bare => Ok(None),
             _ => Err(FaultKind::ReachedEOL),
         }
     }

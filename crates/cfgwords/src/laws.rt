@@ -2,8 +2,8 @@
 //! this crate's types compare and copy.
 
 ghost use Rattle.std.specs.Prelude.{◌≡◌, ◌↔◌, ℕ, Bool, List, IsTrue};
-ghost use Rattle.reading.specs.Graph.{IsGraph};
-ghost use Rattle.cfgwords.specs.Blank.{IsFront, front_of, Blank, blank};
+ghost use Rattle.constructs.specs.Graph.{IsGraph};
+ghost use Rattle.cfgwords.specs.Blank.{IsPrefix, prefix_of, Blank, blank};
 ghost use Rattle.cfgwords.specs.Strings.{EppString, epp_string};
 ghost use Rattle.cfgwords.specs.ColonText.{ColonText, colon_text};
 ghost use Rattle.cfgwords.specs.Actions.{IsAction, action_of};
@@ -11,7 +11,7 @@ ghost use Rattle.cfgwords.specs.SectionWords.{IsName as IsSectionName, name_of a
 ghost use Rattle.cfgwords.specs.FileWords.{IsName, name_of, IsIdentifier, identifier_of, IsQuoted, quoted_of};
 ghost use Rattle.cfgwords.specs.FileWords.{TokenText};
 ghost use Rattle.cfgwords.specs.FileWords.{IsToken, token_of, IsInteger, integer_of, LineRest, line_rest};
-ghost use Rattle.cfgwords.specs.declared.blank.Front.{Front};
+ghost use Rattle.cfgwords.specs.declared.blank.Prefix.{Prefix};
 ghost use Rattle.cfgwords.specs.declared.bytes.ByteClass.{ByteClass};
 ghost use Rattle.cfgwords.specs.declared.fault.Fault.{Fault};
 ghost use Rattle.cfgwords.specs.declared.fault.FaultKind.{FaultKind};
@@ -19,16 +19,16 @@ ghost use Rattle.cfgwords.specs.declared.passed.Passed.{Passed};
 ghost use Rattle.cfgwords.specs.declared.words.Token.{Token};
 ghost use Rattle.cfgwords.specs.declared.words.Word.{Word};
 
-use crate::blank::Front;
+use crate::blank::Prefix;
 use crate::bytes::ByteClass;
 use crate::fault::{Fault, FaultKind};
 use crate::passed::Passed;
 use crate::words::{Token, Word};
 
-/// How a text begins is unique, and `Front::of` returns it.
-#[tactic(auto, using(crate::proofs::Blanks::front_graph))]
-pub fn front_is_graph()
-    ensures { IsGraph IsFront front_of }
+/// How a text begins is unique, and `Prefix::of` returns it.
+#[tactic(auto, using(crate::proofs::Blanks::prefix_graph))]
+pub fn prefix_is_graph()
+    ensures { IsGraph IsPrefix prefix_of }
 {}
 
 /// A blank is read in exactly one way, whatever the text.
@@ -118,7 +118,7 @@ pub fn texts_found()
 {}
 
 /// Two classes of bytes are equal exactly if they are the same. A clone equals its source and allocates nothing.
-pub fn byte_classes_are_told_apart()
+pub fn byte_classes_are_distinct()
     ensures equal { (a b : ByteClass) → IsTrue (⟦<ByteClass as PartialEq>⟧.eq a b) ↔ (a ≡ b) }
     ensures clone { (a b : ByteClass) → ⟦<ByteClass as Clone>⟧.is_clone a b → b ≡ a }
     ensures cloned { (a : ByteClass) → ⟦<ByteClass as Clone>⟧.is_infallible a }
@@ -126,21 +126,21 @@ pub fn byte_classes_are_told_apart()
 
 /// Two kinds of passed bytes are equal exactly if they are the same, for strings with the same quote. A clone equals
 /// its source and allocates nothing.
-pub fn passed_are_told_apart()
+pub fn passed_are_distinct()
     ensures equal { (a b : Passed) → IsTrue (⟦<Passed as PartialEq>⟧.eq a b) ↔ (a ≡ b) }
     ensures clone { (a b : Passed) → ⟦<Passed as Clone>⟧.is_clone a b → b ≡ a }
     ensures cloned { (a : Passed) → ⟦<Passed as Clone>⟧.is_infallible a }
 {}
 
 /// Two kinds of faults are equal exactly if they are the same. A clone equals its source and allocates nothing.
-pub fn fault_kinds_are_told_apart()
+pub fn fault_kinds_are_distinct()
     ensures equal { (a b : FaultKind) → IsTrue (⟦<FaultKind as PartialEq>⟧.eq a b) ↔ (a ≡ b) }
     ensures clone { (a b : FaultKind) → ⟦<FaultKind as Clone>⟧.is_clone a b → b ≡ a }
     ensures cloned { (a : FaultKind) → ⟦<FaultKind as Clone>⟧.is_infallible a }
 {}
 
 /// Two faults are equal exactly if their kinds and spans are. A clone equals its source and allocates nothing.
-pub fn faults_are_told_apart()
+pub fn faults_are_distinct()
     ensures equal { (a b : Fault) → IsTrue (⟦<Fault as PartialEq>⟧.eq a b) ↔ (a ≡ b) }
     ensures clone { (a b : Fault) → ⟦<Fault as Clone>⟧.is_clone a b → b ≡ a }
     ensures cloned { (a : Fault) → ⟦<Fault as Clone>⟧.is_infallible a }
@@ -159,7 +159,7 @@ pub fn tokens_are_cloned<'a>()
 {}
 
 /// A clone of how a blank begins equals its source and allocates nothing.
-pub fn fronts_are_cloned<'a>()
-    ensures clone { (a b : Front) → ⟦<Front<'a> as Clone>⟧.is_clone a b → b ≡ a }
-    ensures cloned { (a : Front) → ⟦<Front<'a> as Clone>⟧.is_infallible a }
+pub fn prefixes_are_cloned<'a>()
+    ensures clone { (a b : Prefix) → ⟦<Prefix<'a> as Clone>⟧.is_clone a b → b ≡ a }
+    ensures cloned { (a : Prefix) → ⟦<Prefix<'a> as Clone>⟧.is_infallible a }
 {}

@@ -2,7 +2,7 @@
 
 ghost use Rattle.std.specs.Prelude.{◌≡◌, ◌+◌, length, false};
 ghost use Rattle.std.specs.List.{prefix_len};
-ghost use Rattle.reading.specs.Pieces.{starts, run};
+ghost use Rattle.constructs.specs.Pieces.{starts, run};
 ghost use Rattle.cfgwords.specs.Bytes.{holds};
 
 use crate::bytes::ByteClass;
@@ -33,7 +33,7 @@ fn run_len(text: &str, class: ByteClass) -> usize
 /// The longest prefix of bytes in the class, and the rest after it.
 #[tactic(auto, using(crate::proofs::Boundaries::run_boundary, crate::proofs::Boundaries::run_stops))]
 pub fn run(text: &str, class: ByteClass) -> (&str, &str)
-    ensures front { result.0.now ≡ (run (holds class) text.now).0 }
+    ensures prefix { result.0.now ≡ (run (holds class) text.now).0 }
     ensures back { result.1.now ≡ (run (holds class) text.now).1 }
     ensures longest { starts (holds class) result.1.now ≡ false }
     ensures lengths { length result.0.now + length result.1.now ≡ length text.now }

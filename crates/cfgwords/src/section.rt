@@ -6,7 +6,7 @@ ghost use Rattle.cfgwords.specs.SectionWords.{name_of, text_of};
 use crate::bytes::ByteClass;
 use crate::passed::{Passed, pass};
 use crate::words::run_from;
-use reading::after_word;
+use constructs::after_word;
 
 /// The name at the start of the text, and the rest after it: the longest `[a-zA-Z][a-zA-Z_]*`.
 pub fn leading_section_name(text: &str) -> Option<(&str, &str)>

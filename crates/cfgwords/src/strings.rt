@@ -7,7 +7,7 @@ ghost use Rattle.cfgwords.specs.Bytes.{holds};
 
 use crate::bytes::ByteClass;
 use crate::passed::{Passed, pass};
-use reading::split_at_first;
+use constructs::split_at_first;
 use std::alloc::{AllocError, Global};
 
 /// What precedes the closing quote, and the rest after it, if the string is closed here.
@@ -54,9 +54,9 @@ pub fn unescaped(alloc: Global, text: &str) -> Result<String, AllocError>
 {
     let mut value = String::new(alloc);
     let mut rest = text;
-    while let Some((front, behind)) = split_at_first(rest, "\\") {
-        value.push_str(front)?;
-        rest = behind;
+    while let Some((prefix, after)) = split_at_first(rest, "\\") {
+        value.push_str(prefix)?;
+        rest = after;
     }
     value.push_str(rest)?;
     Ok(value)

@@ -21,7 +21,7 @@ use Rattle.cfgnumbers.specs.declared.rows.RuleRow.{RuleRow}
 use Rattle.cfgnumbers.specs.declared.rows.TokenRow.{TokenRow}
 use Rattle.cfgnumbers.proofs.Listed.{listed_once}
 use Rattle.cfgnumbers.proofs.DistinctNames.{distinct_names}
-use Rattle.cfgnumbers.proofs.Places.{implicit_there}
+use Rattle.cfgnumbers.proofs.Positions.{implicit_there}
 use Rattle.cfgnumbers.proofs.Room.{fits_from_room, room_from_fits}
 use Rattle.cfgnumbers.proofs.Whole.{whole}
 
@@ -61,18 +61,18 @@ well_numbered max kind s sound room =
     }
 
 -- the errors of what was read, if it has any
-pub refused : (max : ℕ) (errors : List GrammarError) (g : Numbered) (told : List GrammarError) → (errors ≡ [] → ⊥) → told ≡ errors → IsReadRefused max errors g told
-refused max [] g told some same = absurd (some refl)
-refused max (error ∷ errors) g told some same = same
+pub refused : (max : ℕ) (errors : List GrammarError) (g : Numbered) (reported : List GrammarError) → (errors ≡ [] → ⊥) → reported ≡ errors → IsReadRefused max errors g reported
+refused max [] g reported some same = absurd (some refl)
+refused max (error ∷ errors) g reported some same = same
 
 -- a grammar that is too large
 pub too_large : (max : ℕ) (parsed : Parsed) (fault : YaccFault) → IsSound parsed.syntax parsed.errors → parsed.errors ≡ []
     → (LeavesRoom max (implicit_of parsed.kind parsed.syntax) parsed.syntax → ⊥) → IsTooSmall fault → IsAnswer max (WasRead parsed) (Err fault)
 unfolding numbered
-too_large max parsed faults.OutOfMemory sound none no_room told = tt
-too_large max parsed (faults.Errors list) sound none no_room told =
+too_large max parsed faults.OutOfMemory sound none no_room reported = tt
+too_large max parsed (faults.Errors list) sound none no_room reported =
     subst (λ e. IsReadRefused max e (in_numbers parsed) list.items) (sym none)
-    ((λ fits. no_room (room_from_fits max (implicit_of parsed.kind parsed.syntax) parsed.syntax sound.well_formed fits)), told)
+    ((λ fits. no_room (room_from_fits max (implicit_of parsed.kind parsed.syntax) parsed.syntax sound.well_formed fits)), reported)
 
 -- a grammar
 pub answered : (max : ℕ) (parsed : Parsed) (g : Numbered) → IsSound parsed.syntax parsed.errors → parsed.errors ≡ [] → LeavesRoom max (implicit_of parsed.kind parsed.syntax) parsed.syntax

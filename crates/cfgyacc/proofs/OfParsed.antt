@@ -1,7 +1,7 @@
 -- What a constructor returns for a text, by what was parsed from it, if anything was.
 use Rattle.std.proofs.Common.{◌≡◌, ℕ, List, Option, Result, Ok, Err, IfOk, IfErr, MatchResult, IsErrAnd, refl, sym, subst, ap, ◌∙◌}
 use Rattle.std.specs.Str.{IsUtf8}
-use Rattle.cfgwords.specs.Places.{IsPiece, IsWithin}
+use Rattle.cfgwords.specs.TextSpans.{IsPiece, IsWithin}
 use Rattle.cfgast.specs.Items.{Item}
 use Rattle.cfgast.specs.Syntax.{syntax_of}
 use Rattle.cfgkinds.specs.declared.kind.YaccKind.{YaccKind}
@@ -9,7 +9,7 @@ use Rattle.cfgsection.specs.Named.{HasOneNaming, Naming, Names}
 use Rattle.cfgerrors.specs.declared.error.YaccFault.{YaccFault}
 use Rattle.cfgerrors.specs.declared.error.YaccFault.TheVariants as faults
 use Rattle.cfgsyntax.specs.Faults.{errors_of}
-use Rattle.cfgsyntax.specs.OfItself.{AnswersNaming, IsParsedAs}
+use Rattle.cfgsyntax.specs.OfItself.{ReturnsNaming, IsParsedAs}
 use Rattle.cfgsyntax.specs.Parsed.{Parsed}
 use Rattle.cfgsyntax.specs.ErrorSpans.{EachFaultSpan, EachParsedSpan}
 use Rattle.cfgsyntax.specs.Reads.{HasOneReading, Reads, Stop}
@@ -41,9 +41,9 @@ parsed_as kind text (Ok p) one kind_is syntax errors = record { one = one; kind_
 parsed_as kind text (Err e) one kind_is syntax errors = tt
 
 -- a fault is the result for what it leaves to be found
-fault_answers : (max : ℕ) (fault : YaccFault) (found : Found) → IsFaultOf fault found → IsAnswer max found (Err fault)
-fault_answers max faults.OutOfMemory found is = tt
-fault_answers max (faults.Errors told) found is = subst (λ x. IsRefused max x told.items) (sym is) refl
+fault_results : (max : ℕ) (fault : YaccFault) (found : Found) → IsFaultOf fault found → IsAnswer max found (Err fault)
+fault_results max faults.OutOfMemory found is = tt
+fault_results max (faults.Errors reported) found is = subst (λ x. IsRefused max x reported.items) (sym is) refl
 
 module _ (text : List ℕ) (max : ℕ) (result : Result Numbered YaccFault) where
   -- the result is that of what was parsed, or the fault if there is one
@@ -60,18 +60,18 @@ module _ (text : List ℕ) (max : ℕ) (result : Result Numbered YaccFault) wher
     subst (IsAnswer max (WasRead (parsed_of kind text one))) (sym (of.refused ∙ ap Err memory)) tt,
   )
 
-  pub of_itself : (parsed : Result Parsed YaccFault) → HasOneNaming text → ((naming : Naming) → Names text naming → AnswersNaming text naming parsed)
+  pub of_itself : (parsed : Result Parsed YaccFault) → HasOneNaming text → ((naming : Naming) → Names text naming → ReturnsNaming text naming parsed)
       → IsOf parsed → IsGrammarOfItself text max result
   of_itself (Ok parsed) one is of = (WasRead parsed, parsed_itself text one parsed is, of.answer)
   of_itself (Err fault) one is of =
       let it = refused_itself text one fault is in
-      (it.0, it.1, subst (IsAnswer max it.0) (sym of.refused) (fault_answers max fault it.0 it.2))
+      (it.0, it.1, subst (IsAnswer max it.0) (sym of.refused) (fault_results max fault it.0 it.2))
 
 -- the spans of the result
 pub answer_spans : (text : List ℕ) → IsUtf8 text → (parsed : Result Parsed YaccFault) (result : Result Numbered YaccFault)
     → IfOk parsed (EachParsedSpan (IsPiece text) (IsWithin text)) → IfErr parsed (EachFaultSpan (IsPiece text))
     → IfOk parsed (λ p. (text : List ℕ) → IsUtf8 text → EachParsedSpan (IsPiece text) (IsWithin text) p → EachAnswerSpan (IsPiece text) (IsWithin text) result)
     → IfErr parsed (λ fault. result ≡ Err fault) → EachAnswerSpan (IsPiece text) (IsWithin text) result
-answer_spans text utf8 (Ok parsed) result placed fault_placed answer refused = answer text utf8 placed
-answer_spans text utf8 (Err faults.OutOfMemory) result placed fault_placed answer refused = subst (EachAnswerSpan (IsPiece text) (IsWithin text)) (sym refused) tt
-answer_spans text utf8 (Err (faults.Errors told)) result placed fault_placed answer refused = subst (EachAnswerSpan (IsPiece text) (IsWithin text)) (sym refused) fault_placed
+answer_spans text utf8 (Ok parsed) result located fault_located answer refused = answer text utf8 located
+answer_spans text utf8 (Err faults.OutOfMemory) result located fault_located answer refused = subst (EachAnswerSpan (IsPiece text) (IsWithin text)) (sym refused) tt
+answer_spans text utf8 (Err (faults.Errors reported)) result located fault_located answer refused = subst (EachAnswerSpan (IsPiece text) (IsWithin text)) (sym refused) fault_located

@@ -13,9 +13,9 @@ use Rattle.cfgyacc.specs.Answer.{Found, Unnamed, WasRead, IsAnswer, IsReadRefuse
 use Rattle.cfgyacc.specs.GrammarOf.{IsFoundAs, IsFoundNamed, IsGrammarOf, IsGrammarOfItself}
 use Rattle.cfgnumbers.specs.Numbered.{Numbered}
 
-read_refused : (max : ℕ) (errors : List GrammarError) (g : Numbered) (told : List GrammarError) → IsReadRefused max errors g told → 0 < length told
-read_refused max [] g told is = subst (λ xs. 0 < length xs) (sym is.1) (omega arith)
-read_refused max (error ∷ errors) g told is = subst (λ xs. 0 < length xs) (sym is) (omega arith)
+read_refused : (max : ℕ) (errors : List GrammarError) (g : Numbered) (reported : List GrammarError) → IsReadRefused max errors g reported → 0 < length reported
+read_refused max [] g reported is = subst (λ xs. 0 < length xs) (sym is.1) (omega arith)
+read_refused max (error ∷ errors) g reported is = subst (λ xs. 0 < length xs) (sym is) (omega arith)
 
 -- a text that names no kind has at least one
 abbrev pub HasSome : Found → Type 0
@@ -25,16 +25,16 @@ HasSome (WasRead parsed) = Unit {0}
 pub answer_lists : (max : ℕ) (found : Found) (result : Result Numbered YaccFault) → HasSome found → IsAnswer max found result → IfErr result ListsErrors
 answer_lists max found (Ok grammar) some is = tt
 answer_lists max found (Err faults.OutOfMemory) some is = tt
-answer_lists max (Unnamed errors) (Err (faults.Errors told)) some is = subst (λ xs. 0 < length xs) (sym is) some
-answer_lists max (WasRead parsed) (Err (faults.Errors told)) some is = read_refused max parsed.errors (in_numbers parsed) told.items is
+answer_lists max (Unnamed errors) (Err (faults.Errors reported)) some is = subst (λ xs. 0 < length xs) (sym is) some
+answer_lists max (WasRead parsed) (Err (faults.Errors reported)) some is = read_refused max parsed.errors (in_numbers parsed) reported.items is
 
 pub too_small_lists : (fault : YaccFault) → IsTooSmall fault → ListsErrors fault
 too_small_lists faults.OutOfMemory is = absurd is
-too_small_lists (faults.Errors told) is = subst (λ xs. 0 < length xs) (sym is) (omega arith)
+too_small_lists (faults.Errors reported) is = subst (λ xs. 0 < length xs) (sym is) (omega arith)
 
-pub errors_list : (told errors : List GrammarError) → told ≡ errors → (errors ≡ [] → ⊥) → 0 < length told
-errors_list told [] same some = absurd (some refl)
-errors_list told (error ∷ errors) same some = subst (λ xs. 0 < length xs) (sym same) (omega arith)
+pub errors_list : (reported errors : List GrammarError) → reported ≡ errors → (errors ≡ [] → ⊥) → 0 < length reported
+errors_list reported [] same some = absurd (some refl)
+errors_list reported (error ∷ errors) same some = subst (λ xs. 0 < length xs) (sym same) (omega arith)
 
 found_as : (kind : YaccKind) (text : List ℕ) (found : Found) → IsFoundAs kind text found → HasSome found
 found_as kind text (Unnamed errors) is = absurd is

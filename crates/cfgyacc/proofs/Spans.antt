@@ -7,7 +7,7 @@ use Rattle.std.proofs.lemmas.List.Elements.{All-nil, All-cons, All-append, All-m
 use Rattle.std.proofs.lemmas.Str.{IsCharBoundary-start}
 use Rattle.lemmas.proofs.Zips.{All-zip}
 use Rattle.cfgbase.specs.declared.span.Span.{Span}
-use Rattle.cfgwords.specs.Places.{IsPiece}
+use Rattle.cfgwords.specs.TextSpans.{IsPiece}
 use Rattle.cfgast.specs.Syntax.{EachProductionSpan, EachSpan, Production, Syntax}
 use Rattle.cfgtree.specs.Check.{nowhere}
 use Rattle.cfgerrors.specs.Errors.{StorageTooSmall, error_at}
@@ -25,8 +25,8 @@ part_span P span None here = tt
 part_span P span (Some x) here = here
 
 -- (0,0) is a span of any text
-pub nowhere_placed : (text : List ℕ) → IsUtf8 text → IsPiece text nowhere
-nowhere_placed text utf8 =
+pub nowhere_located : (text : List ℕ) → IsUtf8 text → IsPiece text nowhere
+nowhere_located text utf8 =
     let first = IsCharBoundary-start text utf8 in
     record { ordered = omega arith; begins_at = first; ends_at = first }
 
@@ -63,8 +63,8 @@ module _ (P Q : Span → Type 0) (added : P nowhere) where
 
   -- the error for a grammar that is too large
   pub too_small_spans : (fault : YaccFault) → IsTooSmall fault → EachAnswerSpan P Q (Err fault)
-  too_small_spans faults.OutOfMemory told = tt
-  too_small_spans (faults.Errors list) told =
-      subst (All (EachErrorSpan P)) (sym told)
+  too_small_spans faults.OutOfMemory reported = tt
+  too_small_spans (faults.Errors list) reported =
+      subst (All (EachErrorSpan P)) (sym reported)
       (All-cons (EachErrorSpan P) (error_at StorageTooSmall nowhere) []
       (record { some = omega arith; each = All-cons P nowhere [] added (All-nil P) }) (All-nil (EachErrorSpan P)))

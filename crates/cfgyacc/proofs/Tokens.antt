@@ -18,11 +18,11 @@ at_entry [] i e at = let no : None ≡ Some e = at in cc
 at_entry (x ∷ es) zero e at = let same : x ≡ e = cc in ap (λ e. Some (token_view e)) same
 at_entry (x ∷ es) (suc i) e at = at_entry es i e at
 
-behind_entries : (es : List (String Global × TokenRow)) (i : ℕ) → slice_get es i ≡ None → i < length (tokens_of es) → slice_get (tokens_of es) i ≡ Some end_token
-behind_entries [] zero none within = refl
-behind_entries [] (suc i) none within = absurd (omega (arith, within))
-behind_entries (x ∷ es) zero none within = let no : Some x ≡ None = none in cc
-behind_entries (x ∷ es) (suc i) none within = behind_entries es i none (omega (arith, within))
+after_entries : (es : List (String Global × TokenRow)) (i : ℕ) → slice_get es i ≡ None → i < length (tokens_of es) → slice_get (tokens_of es) i ≡ Some end_token
+after_entries [] zero none within = refl
+after_entries [] (suc i) none within = absurd (omega (arith, within))
+after_entries (x ∷ es) zero none within = let no : Some x ≡ None = none in cc
+after_entries (x ∷ es) (suc i) none within = after_entries es i none (omega (arith, within))
 
 module _ {S : Type 0} (number : S → ℕ) (rules : List (String Global × RuleRow S)) (productions : List NumberedProduction) (tokens : List (String Global × TokenRow)) (start : PIdx S) (implicit : Option (RIdx S)) (settings : Settings) (g : Numbered)
     (view_is : tables number rules productions tokens start implicit settings ≡ g) {A : Type 0} (part : NumberedToken → A) (i t : ℕ) (same : i ≡ t) where
@@ -37,4 +37,4 @@ module _ {S : Type 0} (number : S → ℕ) (rules : List (String Global × RuleR
   unfolding tables
   end_shown none within =
       ap (λ (g : Numbered). token_part part g t) (sym view_is) ∙ ap (λ k. option_map part (slice_get (tokens_of tokens) k)) (sym same)
-      ∙ ap (option_map part) (behind_entries tokens i (sym none) (omega (arith, same, within, ap (λ (g : Numbered). length g.tokens) view_is)))
+      ∙ ap (option_map part) (after_entries tokens i (sym none) (omega (arith, same, within, ap (λ (g : Numbered). length g.tokens) view_is)))

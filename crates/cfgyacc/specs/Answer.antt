@@ -23,17 +23,17 @@ too_small = error_at StorageTooSmall nowhere ∷ []
 
 abbrev pub IsTooSmall : YaccFault → Type 0
 IsTooSmall faults.OutOfMemory = ⊥
-IsTooSmall (faults.Errors told) = told.items ≡ too_small
+IsTooSmall (faults.Errors reported) = reported.items ≡ too_small
 
 -- Why there is no grammar for what was read: its errors or, if it has none, the single error that the index type is too small.
 abbrev pub IsReadRefused : ℕ → List GrammarError → Numbered → List GrammarError → Type 0
-IsReadRefused max [] g told = (Fits max g → ⊥) × (told ≡ too_small)
-IsReadRefused max (error ∷ errors) g told = told ≡ error ∷ errors
+IsReadRefused max [] g reported = (Fits max g → ⊥) × (reported ≡ too_small)
+IsReadRefused max (error ∷ errors) g reported = reported ≡ error ∷ errors
 
 -- why there is no grammar
 abbrev pub IsRefused : ℕ → Found → List GrammarError → Type 0
-IsRefused max (Unnamed errors) told = told ≡ errors
-IsRefused max (WasRead parsed) told = IsReadRefused max parsed.errors (in_numbers parsed) told
+IsRefused max (Unnamed errors) reported = reported ≡ errors
+IsRefused max (WasRead parsed) reported = IsReadRefused max parsed.errors (in_numbers parsed) reported
 
 -- the grammar of what was read, if that has no errors and fits
 abbrev pub IsGrammar : ℕ → Found → Numbered → Type 0
@@ -45,4 +45,4 @@ IsGrammar max (WasRead parsed) grammar = (parsed.errors ≡ []) × Fits max (in_
 abbrev pub IsAnswer : ℕ → Found → Result Numbered YaccFault → Type 0
 IsAnswer max found (Ok grammar) = IsGrammar max found grammar
 IsAnswer max found (Err faults.OutOfMemory) = Unit {0}
-IsAnswer max found (Err (faults.Errors told)) = IsRefused max found told.items
+IsAnswer max found (Err (faults.Errors reported)) = IsRefused max found reported.items

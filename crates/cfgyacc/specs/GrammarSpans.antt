@@ -19,4 +19,4 @@ pub record EachGrammarSpan (P Q : Span → Type 0) (g : Numbered) : Type 0 where
 abbrev pub EachAnswerSpan : (P Q : Span → Type 0) → Result Numbered YaccFault → Type 0
 EachAnswerSpan P Q (Ok grammar) = EachGrammarSpan P Q grammar
 EachAnswerSpan P Q (Err faults.OutOfMemory) = Unit {0}
-EachAnswerSpan P Q (Err (faults.Errors told)) = All (EachErrorSpan P) told.items
+EachAnswerSpan P Q (Err (faults.Errors reported)) = All (EachErrorSpan P) reported.items

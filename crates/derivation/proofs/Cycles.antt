@@ -25,15 +25,15 @@ module _ (P : ℕ → List Sym → Type 0) (cost : ℕ → ℕ) where
   turn : (x n : ℕ) → GrowingCycle P cost x → CostsAtLeast x n → CostsAtLeast x (suc n)
   turn x n c t =
       let p = trees_split P c.u c.v c.word (trees_from_derivation P (c.u ++ c.v) c.word c.gives) in
-      let whole = p.front ++ (t.word ++ p.back) in
+      let whole = p.prefix ++ (t.word ++ p.back) in
       record {
         word = whole;
         tree = trees_before P whole (next c.first c.around) (trees_join P p.first (trees_join P t.tree p.second));
         enough = omega (
           arith,
-          cost_between p.front t.word p.back,
+          cost_between p.prefix t.word p.back,
           ap (cost_of cost) p.whole,
-          sum_by-append cost p.front p.back,
+          sum_by-append cost p.prefix p.back,
         );
       }
 
@@ -46,10 +46,10 @@ module _ (P : ℕ → List Sym → Type 0) (cost : ℕ → ℕ) where
       let all = trees_from_derivation P (m.before ++ (Rule x ∷ m.after)) m.word m.gives in
       let p = trees_split P m.before (Rule x ∷ m.after) m.word all in
       let q = trees_split P (Rule x ∷ []) m.after p.back p.second in
-      let t = turns x (suc n) c (record { word = q.front; tree = q.first; enough = omega arith }) in (
-        (p.front ++ (t.word ++ q.back)),
+      let t = turns x (suc n) c (record { word = q.prefix; tree = q.first; enough = omega arith }) in (
+        (p.prefix ++ (t.word ++ q.back)),
         (derives_trans P m.leads (derivation_from_trees P (trees_join P p.first (trees_join P t.tree q.second)))),
-        (omega (arith, cost_between p.front t.word q.back)),
+        (omega (arith, cost_between p.prefix t.word q.back)),
       )
 
   -- a rule leads to itself, and the symbols beside it cost something

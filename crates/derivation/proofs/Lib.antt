@@ -8,5 +8,5 @@ pub mod Paths
 pub mod Trees
 pub mod Sums
 pub mod Made
-pub mod Rows
+pub mod Sequences
 pub mod Listed

@@ -26,9 +26,9 @@ contains_between : (before : List Sym) (s : Sym) (after : List Sym) → Contains
 contains_between before s after =
     Contains-append_right before (s ∷ after) s (Contains-append_left (s ∷ []) after s (Contains-push [] s))
 
-contains_behind : (before : List Sym) (x : Sym) (after : List Sym) (s : Sym) → Contains after s
+contains_after : (before : List Sym) (x : Sym) (after : List Sym) (s : Sym) → Contains after s
     → Contains (before ++ (x ∷ after)) s
-contains_behind before x after s h =
+contains_after before x after s h =
     Contains-append_right before (x ∷ after) s (Contains-append_right (x ∷ []) after s h)
 
 alone : (x y : Sym) (before after : List Sym) → x ∷ [] ≡ before ++ (y ∷ after)
@@ -91,7 +91,7 @@ module _ (P : ℕ → List Sym → Type 0) where
                 subst (λ k. Contains k (Rule s.rule)) (sym s.source) (contains_between s.before (Rule s.rule) s.after);
             path = inr (path_on (record { symbols = s.symbols; has = s.has; holds = i }) h.path);
           }
-          | inr i ↦ back (contains_behind s.before (Rule s.rule) s.after (Rule h.rule) i)
+          | inr i ↦ back (contains_after s.before (Rule s.rule) s.after (Rule h.rule) i)
         ]
       ]
 

@@ -9,25 +9,25 @@ use Rattle.derivation.proofs.Concatenation.{derives_trans, derives_left, derives
 module _ (P : ℕ → List Sym → Type 0) where
   -- a sequence of trees split in two, and the tokens of each part
   pub record Parts (a b : List Sym) (w : List ℕ) : Type 0 where
-    pub front : List ℕ
+    pub prefix : List ℕ
     pub back : List ℕ
-    pub whole : w ≡ front ++ back
-    pub first : Yields P a front
+    pub whole : w ≡ prefix ++ back
+    pub first : Yields P a prefix
     pub second : Yields P b back
 
   pub trees_split : (a b : List Sym) (w : List ℕ) → Yields P (a ++ b) w → Parts a b w
-  trees_split [] b w h = record { front = []; back = w; whole = refl; first = empty; second = h }
+  trees_split [] b w h = record { prefix = []; back = w; whole = refl; first = empty; second = h }
   trees_split (Token t ∷ a) b _ (token {w = w} h) = let p = trees_split a b w h in record {
-    front = t ∷ p.front;
+    prefix = t ∷ p.prefix;
     back = p.back;
     whole = ap (λ l. t ∷ l) p.whole;
     first = token p.first;
     second = p.second;
   }
   trees_split (Rule r ∷ a) b _ (opened {u = u} {w = w} has h k e) = let p = trees_split a b w k in record {
-    front = u ++ p.front;
+    prefix = u ++ p.prefix;
     back = p.back;
-    whole = e ∙ ap (λ l. u ++ l) p.whole ∙ sym (append_assoc u p.front p.back);
+    whole = e ∙ ap (λ l. u ++ l) p.whole ∙ sym (append_assoc u p.prefix p.back);
     first = opened has h p.first refl;
     second = p.second;
   }

@@ -5,8 +5,8 @@ use Rattle.derivation.specs.Derivation.{Derives}
 
 -- c has two parts: one that a derives, followed by one that b derives
 pub record DerivedInParts (P : ℕ → List Sym → Type 0) (a b c : List Sym) : Type 0 where
-  pub front : List Sym
+  pub prefix : List Sym
   pub back : List Sym
-  pub whole : c ≡ front ++ back
-  pub first : Derives P a front
+  pub whole : c ≡ prefix ++ back
+  pub first : Derives P a prefix
   pub second : Derives P b back

@@ -9,5 +9,5 @@ abbrev pub First : (ℕ → List Sym → Type 0) → ℕ → ℕ → Type 0
 First P r t = (rest : List Sym) × Derives P (Rule r ∷ []) (Token t ∷ rest)
 
 -- the rule is nullable: it derives the empty list
-abbrev pub Empty : (ℕ → List Sym → Type 0) → ℕ → Type 0
-Empty P r = Derives P (Rule r ∷ []) []
+abbrev pub Nullable : (ℕ → List Sym → Type 0) → ℕ → Type 0
+Nullable P r = Derives P (Rule r ∷ []) []

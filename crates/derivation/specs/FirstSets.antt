@@ -5,10 +5,10 @@ use Rattle.std.specs.Prelude.{◌≡◌, ℕ, List, [], ◌∷◌, ◌⊎◌}
 use Rattle.derivation.specs.Grammar.{Sym, Rule, Token}
 
 -- every symbol is a nullable rule
-abbrev pub Vanishes : (ℕ → Type 0) → List Sym → Type 0
-Vanishes E [] = Unit {0}
-Vanishes E (Rule r ∷ a) = E r × Vanishes E a
-Vanishes E (Token u ∷ a) = ⊥
+abbrev pub AreNullable : (ℕ → Type 0) → List Sym → Type 0
+AreNullable E [] = Unit {0}
+AreNullable E (Rule r ∷ a) = E r × AreNullable E a
+AreNullable E (Token u ∷ a) = ⊥
 
 -- after zero or more nullable rules comes the token, or a rule that begins with it
 abbrev pub Begins : (ℕ → Type 0) → (ℕ → ℕ → Type 0) → List Sym → ℕ → Type 0
@@ -18,7 +18,7 @@ Begins E F (Token u ∷ a) t = u ≡ t
 
 -- the rule is nullable if these symbols all are, and begins with whatever tokens they begin with
 pub record Covers (E : ℕ → Type 0) (F : ℕ → ℕ → Type 0) (rule : ℕ) (symbols : List Sym) : Type 0 where
-  pub empty : Vanishes E symbols → E rule
+  pub empty : AreNullable E symbols → E rule
   pub first : (t : ℕ) → Begins E F symbols t → F rule t
 
 -- this is so for each rule and the symbols of each of its productions

@@ -2,14 +2,14 @@
 -- equations of FIRST; W says which tokens follow a rule. In the laws of src/lib.rt, a closed W is a table of truth values too.
 use Rattle.std.specs.Prelude.{ℕ, List, [], ◌∷◌}
 use Rattle.derivation.specs.Grammar.{Sym, Rule, Token}
-use Rattle.derivation.specs.FirstSets.{Vanishes, Begins}
+use Rattle.derivation.specs.FirstSets.{AreNullable, Begins}
 
 -- each rule of the list is followed by the tokens that begin the rest of the list and, if the rest is nullable, by those that follow the
 -- list
 abbrev pub Flows : (ℕ → Type 0) → (ℕ → ℕ → Type 0) → (ℕ → ℕ → Type 0) → List Sym → (ℕ → Type 0) → Type 0
 Flows E F W [] k = Unit {0}
 Flows E F W (Token u ∷ a) k = Flows E F W a k
-Flows E F W (Rule q ∷ a) k = ((t : ℕ) → Begins E F a t → W q t) × (Vanishes E a → (t : ℕ) → k t → W q t) × Flows E F W a k
+Flows E F W (Rule q ∷ a) k = ((t : ℕ) → Begins E F a t → W q t) × (AreNullable E a → (t : ℕ) → k t → W q t) × Flows E F W a k
 
 -- this is so for the symbols of each production, which are followed by the tokens that follow the production's rule
 abbrev pub IsFollowClosed : (ℕ → List Sym → Type 0) → (ℕ → Type 0) → (ℕ → ℕ → Type 0) → (ℕ → ℕ → Type 0) → Type 0

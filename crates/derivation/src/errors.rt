@@ -32,7 +32,7 @@ impl fmt::Display for CostError {
 impl Error for CostError {}
 
 /// A cost error equals only itself. A clone equals its source, and allocates nothing.
-pub fn cost_errors_are_told_apart()
+pub fn cost_errors_are_distinct()
     ensures equal { (a b : CostError) → IsTrue (⟦<CostError as PartialEq>⟧.eq a b) ↔ (a ≡ b) }
     ensures clone { (a b : CostError) → ⟦<CostError as Clone>⟧.is_clone a b → b ≡ a }
     ensures cloned { (a : CostError) → ⟦<CostError as Clone>⟧.is_infallible a }

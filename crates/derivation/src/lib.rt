@@ -12,8 +12,8 @@ ghost use Rattle.derivation.specs.Grammar.{Grammar, HasProduction, Sym, Rule, To
 ghost use Rattle.derivation.specs.Derivation.{Derives};
 ghost use Rattle.derivation.specs.Concatenation.{DerivedInParts};
 ghost use Rattle.derivation.specs.Tree.{Yields};
-ghost use Rattle.derivation.specs.First.{First, Empty};
-ghost use Rattle.derivation.specs.FirstSets.{Begins, IsClosed, Vanishes};
+ghost use Rattle.derivation.specs.First.{First, Nullable};
+ghost use Rattle.derivation.specs.FirstSets.{Begins, IsClosed, AreNullable};
 ghost use Rattle.derivation.specs.Follow.{MayFollow};
 ghost use Rattle.derivation.specs.FollowSets.{IsFollowClosed};
 ghost use Rattle.derivation.specs.Sentence.{Sentence, cost_of};
@@ -48,7 +48,7 @@ pub fn trees_are_derivations()
 pub fn closed_sets_hold_first()
     ensures empty { (g : Grammar) (empty : ℕ → Bool) (first : ℕ → ℕ → Bool)
         → IsClosed (HasProduction g) (λ r. IsTrue (empty r)) (λ r t. IsTrue (first r t))
-        → (r : ℕ) → Empty (HasProduction g) r → IsTrue (empty r) }
+        → (r : ℕ) → Nullable (HasProduction g) r → IsTrue (empty r) }
     ensures first { (g : Grammar) (empty : ℕ → Bool) (first : ℕ → ℕ → Bool)
         → IsClosed (HasProduction g) (λ r. IsTrue (empty r)) (λ r t. IsTrue (first r t))
         → (r t : ℕ) → First (HasProduction g) r t → IsTrue (first r t) }
@@ -56,16 +56,16 @@ pub fn closed_sets_hold_first()
 
 /// The FIRST sets that derivations show are closed under the productions, so they are the least closed ones.
 pub fn first_is_closed()
-    ensures { (g : Grammar) → IsClosed (HasProduction g) (Empty (HasProduction g)) (First (HasProduction g)) }
+    ensures { (g : Grammar) → IsClosed (HasProduction g) (Nullable (HasProduction g)) (First (HasProduction g)) }
 {}
 
 /// A list of symbols derives the empty list, or a list that begins with a token, exactly if the equations of FIRST say
 /// so.
 pub fn lists_begin_symbol_by_symbol()
     ensures nullable { (g : Grammar) (a : List Sym)
-        → Vanishes (Empty (HasProduction g)) a ↔ Derives (HasProduction g) a [] }
+        → AreNullable (Nullable (HasProduction g)) a ↔ Derives (HasProduction g) a [] }
     ensures begins { (g : Grammar) (a : List Sym) (t : ℕ)
-        → Begins (Empty (HasProduction g)) (First (HasProduction g)) a t
+        → Begins (Nullable (HasProduction g)) (First (HasProduction g)) a t
         ↔ ((rest : List Sym) × Derives (HasProduction g) a (Token t ∷ rest)) }
 {}
 
@@ -74,7 +74,7 @@ pub fn closed_sets_hold_before_derivations()
     ensures empty { (g : Grammar) (empty : ℕ → Bool) (first : ℕ → ℕ → Bool)
         → IsClosed (HasProduction g) (λ r. IsTrue (empty r)) (λ r t. IsTrue (first r t))
         → (a b : List Sym) → Derives (HasProduction g) a b
-        → Vanishes (λ r. IsTrue (empty r)) b → Vanishes (λ r. IsTrue (empty r)) a }
+        → AreNullable (λ r. IsTrue (empty r)) b → AreNullable (λ r. IsTrue (empty r)) a }
     ensures first { (g : Grammar) (empty : ℕ → Bool) (first : ℕ → ℕ → Bool)
         → IsClosed (HasProduction g) (λ r. IsTrue (empty r)) (λ r t. IsTrue (first r t))
         → (a b : List Sym) (t : ℕ) → Derives (HasProduction g) a b
@@ -95,7 +95,7 @@ pub fn closed_sets_hold_follow()
 /// The FOLLOW sets that derivations show are closed under the productions, and the end token follows the start rule.
 pub fn follow_is_closed()
     ensures closed { (g : Grammar)
-        → IsFollowClosed (HasProduction g) (Empty (HasProduction g)) (First (HasProduction g)) (MayFollow g) }
+        → IsFollowClosed (HasProduction g) (Nullable (HasProduction g)) (First (HasProduction g)) (MayFollow g) }
     ensures end { (g : Grammar) (t : ℕ) → t + 1 ≡ g.tokens → MayFollow g 0 t }
 {}
 

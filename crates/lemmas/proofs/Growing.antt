@@ -9,9 +9,9 @@ use Rattle.std.proofs.lemmas.List.Elements.{filter_map-append}
 pub from_pushes : {A : Type 0} (P : List A → Type 0) → P [] → ((xs : List A) (x : A) → P xs → P (xs ++ x ∷ [])) → (xs : List A) → P xs
 from_pushes {A} P none more xs = go [] xs none
   where
-    go : (front rest : List A) → P front → P (front ++ rest)
-    go front [] h = subst P (sym (append-nil front)) h
-    go front (x ∷ rest) h = subst P (append_assoc front (x ∷ []) rest) (go (front ++ x ∷ []) rest (more front x h))
+    go : (prefix rest : List A) → P prefix → P (prefix ++ rest)
+    go prefix [] h = subst P (sym (append-nil prefix)) h
+    go prefix (x ∷ rest) h = subst P (append_assoc prefix (x ∷ []) rest) (go (prefix ++ x ∷ []) rest (more prefix x h))
 
 pub filter_map-push : {A B : Type 0} (h : A → Option B) (xs : List A) (x : A) → filter_map h (xs ++ x ∷ []) ≡ filter_map h xs ++ option_to_list (h x)
 filter_map-push {A} {B} h xs x = filter_map-append h xs (x ∷ []) ∙ ap (λ l. filter_map h xs ++ l) (go (h x))
@@ -28,13 +28,13 @@ module _ {A B : Type 0} (f : A → B) where
       given ∙ ap (λ l. map f ys ++ l) step ∙ sym (append_assoc (map f ys) (f y ∷ []) rest) ∙ ap (λ l. l ++ rest) (sym (map_push f ys y))
 
   module _ {C : Type 0} (h : B → Option C) (ys : List A) (y : A) where
-    behind : filter_map h (map f (ys ++ y ∷ [])) ≡ filter_map h (map f ys) ++ option_to_list (h (f y))
-    behind = ap (filter_map h) (map_push f ys y) ∙ filter_map-push h (map f ys) (f y)
+    after : filter_map h (map f (ys ++ y ∷ [])) ≡ filter_map h (map f ys) ++ option_to_list (h (f y))
+    after = ap (filter_map h) (map_push f ys y) ∙ filter_map-push h (map f ys) (f y)
 
     -- an item for which h gives something
     pub picked : (c : C) → h (f y) ≡ Some c → filter_map h (map f (ys ++ y ∷ [])) ≡ filter_map h (map f ys) ++ c ∷ []
-    picked c is = behind ∙ ap (λ o. filter_map h (map f ys) ++ option_to_list o) is
+    picked c is = after ∙ ap (λ o. filter_map h (map f ys) ++ option_to_list o) is
 
     -- an item for which h gives nothing
     pub passed_over : h (f y) ≡ None → filter_map h (map f (ys ++ y ∷ [])) ≡ filter_map h (map f ys)
-    passed_over is = behind ∙ ap (λ o. filter_map h (map f ys) ++ option_to_list o) is ∙ append-nil (filter_map h (map f ys))
+    passed_over is = after ∙ ap (λ o. filter_map h (map f ys) ++ option_to_list o) is ∙ append-nil (filter_map h (map f ys))

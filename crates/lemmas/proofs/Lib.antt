@@ -4,13 +4,13 @@ pub mod Copies
 pub mod Elements
 pub mod Ended
 pub mod Entries
-pub mod Fronts
+pub mod Prefixes
 pub mod Growing
 pub mod Lookups
 pub mod Options
 pub mod Passes
 pub mod Passing
-pub mod Places
+pub mod Positions
 pub mod Popped
 pub mod Pushed
 pub mod Roads

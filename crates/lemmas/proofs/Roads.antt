@@ -27,14 +27,14 @@ pub more_shown : {A B C : Type 0} (f : B → C) (v : A → B) (xs : List A) (x :
 more_shown f v xs x = sym (ap (map f) (map_push v xs x) ∙ map_push f (map v xs) (v x))
 
 -- among names that differ from each other, one is none of those before it
-apart : (front : List (List ℕ)) (name : List ℕ) (behind : List (List ℕ)) → IsDistinct bytes_eq (front ++ name ∷ behind) → list_any (bytes_eq name) front ≡ false
-apart front name behind distinct = list_any_none (bytes_eq name) front (λ k d within.
-    let names = front ++ name ∷ behind in
-    let at : length front < length names = omega (arith, length-append front (name ∷ behind)) in
-    nat_list_eq_equiv.symm name (get_or front k d)
-    ∙ ap (λ other. bytes_eq other name) (sym (get_or_append_left front (name ∷ behind) d k within))
-    ∙ ap (bytes_eq (get_or names k d)) (sym (get_or_at front name behind d (length front) refl))
-    ∙ apart_from_distinct bytes_eq names k (length front) d distinct within at)
+apart : (prefix : List (List ℕ)) (name : List ℕ) (after : List (List ℕ)) → IsDistinct bytes_eq (prefix ++ name ∷ after) → list_any (bytes_eq name) prefix ≡ false
+apart prefix name after distinct = list_any_none (bytes_eq name) prefix (λ k d within.
+    let names = prefix ++ name ∷ after in
+    let at : length prefix < length names = omega (arith, length-append prefix (name ∷ after)) in
+    nat_list_eq_equiv.symm name (get_or prefix k d)
+    ∙ ap (λ other. bytes_eq other name) (sym (get_or_append_left prefix (name ∷ after) d k within))
+    ∙ ap (bytes_eq (get_or names k d)) (sym (get_or_at prefix name after d (length prefix) refl))
+    ∙ apart_from_distinct bytes_eq names k (length prefix) d distinct within at)
 
 module _ {S A B : Type 0} {steps : S → Option A → S → Type 0} {v : A → B} {s : S} {all : List B} (road : YieldsList steps v s all)
     (xs : List A) (t : S) (yielded : Yields steps s xs t) (r : Option A) (u : S) (x : A) (is : r ≡ Some x) (step : steps t r u) where
@@ -42,21 +42,21 @@ module _ {S A B : Type 0} {steps : S → Option A → S → Type 0} {v : A → B
   pub item_holds : (P : B → Type 0) → All P all → P (v x)
   item_holds P holds = let here = YieldsList-turn road xs t yielded r u x is step in subst P (sym here.1) (holds (length xs) (v x) here.0)
 
-  behind : List B
-  behind = drop (length xs + 1) all
+  after : List B
+  after = drop (length xs + 1) all
 
-  split : all ≡ map v xs ++ v x ∷ behind
-  unfolding behind
+  split : all ≡ map v xs ++ v x ∷ after
+  unfolding after
   split =
       let here = YieldsList-turn road xs t yielded r u x is step in
-      let rest : drop (length xs) all ≡ v x ∷ behind = drop_more all (length xs) (v x) here.0 ∙ ap (λ y. y ∷ behind) (sym here.1) in
+      let rest : drop (length xs) all ≡ v x ∷ after = drop_more all (length xs) (v x) here.0 ∙ ap (λ y. y ∷ after) (sym here.1) in
       sym (take-append-drop (length xs) all) ∙ (λ i. sym (YieldsList-so_far road xs t yielded) i ++ rest i)
 
   -- if all names differ from each other, this item has none of those before it
-  pub name_is_new : (front : List (List ℕ)) (name : B → List ℕ) → IsDistinct bytes_eq (front ++ map name all)
-      → list_any (bytes_eq (name (v x))) (front ++ map name (map v xs)) ≡ false
-  name_is_new front name distinct =
+  pub name_is_new : (prefix : List (List ℕ)) (name : B → List ℕ) → IsDistinct bytes_eq (prefix ++ map name all)
+      → list_any (bytes_eq (name (v x))) (prefix ++ map name (map v xs)) ≡ false
+  name_is_new prefix name distinct =
       let before = map name (map v xs) in
-      let names : front ++ map name all ≡ front ++ before ++ name (v x) ∷ map name behind =
-      ap (λ ys. front ++ map name ys) split ∙ ap (λ ns. front ++ ns) (map-append name (map v xs) (v x ∷ behind)) ∙ sym (append_assoc front before (name (v x) ∷ map name behind)) in
-      apart (front ++ before) (name (v x)) (map name behind) (subst (IsDistinct bytes_eq) names distinct)
+      let names : prefix ++ map name all ≡ prefix ++ before ++ name (v x) ∷ map name after =
+      ap (λ ys. prefix ++ map name ys) split ∙ ap (λ ns. prefix ++ ns) (map-append name (map v xs) (v x ∷ after)) ∙ sym (append_assoc prefix before (name (v x) ∷ map name after)) in
+      apart (prefix ++ before) (name (v x)) (map name after) (subst (IsDistinct bytes_eq) names distinct)

@@ -2,20 +2,20 @@
 use Rattle.std.specs.Prelude.{ℕ, Bool, List, [], ◌∷◌, ◌++◌, ◌+◌, Option, Some, None, if◌then◌else◌}
 
 -- each element with the prefix of the list before it
-abbrev pub with_fronts_from : {A : Type 0} → List A → List A → List (List A × A)
-with_fronts_from front [] = []
-with_fronts_from front (x ∷ xs) = (front, x) ∷ with_fronts_from (front ++ x ∷ []) xs
+abbrev pub with_prefixes_from : {A : Type 0} → List A → List A → List (List A × A)
+with_prefixes_from prefix [] = []
+with_prefixes_from prefix (x ∷ xs) = (prefix, x) ∷ with_prefixes_from (prefix ++ x ∷ []) xs
 
-abbrev pub with_fronts : {A : Type 0} → List A → List (List A × A)
-with_fronts xs = with_fronts_from [] xs
+abbrev pub with_prefixes : {A : Type 0} → List A → List (List A × A)
+with_prefixes xs = with_prefixes_from [] xs
 
 -- the indices of the elements that pass the test
-abbrev pub places_from : {A : Type 0} → ℕ → (A → Bool) → List A → List ℕ
-places_from i test [] = []
-places_from i test (x ∷ xs) = if test x then i ∷ places_from (i + 1) test xs else places_from (i + 1) test xs
+abbrev pub positions_from : {A : Type 0} → ℕ → (A → Bool) → List A → List ℕ
+positions_from i test [] = []
+positions_from i test (x ∷ xs) = if test x then i ∷ positions_from (i + 1) test xs else positions_from (i + 1) test xs
 
-abbrev pub places : {A : Type 0} → (A → Bool) → List A → List ℕ
-places test xs = places_from 0 test xs
+abbrev pub positions : {A : Type 0} → (A → Bool) → List A → List ℕ
+positions test xs = positions_from 0 test xs
 
 -- with one more element at the end, if there is one
 abbrev pub pushed : {A : Type 0} → List A → Option A → List A

@@ -10,12 +10,12 @@ use Rattle.std.proofs.lemmas.List.Quantifiers.{position-Some}
 use Rattle.std.proofs.lemmas.Map.Keys.{any_passes_from_place}
 use Rattle.std.proofs.lemmas.Slice.Eq.{bytes_eq-Decides}
 use Rattle.cfgrammar.specs.Accessors.{has_token_name}
-use Rattle.cfgrammar.specs.Lists.{places}
+use Rattle.cfgrammar.specs.Lists.{positions}
 use Rattle.cfgrammar.specs.Numbered.{Numbered, NumberedToken}
 use Rattle.cfgrammar.specs.TokenNames.{token_names}
 use Rattle.cfgrammar.proofs.Elements.{get_or-replicate_default}
-use Rattle.cfgrammar.proofs.ListPlaces.{first_place, no_place}
-use Rattle.cfgrammar.proofs.Passing.{places-push}
+use Rattle.cfgrammar.proofs.ListPositions.{first_position, no_position}
+use Rattle.cfgrammar.proofs.Passing.{positions-push}
 use Rattle.cfgrammar.proofs.Tests.{list_any-map}
 use Rattle.lexcheck.specs.Inner.Marks.{AreMarks, names_token}
 use Rattle.lexcheck.specs.LexerNames.{is_name, is_unknown}
@@ -34,12 +34,12 @@ or_true true = refl
 or_true false = refl
 
 -- the indices among the first elements of a list, with one more
-pub places_more : {A : Type 0} (p : A → Bool) (xs : List A) (n : ℕ) (x : A) → slice_get xs n ≡ Some x
-    → places p (take (n + 1) xs) ≡ cond (p x) (places p (take n xs) ++ n ∷ []) (places p (take n xs))
-places_more p xs n x there =
+pub positions_more : {A : Type 0} (p : A → Bool) (xs : List A) (n : ℕ) (x : A) → slice_get xs n ≡ Some x
+    → positions p (take (n + 1) xs) ≡ cond (p x) (positions p (take n xs) ++ n ∷ []) (positions p (take n xs))
+positions_more p xs n x there =
     let within = slice_get_within xs n x there in
-    ap (places p) (take_more xs n x within ∙ ap (λ e. take n xs ++ e ∷ []) (get_or_from_slice_get xs n x x there)) ∙ places-push p (take n xs) x
-    ∙ ap (λ k. cond (p x) (places p (take n xs) ++ k ∷ []) (places p (take n xs))) (length-take-le n xs (omega (arith, within)))
+    ap (positions p) (take_more xs n x within ∙ ap (λ e. take n xs ++ e ∷ []) (get_or_from_slice_get xs n x x there)) ∙ positions-push p (take n xs) x
+    ∙ ap (λ k. cond (p x) (positions p (take n xs) ++ k ∷ []) (positions p (take n xs))) (length-take-le n xs (omega (arith, within)))
 
 pub nameless : NumberedToken
 nameless = record { name = None; span = None; precedence = None; printed = None; avoid_insert = false }
@@ -49,23 +49,23 @@ found_somewhere : {A : Type 0} (p : A → Bool) (xs : List A) → is_some (posit
 found_somewhere p xs = go (list_any p xs) refl
   where
     go : (b : Bool) → list_any p xs ≡ b → is_some (position p xs) ≡ b
-    go true e = ap is_some (first_place p xs e)
-    go false e = ap is_some (no_place p xs e)
+    go true e = ap is_some (first_position p xs e)
+    go false e = ap is_some (no_position p xs e)
 
 module _ (g : Numbered) where
   -- the indices of unknown names, with one more name
   pub unknown_more : (names : List (List ℕ)) (name : List ℕ) (n : ℕ) → length names ≡ n → (o : Option ℕ) → position (has_token_name name) g.tokens ≡ o
-      → places (is_unknown (token_names g)) (names ++ name ∷ []) ≡ cond (is_some o) (places (is_unknown (token_names g)) names) (places (is_unknown (token_names g)) names ++ n ∷ [])
+      → positions (is_unknown (token_names g)) (names ++ name ∷ []) ≡ cond (is_some o) (positions (is_unknown (token_names g)) names) (positions (is_unknown (token_names g)) names ++ n ∷ [])
   unknown_more names name n counted o at =
-      places-push (is_unknown (token_names g)) names name
-      ∙ (λ i. cond (unknown i) (places (is_unknown (token_names g)) names ++ counted i ∷ []) (places (is_unknown (token_names g)) names))
+      positions-push (is_unknown (token_names g)) names name
+      ∙ (λ i. cond (unknown i) (positions (is_unknown (token_names g)) names ++ counted i ∷ []) (positions (is_unknown (token_names g)) names))
       ∙ go (is_some o)
     where
       unknown : is_unknown (token_names g) name ≡ not (is_some o)
       unknown = ap not (list_any-map (is_name name) (λ (token : NumberedToken). token.name) g.tokens ∙ sym (found_somewhere (has_token_name name) g.tokens) ∙ ap is_some at)
 
-      go : (b : Bool) → cond (not b) (places (is_unknown (token_names g)) names ++ n ∷ []) (places (is_unknown (token_names g)) names)
-          ≡ cond b (places (is_unknown (token_names g)) names) (places (is_unknown (token_names g)) names ++ n ∷ [])
+      go : (b : Bool) → cond (not b) (positions (is_unknown (token_names g)) names ++ n ∷ []) (positions (is_unknown (token_names g)) names)
+          ≡ cond b (positions (is_unknown (token_names g)) names) (positions (is_unknown (token_names g)) names ++ n ∷ [])
       go true = refl
       go false = refl
 
@@ -122,7 +122,7 @@ module _ (g : Numbered) where
 
   -- the name of a token is found
   pub not_nowhere : (name : List ℕ) → list_any (has_token_name name) g.tokens ≡ true → position (has_token_name name) g.tokens ≡ None → ⊥
-  not_nowhere name some none = let no : None ≡ Some _ = sym none ∙ first_place (has_token_name name) g.tokens some in cc
+  not_nowhere name some none = let no : None ≡ Some _ = sym none ∙ first_position (has_token_name name) g.tokens some in cc
 
   -- a token's mark says whether its name is among the names
   pub mark_of : (names : List (List ℕ)) (marks : List Bool) → AreMarks g names marks → (name : List ℕ) (k : ℕ) → position (has_token_name name) g.tokens ≡ Some k
@@ -157,7 +157,7 @@ token_has_name tokens t (Some name) shown = go (slice_get tokens t) refl shown
     go None there shown = let no : None ≡ Some (Some name.now) = shown in cc
     go (Some token) there shown =
         let is : token.name ≡ Some name.now = cc in
-        any_passes_from_place (has_token_name name.now) tokens t token there
+        any_passes_from_position (has_token_name name.now) tokens t token there
         (ap (λ o. option_map_or (bytes_eq name.now) o false) is ∙ (bytes_eq-Decides name.now name.now).1 refl)
 
 -- what is pushed, shown as a number

@@ -6,7 +6,7 @@ ghost use Rattle.std.specs.List.{list_any};
 ghost use Rattle.cfgrammar.specs.Accessors.{has_token_name};
 ghost use Rattle.cfgrammar.specs.TokenNames.{token_names};
 ghost use Rattle.lexcheck.specs.Inner.Marks.{AreMarks, IsTokensMap};
-ghost use Rattle.lexcheck.specs.LexerNames.{is_missing, missing_tokens, unknown_places};
+ghost use Rattle.lexcheck.specs.LexerNames.{is_missing, missing_tokens, unknown_positions};
 
 use cfgrammar::yacc::YaccGrammar;
 use cfgrammar::{Storage, TIdx, Vob};
@@ -34,7 +34,7 @@ pub fn check<S: Storage>(
     names: &[&str],
 ) -> Result<LexReport<S>, AllocError>
     ensures unknown { IfOk result (λ report. report.unknown.items
-        ≡ unknown_places (token_names grm.now) (map (λ name. name.now) names.now)) }
+        ≡ unknown_positions (token_names grm.now) (map (λ name. name.now) names.now)) }
     ensures missing { IfOk result (λ report. map (λ t. S.number t.0) report.missing.items
         ≡ missing_tokens (token_names grm.now) (map (λ name. name.now) names.now)) }
 {
@@ -57,16 +57,16 @@ fn mark_given<'a, S: Storage>(
     requires map { IsTokensMap S.number grm.now tokens.now }
     requires none { AreMarks grm.now [] given.old }
     ensures unknown { IfOk result (λ unknown. unknown.items
-        ≡ unknown_places (token_names grm.now) (map (λ name. name.now) names.now)) }
+        ≡ unknown_positions (token_names grm.now) (map (λ name. name.now) names.now)) }
     ensures marks { OnOk result (AreMarks grm.now (map (λ name. name.now) names.now) given.new) }
 {
     let mut unknown = Vec::new(alloc);
-    for (place, name) in names.iter().enumerate() {
+    for (index, name) in names.iter().enumerate() {
         match tokens.get(name) {
             Some(tidx) => {
                 given.set(tidx.0.to_usize(), true);
             }
-            None => unknown.push(place)?,
+            None => unknown.push(index)?,
         }
     }
     Ok(unknown)

@@ -4,7 +4,7 @@ use Rattle.std.proofs.lemmas.List.{get_or-map, length-map, take_all}
 use Rattle.std.proofs.lemmas.Option.{get_or_from_slice_get}
 use Rattle.lemmas.proofs.Elements.{element_at}
 use Rattle.lemmas.proofs.Taken.{contains_taken}
-use Rattle.search.specs.Reached.{SearchState, Reaches, FoundBy}
+use Rattle.search.specs.Reachable.{SearchState, Reaches, FoundBy}
 use Rattle.search.proofs.Reaching.{reaches_known, reaches_as, reaches_then}
 
 pub each_none : {A : Type 0} (Finds : A → ℕ → Type 0) (x : SearchState) → Reaches (FoundBy Finds []) x x

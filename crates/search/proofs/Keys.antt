@@ -32,21 +32,21 @@ bits_length n s = length-map-range_with_len (contains nat_cmp s) 0 n
 pub bit_at : (n : ℕ) (s : BTreeSet ℕ) (k : ℕ) → k < n → get_or (bits_at n s) k false ≡ contains nat_cmp s k
 bit_at n s k lt = get_or-map-range_with_len (contains nat_cmp s) 0 n k k false lt (omega arith)
 
-module _ (n : ℕ) (s : BTreeSet ℕ) (place : ℕ) (within : place < n) where
-  inside : place < length (bits_at n s)
-  inside = subst (λ m. place < m) (sym (bits_length n s)) within
+module _ (n : ℕ) (s : BTreeSet ℕ) (index : ℕ) (within : index < n) where
+  inside : index < length (bits_at n s)
+  inside = subst (λ m. index < m) (sym (bits_length n s)) within
 
-  pub bit_was : (fresh : Bool) → fresh ≡ not (contains nat_cmp s place) → slice_get (bits_at n s) place ≡ Some (not fresh)
-  bit_was fresh e = slice_get-get_or (bits_at n s) place false inside ∙ ap Some (bit_at n s place within ∙ twice (contains nat_cmp s place) ∙ ap not (sym e))
+  pub bit_was : (fresh : Bool) → fresh ≡ not (contains nat_cmp s index) → slice_get (bits_at n s) index ≡ Some (not fresh)
+  bit_was fresh e = slice_get-get_or (bits_at n s) index false inside ∙ ap Some (bit_at n s index within ∙ twice (contains nat_cmp s index) ∙ ap not (sym e))
     where
       twice : (b : Bool) → b ≡ not (not b)
       twice true = refl
       twice false = refl
 
-  pub bit_on : (s' : BTreeSet ℕ) → ((q : ℕ) → contains nat_cmp s' q ≡ cond (is_at (nat_cmp place) q) true (contains nat_cmp s q)) → bits_at n s' ≡ slice_set (bits_at n s) place true
-  bit_on s' now = sym (fill_by_all (contains nat_cmp s') (slice_set (bits_at n s) place true) n false (length-set (bits_at n s) place true ∙ bits_length n s)
-      (λ k lt. elim (same_key place k) [
-        | inl h ↦ ap (λ i. get_or (slice_set (bits_at n s) place true) i false) (sym h.1) ∙ get_or-set_same (bits_at n s) place true false inside
+  pub bit_on : (s' : BTreeSet ℕ) → ((q : ℕ) → contains nat_cmp s' q ≡ cond (is_at (nat_cmp index) q) true (contains nat_cmp s q)) → bits_at n s' ≡ slice_set (bits_at n s) index true
+  bit_on s' now = sym (fill_by_all (contains nat_cmp s') (slice_set (bits_at n s) index true) n false (length-set (bits_at n s) index true ∙ bits_length n s)
+      (λ k lt. elim (same_key index k) [
+        | inl h ↦ ap (λ i. get_or (slice_set (bits_at n s) index true) i false) (sym h.1) ∙ get_or-set_same (bits_at n s) index true false inside
             ∙ sym (now k ∙ ap (λ b. cond b true (contains nat_cmp s k)) h.0)
-        | inr h ↦ get_or-set_other (bits_at n s) place k true false (λ e. h.1 (sym e)) ∙ bit_at n s k lt ∙ sym (now k ∙ ap (λ b. cond b true (contains nat_cmp s k)) h.0)
+        | inr h ↦ get_or-set_other (bits_at n s) index k true false (λ e. h.1 (sym e)) ∙ bit_at n s k lt ∙ sym (now k ∙ ap (λ b. cond b true (contains nat_cmp s k)) h.0)
       ]))

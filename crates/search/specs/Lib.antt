@@ -1,3 +1,3 @@
 -- Users of this crate's calls have to read these files; those in Inner define what private clauses use.
-pub mod Reached
+pub mod Reachable
 pub mod Inner

@@ -1,7 +1,7 @@
 //! The edges that a search follows.
 
 ghost use Rattle.std.specs.Prelude.{◌≡◌, ℕ, ◌<◌, length, OnOk};
-ghost use Rattle.search.specs.Reached.{Reaches};
+ghost use Rattle.search.specs.Reachable.{Reaches};
 
 use crate::marks::Marks;
 use crate::searching::Search;
@@ -22,6 +22,6 @@ pub trait Edges<M: Marks> {
     /// `AllocError` if an allocation fails.
     fn reach_from(&self, node: usize, search: &mut Search<M>) -> Result<(), AllocError>
         requires node { node < nodes self.now }
-        requires nodes { length search.old.reached ≡ nodes self.now }
+        requires nodes { length search.old.reachable ≡ nodes self.now }
         ensures { OnOk result (Reaches (leads self.now node) search.old search.new) };
 }

@@ -2,7 +2,7 @@
 
 ghost use Rattle.std.specs.Prelude.{◌≡◌, ◌↔◌, ℕ, ◌<◌, ◌++◌, ◌∷◌, [], Contains, false, length, slice_index_or};
 ghost use Rattle.std.specs.Prelude.{IfOk, MatchOption, OnOk};
-ghost use Rattle.search.specs.Reached.{IsReachedIn, Reached, Reaches, unsearched};
+ghost use Rattle.search.specs.Reachable.{IsReachableIn, Reachable, Reaches, unsearched};
 
 use crate::edges::Edges;
 use crate::marks::{Bits, Few, Marks};
@@ -13,16 +13,16 @@ use std::marker::Model;
 /// A search through the numbers below a bound, its nodes. A node that was reached is queued once, until it is visited.
 #[derive(Drop)]
 pub struct Search<M: Marks = Bits> {
-    reached: M,
+    reachable: M,
     waiting: Vec<usize>,
 }
 
 impl<M: Marks> Model for Search<M> {
-    ghost use Rattle.search.specs.Reached.{SearchState};
+    ghost use Rattle.search.specs.Reachable.{SearchState};
 
     ghost Value = { SearchState };
 
-    ghost view = { λ x. record { reached = M.bits x.reached; waiting = x.waiting.items } };
+    ghost view = { λ x. record { reachable = M.bits x.reachable; waiting = x.waiting.items } };
 }
 
 impl Search<Bits> {
@@ -35,7 +35,7 @@ impl Search<Bits> {
         ensures { IfOk result (λ x. x ≡ unsearched nodes) }
     {
         Ok(Search {
-            reached: Bits::from_elem(alloc, false, nodes)?,
+            reachable: Bits::from_elem(alloc, false, nodes)?,
             waiting: Vec::new(alloc),
         })
     }
@@ -47,7 +47,7 @@ impl Search<Few> {
         ensures { result ≡ unsearched nodes }
     {
         Search {
-            reached: Few {
+            reachable: Few {
                 bound: nodes,
                 numbers: BTreeSet::new(alloc),
             },
@@ -58,10 +58,10 @@ impl Search<Few> {
 
 impl<M: Marks> Search<M> {
     /// Whether the node was reached.
-    pub fn is_reached(&self, node: usize) -> bool
-        ensures { result ≡ slice_index_or self.now.reached node false }
+    pub fn is_reachable(&self, node: usize) -> bool
+        ensures { result ≡ slice_index_or self.now.reachable node false }
     {
-        self.reached.is_marked(node)
+        self.reachable.is_marked(node)
     }
 
     /// Reaches a node, which is queued if it was not reached before.
@@ -70,10 +70,10 @@ impl<M: Marks> Search<M> {
     ///
     /// `AllocError` if an allocation fails.
     pub fn reach(&mut self, node: usize) -> Result<(), AllocError>
-        requires { node < length self.old.reached }
+        requires { node < length self.old.reachable }
         ensures { OnOk result (Reaches (λ n. n ≡ node) self.old self.new) }
     {
-        if self.reached.mark(node)? {
+        if self.reachable.mark(node)? {
             self.waiting.push(node)?;
         }
         Ok(())
@@ -81,7 +81,7 @@ impl<M: Marks> Search<M> {
 
     /// A queued node, which is then no longer queued.
     pub fn next(&mut self) -> Option<usize>
-        ensures reached { self.new.reached ≡ self.old.reached }
+        ensures reachable { self.new.reachable ≡ self.old.reachable }
         ensures waiting { MatchOption result (self.old.waiting ≡ [])
             (λ node. self.old.waiting ≡ self.new.waiting ++ node ∷ []) }
     {
@@ -94,11 +94,11 @@ impl<M: Marks> Search<M> {
     ///
     /// `AllocError` if an allocation fails.
     pub fn go_on<E: Edges<M>>(&mut self, edges: &E) -> Result<(), AllocError>
-        requires nodes { length self.old.reached ≡ E.nodes edges.now }
-        requires all_wait { (n : ℕ) → IsReachedIn self.old n ↔ Contains self.old.waiting n }
-        ensures nodes { OnOk result (length self.new.reached ≡ length self.old.reached) }
-        ensures reached { OnOk result ((n : ℕ) → IsReachedIn self.new n
-            ↔ Reached (IsReachedIn self.old) (E.leads edges.now) n) }
+        requires nodes { length self.old.reachable ≡ E.nodes edges.now }
+        requires all_wait { (n : ℕ) → IsReachableIn self.old n ↔ Contains self.old.waiting n }
+        ensures nodes { OnOk result (length self.new.reachable ≡ length self.old.reachable) }
+        ensures reachable { OnOk result ((n : ℕ) → IsReachableIn self.new n
+            ↔ Reachable (IsReachableIn self.old) (E.leads edges.now) n) }
     {
         while let Some(node) = self.next() {
             edges.reach_from(node, self)?;

@@ -71,10 +71,10 @@ fn print<D: Display>(
 
 impl<R> Desk<'_, R> {
     /// Whether memory ran out in a run with this status, other than as the row's standard input says.
-    pub(crate) fn is_wanted(&self, row: &Row<'_>, status: u8) -> bool {
+    pub(crate) fn is_selected(&self, row: &Row<'_>, status: u8) -> bool {
         let is_input = row.first("input") == Some("memory") && self.readers.get() > 0;
         match (self.output.try_borrow(), self.errors.try_borrow()) {
-            (Ok(output), Ok(errors)) => output.is_wanted(status, &errors, is_input),
+            (Ok(output), Ok(errors)) => output.is_selected(status, &errors, is_input),
             _ => false,
         }
     }
@@ -93,10 +93,10 @@ impl<R> Env for Desk<'_, R> {
         let Some(word) = self.words.get(i) else {
             return Err(FillError::NotPresent);
         };
-        let Some(place) = buf.get_mut(..word.len()) else {
+        let Some(position) = buf.get_mut(..word.len()) else {
             return Err(FillError::TooLong);
         };
-        place.copy_from_slice(word);
+        position.copy_from_slice(word);
         Ok(word.len())
     }
 

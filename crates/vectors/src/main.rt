@@ -26,18 +26,18 @@ struct All;
 impl Answers for All {
     fn write(&self, out: &mut Page, rt: &HostRuntime, row: &Row<'_>, text: &str) {
         match row.tries {
-            "row" => vectors_grammars::tell(out, row, text),
-            "cuts" => every::tell(out, rt, row, text),
-            "section" => vectors_sections::tell(out, row, text),
-            "generator" => vectors_costs::tell(out, row, text),
-            "lines" => lines::tell(out, row, text),
-            "marks" => marks::tell(out, row),
-            "values" => numbers::tell(out, row, text),
-            "errors" => kinds::tell(out, row, text),
-            "tree" => written::tell(out, row, text),
-            "report" => reports::tell(out, row, text),
-            "run" | "lint" => runs::tell(out, row, text),
-            "program" | "lint-program" => programs::tell(out, rt, row, text),
+            "row" => vectors_grammars::print(out, row, text),
+            "cuts" => every::print(out, rt, row, text),
+            "section" => vectors_sections::print(out, row, text),
+            "generator" => vectors_costs::print(out, row, text),
+            "lines" => lines::print(out, row, text),
+            "marks" => marks::print(out, row),
+            "values" => numbers::print(out, row, text),
+            "errors" => kinds::print(out, row, text),
+            "tree" => written::print(out, row, text),
+            "report" => reports::print(out, row, text),
+            "run" | "lint" => runs::print(out, row, text),
+            "program" | "lint-program" => programs::print(out, rt, row, text),
             "guide" => guide(out, row.name, text),
             _ => writeln!(out, "no such row: {}", row.tries),
         }
@@ -46,7 +46,7 @@ impl Answers for All {
 
 /// Writes what the guide's caller with this name returns for a text.
 fn guide(out: &mut Page, call: &str, text: &str) {
-    match uses::answers::tell(out.alloc, call, text) {
+    match uses::results::print(out.alloc, call, text) {
         Ok(answer) => out.push_str(answer.as_str()),
         Err(_) => out.tear(),
     }

@@ -61,11 +61,11 @@ impl Narrow {
 
     /// Whether memory ran out in a run with this status and this output: then nothing is written here, and the other
     /// output says so. This says nothing if the input is one for which memory ran out.
-    pub(crate) fn is_wanted(&self, status: u8, errors: &Narrow, is_input: bool) -> bool {
+    pub(crate) fn is_selected(&self, status: u8, errors: &Narrow, is_input: bool) -> bool {
         let says_so = b"cfgtool: out of memory\n".starts_with(errors.bytes())
             || b"cfglint: out of memory\n".starts_with(errors.bytes());
-        let is_told = status == 3 && says_so && self.taken.is_empty();
-        self.wants_memory || errors.wants_memory || (is_told && !is_input)
+        let is_printed = status == 3 && says_so && self.taken.is_empty();
+        self.wants_memory || errors.wants_memory || (is_printed && !is_input)
     }
 }
 

@@ -13,7 +13,7 @@ use vectors_rows::row::Row;
 
 /// Runs the row's program over a runtime with the row's arguments, its text as standard input, and the files of the
 /// folder. Writes the status, what was written to the two outputs, and what was read.
-pub(crate) fn tell<R: Files + AllocGlobal>(out: &mut Page, rt: &R, row: &Row<'_>, text: &str) {
+pub(crate) fn print<R: Files + AllocGlobal>(out: &mut Page, rt: &R, row: &Row<'_>, text: &str) {
     let given = row.first("words").unwrap_or("");
     let Ok(words) = words_of(out.alloc, given) else {
         return out.tear();
@@ -31,7 +31,7 @@ pub(crate) fn tell<R: Files + AllocGlobal>(out: &mut Page, rt: &R, row: &Row<'_>
         "lint-program" => cfglint::run_over(&desk).status(),
         _ => cfgtool::run_over(&desk).status(),
     };
-    if desk.is_wanted(row, status) {
+    if desk.is_selected(row, status) {
         return out.tear();
     }
     writeln!(out, "{} {given}", program_of(row));
@@ -54,8 +54,8 @@ fn words_of(alloc: Global, given: &str) -> Result<Vec<Vec<u8>>, AllocError> {
 /// The bytes of an argument, with a byte that isn't UTF-8 for each �.
 fn bytes_of(alloc: Global, word: &str) -> Result<Vec<u8>, AllocError> {
     let mut bytes = Vec::new(alloc);
-    for (place, part) in word.split('�').enumerate() {
-        if place > 0 {
+    for (position, part) in word.split('�').enumerate() {
+        if position > 0 {
             bytes.push(0xff)?;
         }
         bytes.extend_from_slice(part.as_bytes())?;

@@ -3,8 +3,8 @@
 use crate::narrow::{End, Narrow};
 use crate::rooms::{Run, write_rooms};
 use crate::runs::write_taken;
+use cfgtool::arguments::command_of;
 use cfgtool::kinds::kind_of;
-use cfgtool::words::command_of;
 use cfgtool::{Counted, KindArg, Outcome, ReportFault, Sink, report, report_lex};
 use std::alloc::{AllocError, Global};
 use vectors_rows::page::Page;
@@ -46,23 +46,23 @@ impl Run for Report<'_> {
 
 /// Writes the result of the report that the row's arguments request, and what was written; also over writers of every
 /// room, if the row requests that.
-pub(crate) fn tell(out: &mut Page, row: &Row<'_>, text: &str) {
-    let words = row.first("words").unwrap_or("");
-    let (kind, command) = words.split_once(' ').unwrap_or((words, ""));
+pub(crate) fn print(out: &mut Page, row: &Row<'_>, text: &str) {
+    let arguments = row.first("words").unwrap_or("");
+    let (kind, command) = arguments.split_once(' ').unwrap_or((arguments, ""));
     let Ok(names) = of_turn(out.alloc, row.first("names").unwrap_or(""), 0) else {
         return out.tear();
     };
     match kind_of(kind) {
         Some(kind) => {
             let names = names.as_str();
-            let asked = Report {
+            let requested = Report {
                 alloc: out.alloc,
                 kind,
                 command,
                 names,
                 text,
             };
-            tell_report(out, row, &asked)
+            print_report(out, row, &requested)
         }
         None => out.push_str("no such kind\n"),
     }
@@ -79,18 +79,18 @@ fn write_counted(out: &mut Page, writer: &mut Narrow) {
 }
 
 /// Writes the result of a report.
-fn tell_report(out: &mut Page, row: &Row<'_>, asked: &Report<'_>) {
+fn print_report(out: &mut Page, row: &Row<'_>, requested: &Report<'_>) {
     if row.first("show") == Some("without-memory") {
-        return write_counted(out, &mut Narrow::new(asked.alloc, 1, 0, End::Fails));
+        return write_counted(out, &mut Narrow::new(requested.alloc, 1, 0, End::Fails));
     }
-    let mut output = Narrow::of_row(asked.alloc, row, "out");
-    let Ok(word) = asked.ended(&mut output) else {
+    let mut output = Narrow::of_row(requested.alloc, row, "out");
+    let Ok(word) = requested.ended(&mut output) else {
         return out.tear();
     };
-    writeln!(out, "report {}: {word}", asked.command);
+    writeln!(out, "report {}: {word}", requested.command);
     write_taken(out, "output", &output);
     match row.first("rooms") {
-        Some(_) => write_rooms(out, asked, output.bytes()),
+        Some(_) => write_rooms(out, requested, output.bytes()),
         None => {}
     }
 }

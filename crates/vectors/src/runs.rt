@@ -27,7 +27,7 @@ impl Source for TwoFiles {
 
 /// Runs the row's program on its arguments, where its file contains the text or what the row gives instead. Writes the
 /// status, what was written to the two outputs, and how many faults these had.
-pub(crate) fn tell(out: &mut Page, row: &Row<'_>, text: &str) {
+pub(crate) fn print(out: &mut Page, row: &Row<'_>, text: &str) {
     let words = row.first("words").unwrap_or("");
     let mut output = Narrow::of_row(out.alloc, row, "out");
     let mut errors = Narrow::of_row(out.alloc, row, "err");
@@ -38,7 +38,7 @@ pub(crate) fn tell(out: &mut Page, row: &Row<'_>, text: &str) {
     writeln!(out, "status {status}");
     write_taken(out, "output", &output);
     write_taken(out, "errors", &errors);
-    write_asked_rooms(out, row, text, (output.bytes(), errors.bytes()))
+    write_requested_rooms(out, row, text, (output.bytes(), errors.bytes()))
 }
 
 /// The program that a row runs.
@@ -50,7 +50,12 @@ pub(crate) fn program_of(row: &Row<'_>) -> &'static str {
 }
 
 /// Writes how the program ends on outputs of every room, if the row requests this for one of the two.
-fn write_asked_rooms(out: &mut Page, row: &Row<'_>, text: &str, (output, errors): (&[u8], &[u8])) {
+fn write_requested_rooms(
+    out: &mut Page,
+    row: &Row<'_>,
+    text: &str,
+    (output, errors): (&[u8], &[u8]),
+) {
     let is_errors = row.first("rooms") == Some("err");
     let run = OneOutput {
         alloc: out.alloc,
@@ -117,7 +122,7 @@ fn run_over(
     let (faults, more_faults) = (to_output.faults(), to_errors.faults());
     output.faults = faults;
     errors.faults = more_faults;
-    if output.is_wanted(status, errors, row.first("input") == Some("memory")) {
+    if output.is_selected(status, errors, row.first("input") == Some("memory")) {
         return Err(AllocError);
     }
     Ok(status)

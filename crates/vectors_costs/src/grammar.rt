@@ -3,7 +3,7 @@
 ghost use Rattle.std.specs.Prelude.{◌≡◌, ◌<◌};
 ghost use Rattle.cfgrammar.specs.Numbered.{core};
 
-use super::{asked, certificate, plain, rules};
+use super::{certificate, plain, requested, rules};
 use cfgrammar::TIdx;
 use cfgrammar::yacc::sentences::SentenceGenerator;
 use cfgrammar::yacc::{YaccFault, YaccGrammar, YaccKind, YaccOriginalActionKind};
@@ -15,25 +15,25 @@ use vectors_rows::row::Row;
 use vectors_rows::{pen, text};
 
 /// Writes a row's text, unless the row is brief, and the results for its costs.
-pub fn tell(out: &mut Page, row: &Row<'_>, text: &str) {
+pub fn print(out: &mut Page, row: &Row<'_>, text: &str) {
     let kind = kind_of(row).unwrap_or(YaccKind::Original(YaccOriginalActionKind::GenericParseTree));
     writeln!(out, "text of {} bytes, {kind:?}", text.len());
     if row.first("show") != Some("brief") {
         text::write_text(out, text);
     }
     let grammar = YaccGrammar::new(out.alloc, kind, text);
-    write_made(out, &Asked { row }, grammar);
+    write_made(out, &Requested { row }, grammar);
 }
 
 /// A row that asks what sentences of its text's grammar cost.
 #[derive(Drop)]
-struct Asked<'a> {
+struct Requested<'a> {
     row: &'a Row<'a>,
 }
 
-impl Writer<YaccGrammar<u32>, YaccFault> for Asked<'_> {
+impl Writer<YaccGrammar<u32>, YaccFault> for Requested<'_> {
     fn write(&self, out: &mut Page, grammar: &mut YaccGrammar<u32>) {
-        tell_grammar(out, self.row, grammar);
+        print_grammar(out, self.row, grammar);
     }
 
     fn refuse(&self, out: &mut Page, fault: &YaccFault) {
@@ -45,28 +45,28 @@ impl Writer<YaccGrammar<u32>, YaccFault> for Asked<'_> {
 }
 
 /// Writes the results for the costs of a grammar.
-fn tell_grammar(out: &mut Page, row: &Row<'_>, grammar: &YaccGrammar<u32>) {
-    let asked = Cell::new(0);
-    let made = grammar.sentence_generator(out.alloc, |tidx| asked_cost(row, &asked, tidx));
-    let is_asked = asked.get() == usize::from(grammar.tokens_len());
+fn print_grammar(out: &mut Page, row: &Row<'_>, grammar: &YaccGrammar<u32>) {
+    let requested = Cell::new(0);
+    let made = grammar.sentence_generator(out.alloc, |tidx| requested_cost(row, &requested, tidx));
+    let is_requested = requested.get() == usize::from(grammar.tokens_len());
     match made {
-        Ok(generator) => tell_costs(out, row, grammar, &generator, is_asked),
+        Ok(generator) => print_costs(out, row, grammar, &generator, is_requested),
         Err(_) => out.tear(),
     }
 }
 
 /// What a token costs. The call is counted if the token is the next one in order.
-fn asked_cost(row: &Row<'_>, asked: &Cell<usize>, tidx: TIdx<u32>) -> u8
+fn requested_cost(row: &Row<'_>, requested: &Cell<usize>, tidx: TIdx<u32>) -> u8
     ensures { 0 < result }
 {
     let number = usize::from(tidx);
-    let is_next = number == asked.get();
+    let is_next = number == requested.get();
     let next = if is_next {
         number.saturating_add(1)
     } else {
         usize::MAX
     };
-    asked.set(next);
+    requested.set(next);
     cost_of(row, tidx)
 }
 
@@ -82,18 +82,18 @@ fn cost_of(row: &Row<'_>, tidx: TIdx<u32>) -> u8
 }
 
 /// Writes the tokens' costs and the generator's results, and what the row requests.
-fn tell_costs(
+fn print_costs(
     out: &mut Page,
     row: &Row<'_>,
     grammar: &YaccGrammar<u32>,
     generator: &SentenceGenerator<'_, u32>,
-    is_asked: bool,
+    is_requested: bool,
 )
     requires { generator.now.grammar ≡ core grammar.now }
 {
     pen::text_if(
         out,
-        !is_asked,
+        !is_requested,
         "    costs aren't asked once of each token, in order\n",
     );
     if row.first("show") == Some("without-memory") {
@@ -102,7 +102,7 @@ fn tell_costs(
     write_tokens(out, grammar, generator.token_costs());
     rules::write_rules(out, row, grammar, generator);
     certificate::write_failures(out, grammar, generator);
-    asked::write_asked(out, row, grammar, generator);
+    requested::write_requested(out, row, grammar, generator);
 }
 
 /// Writes the tokens' names and what each costs.

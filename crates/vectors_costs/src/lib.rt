@@ -1,11 +1,11 @@
 //! Worked rows on what sentences cost: a grammar's costs, its minimal sentences, and the results of their checkers.
 #![tactic(auto)]
 
-mod asked;
 mod certificate;
 mod grammar;
 mod openings;
 mod plain;
+mod requested;
 mod rules;
 
-pub use grammar::tell;
+pub use grammar::print;

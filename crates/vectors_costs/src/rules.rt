@@ -25,7 +25,7 @@ pub(crate) fn write_rules(
     for ridx in grammar.iter_rules() {
         let name = grammar.rule_name_str(ridx);
         write_rule(out, name, generator, ridx);
-        if is_asked(row, name) {
+        if is_requested(row, name) {
             let sentences = generator.min_sentences(out.alloc, ridx);
             write_sentences(out, sentences);
         }
@@ -34,7 +34,7 @@ pub(crate) fn write_rules(
 }
 
 /// Whether all minimal sentences of a rule are requested: they are for each rule, unless the row names some.
-fn is_asked(row: &Row<'_>, name: &str) -> bool {
+fn is_requested(row: &Row<'_>, name: &str) -> bool {
     match row.first("sentences") {
         Some(names) => names.split(' ').any(|other| other == name),
         None => true,

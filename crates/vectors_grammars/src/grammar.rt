@@ -17,34 +17,34 @@ use vectors_trees::{cuts, errors, syntax, warnings};
 const NOT_SO: &str = "    and its grammar isn't refused so\n";
 
 /// Writes all results for a row's text, or as much as the row requests.
-pub fn tell(out: &mut Page, row: &Row<'_>, text: &str) {
+pub fn print(out: &mut Page, row: &Row<'_>, text: &str) {
     let parsed = parse(out.alloc, kind_of(row), text);
-    write_made(out, &Asked { row, text }, parsed);
+    write_made(out, &Requested { row, text }, parsed);
 }
 
 /// A row, and its text.
 #[derive(Drop)]
-struct Asked<'a> {
+struct Requested<'a> {
     row: &'a Row<'a>,
     text: &'a str,
 }
 
-impl Writer<ASTWithValidityInfo, YaccFault> for Asked<'_> {
+impl Writer<ASTWithValidityInfo, YaccFault> for Requested<'_> {
     fn write(&self, out: &mut Page, parsed: &mut ASTWithValidityInfo) {
-        tell_parsed(out, self.row, self.text, parsed);
+        print_parsed(out, self.row, self.text, parsed);
     }
 
     fn refuse(&self, out: &mut Page, fault: &YaccFault) {
         match fault {
-            YaccFault::Errors(errors) => tell_refused(out, self.row, self.text, errors),
+            YaccFault::Errors(errors) => print_refused(out, self.row, self.text, errors),
             YaccFault::OutOfMemory => out.tear(),
         }
     }
 }
 
-impl Writer<YaccGrammar<u32>, YaccFault> for Asked<'_> {
+impl Writer<YaccGrammar<u32>, YaccFault> for Requested<'_> {
     fn write(&self, out: &mut Page, grammar: &mut YaccGrammar<u32>) {
-        tell_held(out, self.row, grammar);
+        print_held(out, self.row, grammar);
     }
 
     fn refuse(&self, out: &mut Page, fault: &YaccFault) {
@@ -56,18 +56,18 @@ impl Writer<YaccGrammar<u32>, YaccFault> for Asked<'_> {
 }
 
 /// Writes the results for a text that names no kind.
-fn tell_refused(out: &mut Page, row: &Row<'_>, text: &str, errors: &[YaccGrammarError]) {
+fn print_refused(out: &mut Page, row: &Row<'_>, text: &str, errors: &[YaccGrammarError]) {
     pen::number(out, "text of ", text.len());
     out.push_str(" bytes, no kind\n");
     text::write_text(out, text);
     match row.first("show") {
         Some("cuts") => cuts::write_cuts(out, kind_of(row), text),
-        _ => tell_errors(out, text, errors),
+        _ => print_errors(out, text, errors),
     }
 }
 
 /// Writes the errors of a text that names no kind.
-fn tell_errors(out: &mut Page, text: &str, errors: &[YaccGrammarError]) {
+fn print_errors(out: &mut Page, text: &str, errors: &[YaccGrammarError]) {
     errors::write_errors(out, text, errors);
     let grammar = YaccGrammar::<u32>::from_str(out.alloc, text);
     write_made(out, &Refused { errors }, grammar);
@@ -97,7 +97,7 @@ impl Writer<YaccGrammar<u32>, YaccFault> for Refused<'_> {
 }
 
 /// Writes the results for a text that was read.
-fn tell_parsed(out: &mut Page, row: &Row<'_>, text: &str, parsed: &ASTWithValidityInfo) {
+fn print_parsed(out: &mut Page, row: &Row<'_>, text: &str, parsed: &ASTWithValidityInfo) {
     writeln!(
         out,
         "text of {} bytes, {:?}",
@@ -105,46 +105,46 @@ fn tell_parsed(out: &mut Page, row: &Row<'_>, text: &str, parsed: &ASTWithValidi
         parsed.yacc_kind()
     );
     if row.first("show") == Some("brief") {
-        return tell_brief(out, row, text, parsed);
+        return print_brief(out, row, text, parsed);
     }
     text::write_text(out, text);
-    tell_shown(out, row, text, parsed);
+    print_shown(out, row, text, parsed);
 }
 
 /// Writes what the row shows of a text that was read.
-fn tell_shown(out: &mut Page, row: &Row<'_>, text: &str, parsed: &ASTWithValidityInfo) {
+fn print_shown(out: &mut Page, row: &Row<'_>, text: &str, parsed: &ASTWithValidityInfo) {
     match row.first("show") {
         Some("cuts") => cuts::write_cuts(out, kind_of(row), text),
-        Some("accessors") => tell_grammar(out, row, text),
-        Some("rendered") => rendered::tell(out, text, parsed),
-        Some("without-memory") => tell_without_memory(out, row, text, parsed),
-        _ => tell_whole(out, row, text, parsed),
+        Some("accessors") => print_grammar(out, row, text),
+        Some("rendered") => rendered::print(out, text, parsed),
+        Some("without-memory") => print_without_memory(out, row, text, parsed),
+        _ => print_whole(out, row, text, parsed),
     }
 }
 
 /// Writes the errors of a text, the lengths of its syntax and its tables, and what the analyses do.
-fn tell_brief(out: &mut Page, row: &Row<'_>, text: &str, parsed: &ASTWithValidityInfo) {
+fn print_brief(out: &mut Page, row: &Row<'_>, text: &str, parsed: &ASTWithValidityInfo) {
     errors::write_errors(out, text, parsed.errors());
     syntax::write_lengths(out, parsed.ast());
     tables::write_tables(out, text, parsed, true);
-    tell_grammar(out, row, text);
+    print_grammar(out, row, text);
 }
 
 /// Writes the results of calls that don't allocate for a text's grammar, if it has one, and for what was read.
-fn tell_without_memory(out: &mut Page, row: &Row<'_>, text: &str, parsed: &ASTWithValidityInfo) {
-    tell_grammar(out, row, text);
+fn print_without_memory(out: &mut Page, row: &Row<'_>, text: &str, parsed: &ASTWithValidityInfo) {
+    print_grammar(out, row, text);
     syntax::write_without_memory(out, parsed);
 }
 
 /// Writes all results for a text.
-fn tell_whole(out: &mut Page, row: &Row<'_>, text: &str, parsed: &ASTWithValidityInfo) {
+fn print_whole(out: &mut Page, row: &Row<'_>, text: &str, parsed: &ASTWithValidityInfo) {
     write_parsed(out, text, parsed);
     tables::write_tables(out, text, parsed, false);
     if kind_of(row).is_none() {
         tables::write_tables_by_name(out, text, parsed);
     }
     starts::write_starts(out, row, text, parsed);
-    tell_grammar(out, row, text);
+    print_grammar(out, row, text);
 }
 
 /// Writes the errors, the syntax and the warnings of what was parsed.
@@ -155,9 +155,9 @@ pub(crate) fn write_parsed(out: &mut Page, text: &str, parsed: &ASTWithValidityI
 }
 
 /// Writes what the row requests of a text's grammar, if it has one.
-fn tell_grammar(out: &mut Page, row: &Row<'_>, text: &str) {
+fn print_grammar(out: &mut Page, row: &Row<'_>, text: &str) {
     let grammar = grammar_of(out.alloc, kind_of(row), text);
-    write_made(out, &Asked { row, text }, grammar);
+    write_made(out, &Requested { row, text }, grammar);
 }
 
 /// The grammar of a text.
@@ -174,16 +174,16 @@ fn grammar_of(
 
 /// Writes what the row requests of a grammar: what its accessors return, the results of calls that don't allocate, or
 /// what its analyses do besides their results.
-fn tell_held(out: &mut Page, row: &Row<'_>, grammar: &YaccGrammar<u32>) {
+fn print_held(out: &mut Page, row: &Row<'_>, grammar: &YaccGrammar<u32>) {
     match row.first("show") {
         Some("accessors") => accessors::write_accessors(out, grammar),
         Some("without-memory") => plain::write_without_memory(out, grammar),
-        _ => tell_analyses(out, row, grammar),
+        _ => print_analyses(out, row, grammar),
     }
 }
 
 /// Writes how often the analyses open productions, if that isn't expected, and what the row's lines request of them.
-fn tell_analyses(out: &mut Page, row: &Row<'_>, grammar: &YaccGrammar<u32>) {
+fn print_analyses(out: &mut Page, row: &Row<'_>, grammar: &YaccGrammar<u32>) {
     openings::write_openings(out, grammar);
     for (word, rest) in &row.lines {
         match *word {

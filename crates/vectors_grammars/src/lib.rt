@@ -11,4 +11,4 @@ mod rendered;
 mod starts;
 mod tables;
 
-pub use grammar::tell;
+pub use grammar::print;

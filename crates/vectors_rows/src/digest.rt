@@ -8,16 +8,16 @@ const WIDTH: usize = 100;
 
 /// Writes the number of lines and bytes of all results, their digest, and for each `line` of the row the first line
 /// that begins with its text.
-pub fn write_digest(out: &mut Page, row: &Row<'_>, answers: &str) {
-    let (lines, bytes) = (answers.lines().count(), answers.len());
-    let digest = digest(answers.as_bytes());
+pub fn write_digest(out: &mut Page, row: &Row<'_>, results: &str) {
+    let (lines, bytes) = (results.lines().count(), results.len());
+    let digest = digest(results.as_bytes());
     writeln!(
         out,
         "    {lines} lines of {bytes} bytes, digest {digest:016x}"
     );
     for (word, rest) in &row.lines {
         if *word == "line" {
-            write_line(out, *rest, answers);
+            write_line(out, *rest, results);
         }
     }
 }
@@ -33,17 +33,17 @@ fn digest(bytes: &[u8]) -> u64 {
 
 /// Writes the first line that begins like this, without its leading blanks. If the line is long, only a prefix is
 /// written.
-fn write_line(out: &mut Page, beginning: &str, answers: &str) {
-    for line in answers.lines() {
-        if line.trim_start().starts_with(beginning) {
-            return write_beginning(out, line);
+fn write_line(out: &mut Page, prefix: &str, results: &str) {
+    for line in results.lines() {
+        if line.trim_start().starts_with(prefix) {
+            return write_prefix(out, line);
         }
     }
-    writeln!(out, "    no line begins with {beginning}");
+    writeln!(out, "    no line begins with {prefix}");
 }
 
 /// Writes a line after a bar, or a prefix of it if it is long.
-fn write_beginning(out: &mut Page, line: &str) {
+fn write_prefix(out: &mut Page, line: &str) {
     out.push_str("    |");
     for character in line.trim_start().chars().take(WIDTH) {
         out.push(character);

@@ -13,22 +13,22 @@ pub trait Answers {
 }
 
 /// Writes the rows of the files that the program's arguments name, each as its name and its results.
-pub fn write_files<A: Answers>(rt: &HostRuntime, answers: &A) -> io::Result<()> {
+pub fn write_files<A: Answers>(rt: &HostRuntime, results: &A) -> io::Result<()> {
     for name in env::args(rt)?.skip(1) {
-        write_file(rt, answers, name.as_str())?;
+        write_file(rt, results, name.as_str())?;
     }
     Ok(())
 }
 
-fn write_file<A: Answers>(rt: &HostRuntime, answers: &A, name: &str) -> io::Result<()> {
+fn write_file<A: Answers>(rt: &HostRuntime, results: &A, name: &str) -> io::Result<()> {
     let text = fs::read_to_string(rt, name)?;
     let rows = rows(rt.alloc(), text.as_str())?;
-    write_rows(rt, answers, &rows)
+    write_rows(rt, results, &rows)
 }
 
-fn write_rows<A: Answers>(rt: &HostRuntime, answers: &A, rows: &[Row<'_>]) -> io::Result<()> {
+fn write_rows<A: Answers>(rt: &HostRuntime, results: &A, rows: &[Row<'_>]) -> io::Result<()> {
     for row in rows {
-        let answered = answers_of(rt, answers, row)?;
+        let answered = results_of(rt, results, row)?;
         println!(rt; "== {}\n{}", row.name, answered.text()?)?;
     }
     Ok(())
@@ -39,14 +39,14 @@ const ROOM: usize = 1_048_573;
 
 /// What is written for a row, after its name: its notes, and its results. If memory ran out on the way, that is written
 /// after the results so far, and they are computed again.
-fn answers_of<A: Answers>(rt: &HostRuntime, answers: &A, row: &Row<'_>) -> io::Result<Page> {
+fn results_of<A: Answers>(rt: &HostRuntime, results: &A, row: &Row<'_>) -> io::Result<Page> {
     let mut out = Page::with_capacity(rt.alloc(), ROOM)?;
     row.write_notes(&mut out);
-    match write_answers(&mut out, rt, answers, row) {
+    match write_results(&mut out, rt, results, row) {
         Err(fault) if fault.kind() == io::ErrorKind::OutOfMemory => {
             out.mend();
             out.push_str("out of memory\n");
-            write_answers(&mut out, rt, answers, row)?;
+            write_results(&mut out, rt, results, row)?;
         }
         other => other?,
     }
@@ -54,19 +54,19 @@ fn answers_of<A: Answers>(rt: &HostRuntime, answers: &A, row: &Row<'_>) -> io::R
 }
 
 /// Writes a row's results, or their digest if the row requests that.
-fn write_answers<A: Answers>(
+fn write_results<A: Answers>(
     out: &mut Page,
     rt: &HostRuntime,
-    answers: &A,
+    results: &A,
     row: &Row<'_>,
 ) -> io::Result<()> {
     let text = text::of_row(rt, row)?;
     if row.first("show") == Some("digest") {
         let mut whole = Page::new(rt.alloc());
-        answers.write(&mut whole, rt, row, text.as_str());
+        results.write(&mut whole, rt, row, text.as_str());
         write_digest(out, row, whole.text()?);
     } else {
-        answers.write(out, rt, row, text.as_str());
+        results.write(out, rt, row, text.as_str());
     }
     out.text()?;
     Ok(())

@@ -40,7 +40,7 @@ fn write_piece(out: &mut Page, piece: Piece<'_>) {
         Piece::Name(before, word) | Piece::NameOr(before, Some(word), _) => name(out, before, word),
         Piece::TextOr(before, Some(word), _) => name(out, before, word.as_str()),
         Piece::Flag(before, is_so) => flag(out, before, is_so),
-        Piece::Span(place) | Piece::SpanOr(Some(place), _) => span(out, place),
+        Piece::Span(position) | Piece::SpanOr(Some(position), _) => span(out, position),
     }
 }
 
@@ -101,7 +101,7 @@ pub fn span(out: &mut Page, span: Span) {
 
 /// Writes spans, each after a space.
 pub fn spans(out: &mut Page, spans: &[Span]) {
-    for place in spans {
-        span(out, *place);
+    for position in spans {
+        span(out, *position);
     }
 }

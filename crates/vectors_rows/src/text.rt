@@ -59,8 +59,8 @@ pub fn of_turn(alloc: Global, line: &str, turn: usize) -> Result<String, AllocEr
 
 /// Adds a line, with the turn's number for each `#`.
 fn push_turn(text: &mut Page, line: &str, turn: usize) {
-    for (place, part) in line.split('#').enumerate() {
-        if place > 0 {
+    for (position, part) in line.split('#').enumerate() {
+        if position > 0 {
             write!(text, "{turn}");
         }
         push_line(text, part);

@@ -8,18 +8,18 @@ use vectors_rows::page::Page;
 use vectors_rows::pen;
 
 /// A span or location of a value.
-pub(crate) trait Place: Clone + Drop {
+pub(crate) trait Position: Clone + Drop {
     /// Writes a space and the span or location.
     fn write(&self, out: &mut Page);
 }
 
-impl Place for Span {
+impl Position for Span {
     fn write(&self, out: &mut Page) {
         pen::span(out, *self);
     }
 }
 
-impl Place for Location {
+impl Position for Location {
     fn write(&self, out: &mut Page) {
         match self {
             Location::Span(span) => pen::span(out, *span),
@@ -32,31 +32,31 @@ impl Place for Location {
 /// The values of keys, written once they are made.
 pub(crate) struct Held;
 
-impl<T: Place, E> Writer<HeaderValue<T>, E> for Held {
+impl<T: Position, E> Writer<HeaderValue<T>, E> for Held {
     fn write(&self, out: &mut Page, held: &mut HeaderValue<T>) {
         write_held(out, held);
     }
 }
 
-impl<T: Place, E> Writer<Value<T>, E> for Held {
+impl<T: Position, E> Writer<Value<T>, E> for Held {
     fn write(&self, out: &mut Page, value: &mut Value<T>) {
         write_value(out, value);
     }
 }
 
 /// Writes the span or location of a key, and its value.
-pub(crate) fn write_held<T: Place>(out: &mut Page, held: &HeaderValue<T>) {
+pub(crate) fn write_held<T: Position>(out: &mut Page, held: &HeaderValue<T>) {
     held.0.write(out);
     out.push_str(": ");
     write_value(out, &held.1);
 }
 
 /// Writes the value of a key, and the kind that it names, or why it names none.
-pub(crate) fn write_value<T: Place>(out: &mut Page, value: &Value<T>) {
+pub(crate) fn write_value<T: Position>(out: &mut Page, value: &Value<T>) {
     match value {
-        Value::Flag(on, place) => {
+        Value::Flag(on, position) => {
             pen::flag(out, "", *on);
-            place.write(out);
+            position.write(out);
         }
         Value::Setting(setting) => write_setting(out, setting),
     }
@@ -64,39 +64,39 @@ pub(crate) fn write_value<T: Place>(out: &mut Page, value: &Value<T>) {
 }
 
 /// Writes the kind that a value names, or why it names none.
-fn write_kind<T: Place>(out: &mut Page, value: &Value<T>) {
+fn write_kind<T: Position>(out: &mut Page, value: &Value<T>) {
     match YaccKind::try_from_value(out.alloc, value) {
         Ok(kind) => write!(out, "; kind {kind:?}"),
         Err(fault) => write_fault(out, &fault),
     }
 }
 
-fn write_fault<T: Place>(out: &mut Page, fault: &KindFault<T>) {
+fn write_fault<T: Position>(out: &mut Page, fault: &KindFault<T>) {
     match fault {
         KindFault::Error(error) => write_refused(out, error),
         KindFault::OutOfMemory => out.tear(),
     }
 }
 
-fn write_refused<T: Place>(out: &mut Page, error: &HeaderError<T>) {
+fn write_refused<T: Position>(out: &mut Page, error: &HeaderError<T>) {
     write!(out, "; {:?}", error.kind);
-    for place in &error.locations {
-        place.write(out);
+    for position in &error.locations {
+        position.write(out);
     }
 }
 
 #[cycle(write_setting)]
-fn write_setting<T: Place>(out: &mut Page, setting: &Setting<T>) {
+fn write_setting<T: Position>(out: &mut Page, setting: &Setting<T>) {
     match setting {
         Setting::Unitary(name) => write_namespaced(out, name),
         Setting::Constructor { ctor, arg } => write_constructor(out, ctor, arg),
-        Setting::Num(number, place) => {
+        Setting::Num(number, position) => {
             pen::number(out, "", *number as usize);
-            place.write(out);
+            position.write(out);
         }
-        Setting::String(text, place) => {
+        Setting::String(text, position) => {
             pen::name(out, "", text.as_str());
-            place.write(out);
+            position.write(out);
         }
         Setting::Array(settings, opens, closes) => {
             write_settings(out, settings);
@@ -107,7 +107,7 @@ fn write_setting<T: Place>(out: &mut Page, setting: &Setting<T>) {
 }
 
 #[cycle(write_setting)]
-fn write_settings<T: Place>(out: &mut Page, settings: &Vec<Setting<T>>) {
+fn write_settings<T: Position>(out: &mut Page, settings: &Vec<Setting<T>>) {
     out.push_str("[");
     for (index, setting) in settings.iter().enumerate() {
         pen::text_if(out, index > 0, ", ");
@@ -116,7 +116,7 @@ fn write_settings<T: Place>(out: &mut Page, settings: &Vec<Setting<T>>) {
     out.push_str("]");
 }
 
-fn write_constructor<T: Place>(out: &mut Page, ctor: &Namespaced<T>, arg: &Namespaced<T>) {
+fn write_constructor<T: Position>(out: &mut Page, ctor: &Namespaced<T>, arg: &Namespaced<T>) {
     write_namespaced(out, ctor);
     out.push_str("(");
     write_namespaced(out, arg);
@@ -124,15 +124,15 @@ fn write_constructor<T: Place>(out: &mut Page, ctor: &Namespaced<T>, arg: &Names
 }
 
 /// Writes a name with its span or location, after its namespace if it has one.
-fn write_namespaced<T: Place>(out: &mut Page, name: &Namespaced<T>) {
-    if let Some((namespace, place)) = &name.namespace {
-        write_placed(out, namespace.as_str(), place);
+fn write_namespaced<T: Position>(out: &mut Page, name: &Namespaced<T>) {
+    if let Some((namespace, position)) = &name.namespace {
+        write_located(out, namespace.as_str(), position);
         out.push_str("::");
     }
-    write_placed(out, name.member.0.as_str(), &name.member.1);
+    write_located(out, name.member.0.as_str(), &name.member.1);
 }
 
-fn write_placed<T: Place>(out: &mut Page, word: &str, place: &T) {
+fn write_located<T: Position>(out: &mut Page, word: &str, position: &T) {
     out.push_str(word);
-    place.write(out);
+    position.write(out);
 }

@@ -9,22 +9,22 @@ use vectors_rows::row::{Row, numbers};
 
 /// Writes a line for each error that the row names: its kind, its spans, what they mean, and its text. A kind with a
 /// name has the row's text as its name, or else `µ`.
-pub fn tell(out: &mut Page, row: &Row<'_>, text: &str) {
+pub fn print(out: &mut Page, row: &Row<'_>, text: &str) {
     let held = if text.is_empty() { "µ" } else { text };
     if row.first("show") == Some("without-memory") {
-        return tell_without_memory(out, row, held);
+        return print_without_memory(out, row, held);
     }
     for (word, rest) in &row.lines {
         match *word {
-            "error" => tell_error(out, held, *rest),
-            "warning" => tell_warning(out, *rest),
+            "error" => print_error(out, held, *rest),
+            "warning" => print_warning(out, *rest),
             _ => {}
         }
     }
 }
 
 /// Makes an error of its parts, and writes it.
-fn tell_without_memory(out: &mut Page, row: &Row<'_>, held: &str) {
+fn print_without_memory(out: &mut Page, row: &Row<'_>, held: &str) {
     match parts_of(out.alloc, held, row.first("error").unwrap_or("")) {
         Ok((kind, spans)) => {
             pen::without_memory(out);
@@ -35,7 +35,7 @@ fn tell_without_memory(out: &mut Page, row: &Row<'_>, held: &str) {
     }
 }
 
-fn tell_warning(out: &mut Page, name: &str) {
+fn print_warning(out: &mut Page, name: &str) {
     let kind = match name {
         "UnusedRule" => YaccGrammarWarningKind::UnusedRule,
         _ => YaccGrammarWarningKind::UnusedToken,
@@ -45,7 +45,7 @@ fn tell_warning(out: &mut Page, name: &str) {
     out.push('\n');
 }
 
-fn tell_error(out: &mut Page, held: &str, line: &str) {
+fn print_error(out: &mut Page, held: &str, line: &str) {
     match parts_of(out.alloc, held, line) {
         Ok((kind, spans)) => write_error(out, &YaccGrammarError::new(kind, spans)),
         Err(_) => out.tear(),

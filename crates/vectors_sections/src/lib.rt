@@ -7,4 +7,4 @@ pub mod kinds;
 mod plain;
 mod section;
 
-pub use section::tell;
+pub use section::print;

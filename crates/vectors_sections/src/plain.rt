@@ -30,10 +30,10 @@ fn write_parsed(out: &mut Page, (header, _): &(Header<Span>, usize)) {
 /// Writes a key, the span or location that represents its value, and the kind that the value names if the key is
 /// `yacckind`.
 fn write_held(out: &mut Page, key: &str, held: &HeaderValue<Span>) {
-    let place = *held.1.primary_location();
+    let position = *held.1.primary_location();
     pen::name(out, "    ", key);
-    pen::span(out, place);
-    write!(out, " {:?}", Location::from(place));
+    pen::span(out, position);
+    write!(out, " {:?}", Location::from(position));
     if key == "yacckind" {
         write_kind(out, &held.1);
     }
@@ -50,21 +50,21 @@ fn write_kind(out: &mut Page, value: &Value<Span>) {
 }
 
 /// Values that are written as they go. One generic function owns them.
-trait Told: Drop {
-    fn tell(self, out: &mut Page);
+trait Printed: Drop {
+    fn print(self, out: &mut Page);
 }
 
 /// An error is written like that of a whole text.
-impl Told for HeaderError<Span> {
-    fn tell(self, out: &mut Page) {
+impl Printed for HeaderError<Span> {
+    fn print(self, out: &mut Page) {
         write_parts(out, &YaccGrammarError::from(self));
         out.push('\n');
     }
 }
 
-fn write_each<T: Told>(out: &mut Page, values: Vec<T>) {
+fn write_each<T: Printed>(out: &mut Page, values: Vec<T>) {
     pen::without_memory(out);
     for value in values {
-        value.tell(out);
+        value.print(out);
     }
 }

@@ -17,7 +17,7 @@ use vectors_rows::{pen, text};
 
 /// Writes the results for the section at the start of a text, of each of its prefixes, or for an entry at each of its
 /// offsets; or the values of all kinds.
-pub fn tell(out: &mut Page, row: &Row<'_>, text: &str) {
+pub fn print(out: &mut Page, row: &Row<'_>, text: &str) {
     pen::number(out, "text of ", text.len());
     out.push_str(" bytes\n");
     text::write_text(out, text);
@@ -87,41 +87,41 @@ fn write_parsed(out: &mut Page, (header, end): &(Header<Span>, usize)) {
 
 /// Writes a key, its span and its value. With locations instead of spans it is the same.
 fn write_key(out: &mut Page, key: &str, held: &HeaderValue<Span>) {
-    let (mut told, mut located) = (Page::new(out.alloc), Page::new(out.alloc));
-    write_held(&mut told, held);
+    let (mut printed, mut located) = (Page::new(out.alloc), Page::new(out.alloc));
+    write_held(&mut printed, held);
     write_made(&mut located, &Held, held.to_location(out.alloc));
     pen::name(out, "    ", key);
-    write_told(out, &told, &located);
+    write_printed(out, &printed, &located);
     out.push('\n');
 }
 
 /// Writes the text with spans, and whether the text with locations differs.
-fn write_told(out: &mut Page, told: &Page, located: &Page) {
-    out.follow(told);
+fn write_printed(out: &mut Page, printed: &Page, located: &Page) {
+    out.follow(printed);
     out.follow(located);
-    out.push_str(told.as_str());
+    out.push_str(printed.as_str());
     pen::text_if(
         out,
-        told.as_str() != located.as_str(),
+        printed.as_str() != located.as_str(),
         " and with other locations",
     );
 }
 
 /// Writes the results for an entry at each character boundary.
 fn write_entries(out: &mut Page, text: &str) {
-    for place in 0..=text.len() {
-        if text.is_char_boundary(place) {
-            parse_entry(out, text, place);
+    for position in 0..=text.len() {
+        if text.is_char_boundary(position) {
+            parse_entry(out, text, position);
         }
     }
 }
 
-fn parse_entry(out: &mut Page, text: &str, place: usize)
-    requires { IsCharBoundary text.now place }
+fn parse_entry(out: &mut Page, text: &str, position: usize)
+    requires { IsCharBoundary text.now position }
 {
-    pen::number(out, "entry at ", place);
+    pen::number(out, "entry at ", position);
     out.push_str(":");
-    match GrmtoolsSectionParser::new(text, true).parse_key_value(out.alloc, place) {
+    match GrmtoolsSectionParser::new(text, true).parse_key_value(out.alloc, position) {
         Ok(entry) => write_entry(out, &entry),
         Err(fault) => write_fault(out, &fault),
     }
@@ -162,10 +162,10 @@ fn write_entry(out: &mut Page, (key, span, value, end): &(String, Span, Value<Sp
 }
 
 fn write_both_ways(out: &mut Page, value: &Value<Span>) {
-    let (mut told, mut located) = (Page::new(out.alloc), Page::new(out.alloc));
-    write_value(&mut told, value);
+    let (mut printed, mut located) = (Page::new(out.alloc), Page::new(out.alloc));
+    write_value(&mut printed, value);
     write_made(&mut located, &Held, to_location(out.alloc, value));
-    write_told(out, &told, &located);
+    write_printed(out, &printed, &located);
 }
 
 /// A value with locations instead of spans.

@@ -12,7 +12,10 @@ pub fn empty(alloc: Global) -> MarkMap<u32, String> {
 }
 
 /// The calls of a map that mark keys and ask for them.
-pub fn asked(map: &mut MarkMap<u32, String>, key: u32) -> Result<(bool, bool, bool), AllocError> {
+pub fn requested(
+    map: &mut MarkMap<u32, String>,
+    key: u32,
+) -> Result<(bool, bool, bool), AllocError> {
     map.set_default_merge_behavior(MergeBehavior::Ours);
     map.mark_used(&key)?;
     map.mark_required(&key)?;

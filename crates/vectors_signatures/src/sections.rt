@@ -51,9 +51,9 @@ pub fn first_error(fault: &HeaderFault) -> Option<(HeaderErrorKind, Option<Span>
 pub fn number_of<T: Copy>(value: &HeaderValue<T>) -> Option<(u64, T)> {
     let HeaderValue(_key, value): &HeaderValue<T> = value;
     match value {
-        Value::Flag(_, place) => Some((0, *place)),
-        Value::Setting(Setting::Num(number, place)) => Some((*number, *place)),
-        Value::Setting(Setting::String(_, place)) => Some((1, *place)),
+        Value::Flag(_, position) => Some((0, *position)),
+        Value::Setting(Setting::Num(number, position)) => Some((*number, *position)),
+        Value::Setting(Setting::String(_, position)) => Some((1, *position)),
         Value::Setting(Setting::Array(_, open, _close)) => Some((2, *open)),
         Value::Setting(
             Setting::Unitary(
@@ -86,9 +86,12 @@ pub fn located(
 }
 
 /// The location that represents a value, and whether two values are the same.
-pub fn place_of<'a>(value: &'a Value<Location>, other: &Value<Location>) -> (&'a Location, bool) {
-    let place: &Location = value.primary_location();
-    (place, value == other)
+pub fn position_of<'a>(
+    value: &'a Value<Location>,
+    other: &Value<Location>,
+) -> (&'a Location, bool) {
+    let position: &Location = value.primary_location();
+    (position, value == other)
 }
 
 /// The kind that a value names, and the value that names it.

@@ -23,7 +23,7 @@ pub fn span_parts(len: usize, location: &Location) -> (usize, usize, usize, bool
 }
 
 /// Locations.
-pub fn places(span: Span, script: String) -> [Location; 4] {
+pub fn positions(span: Span, script: String) -> [Location; 4] {
     let located: span::Location = Location::Span(span);
     [
         located,

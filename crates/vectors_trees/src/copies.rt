@@ -35,12 +35,12 @@ fn is_same(out: &mut Page, parsed: &ASTWithValidityInfo, other: &ASTWithValidity
 }
 
 fn is_same_tree(out: &mut Page, ast: &GrammarAST, other: &GrammarAST) -> bool {
-    let (mut told, mut of_other) = (Page::new(out.alloc), Page::new(out.alloc));
-    write_tree(&mut told, ast);
+    let (mut printed, mut of_other) = (Page::new(out.alloc), Page::new(out.alloc));
+    write_tree(&mut printed, ast);
     write_tree(&mut of_other, other);
-    out.follow(&told);
+    out.follow(&printed);
     out.follow(&of_other);
-    told.as_str() == of_other.as_str()
+    printed.as_str() == of_other.as_str()
 }
 
 fn write_rules(out: &mut Page, ast: &GrammarAST) {

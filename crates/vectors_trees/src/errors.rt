@@ -1,7 +1,7 @@
 //! Errors of a text, one per line.
 
 use cfgrammar::yacc::YaccGrammarError;
-use cfgrammar::{Places, Span, Spanned};
+use cfgrammar::{Positions, Span, Spanned};
 use vectors_rows::page::Page;
 use vectors_rows::pen;
 
@@ -17,23 +17,23 @@ pub fn write_errors(out: &mut Page, text: &str, errors: &[YaccGrammarError]) {
 /// Writes a line for each error: its kind, its spans, the line and the column of the first span's start, what the spans
 /// mean, and its text.
 pub fn write_error_lines(out: &mut Page, text: &str, errors: &[YaccGrammarError]) {
-    match Places::new(out.alloc, text) {
-        Ok(places) => write_placed_errors(out, &places, errors),
+    match Positions::new(out.alloc, text) {
+        Ok(positions) => write_located_errors(out, &positions, errors),
         Err(_) => out.tear(),
     }
 }
 
-fn write_placed_errors(out: &mut Page, places: &Places<'_>, errors: &[YaccGrammarError]) {
+fn write_located_errors(out: &mut Page, positions: &Positions<'_>, errors: &[YaccGrammarError]) {
     for error in errors {
-        write_error(out, places, error);
+        write_error(out, positions, error);
     }
 }
 
-fn write_error(out: &mut Page, places: &Places<'_>, error: &YaccGrammarError) {
+fn write_error(out: &mut Page, positions: &Positions<'_>, error: &YaccGrammarError) {
     out.push_str("   ");
     write_kind(out, error);
     pen::spans(out, error.spans());
-    write_place(out, places, first_start(error.spans()));
+    write_position(out, positions, first_start(error.spans()));
     writeln!(out, " {:?}: {error}", error.spanskind());
 }
 
@@ -46,8 +46,8 @@ fn first_start(spans: &[Span]) -> usize {
 }
 
 /// Writes the line and the column of a byte offset.
-fn write_place(out: &mut Page, places: &Places<'_>, byte: usize) {
-    match places.line_and_column(byte) {
+fn write_position(out: &mut Page, positions: &Positions<'_>, byte: usize) {
+    match positions.line_and_column(byte) {
         Some((line, column)) => pen::numbers(out, (" ", line), (":", column)),
         None => out.push_str(" no place"),
     }

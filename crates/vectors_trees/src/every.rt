@@ -24,11 +24,11 @@ const KINDS: [Option<YaccKind>; 6] = [
 /// Writes a digest of the results for each prefix of each text that the rows in a file spell, as each kind, and as the
 /// one that it names; and how many prefixes were grammars, and how many had errors. Empty and large texts are skipped,
 /// unless the row requests one.
-pub fn tell(out: &mut Page, rt: &HostRuntime, row: &Row<'_>, file: &str) {
+pub fn print(out: &mut Page, rt: &HostRuntime, row: &Row<'_>, file: &str) {
     let mut whole = Page::new(out.alloc);
     let counts = Counts::new();
     match rows(rt.alloc(), file) {
-        Ok(rows) => tell_rows(&mut whole, rt, &counts, row, &rows),
+        Ok(rows) => print_rows(&mut whole, rt, &counts, row, &rows),
         Err(_) => whole.tear(),
     }
     out.follow(&whole);
@@ -36,28 +36,40 @@ pub fn tell(out: &mut Page, rt: &HostRuntime, row: &Row<'_>, file: &str) {
     counts.write(out);
 }
 
-fn tell_rows(out: &mut Page, rt: &HostRuntime, counts: &Counts, asked: &Row<'_>, rows: &[Row<'_>]) {
+fn print_rows(
+    out: &mut Page,
+    rt: &HostRuntime,
+    counts: &Counts,
+    requested: &Row<'_>,
+    rows: &[Row<'_>],
+) {
     for row in rows {
-        if asked.first("only").unwrap_or(row.name) == row.name {
-            tell_row(out, rt, counts, asked, row);
+        if requested.first("only").unwrap_or(row.name) == row.name {
+            print_row(out, rt, counts, requested, row);
         }
     }
 }
 
-fn tell_row(out: &mut Page, rt: &HostRuntime, counts: &Counts, asked: &Row<'_>, row: &Row<'_>) {
+fn print_row(
+    out: &mut Page,
+    rt: &HostRuntime,
+    counts: &Counts,
+    requested: &Row<'_>,
+    row: &Row<'_>,
+) {
     match of_row(rt, row) {
-        Ok(text) => tell_text(out, counts, asked, text.as_str()),
+        Ok(text) => print_text(out, counts, requested, text.as_str()),
         Err(fault) if fault.kind() == ErrorKind::OutOfMemory => out.tear(),
         Err(fault) => writeln!(out, "no text: {fault}"),
     }
 }
 
 /// Writes the results for each prefix of a text, or for those of the lengths that the row requests, as each kind.
-fn tell_text(out: &mut Page, counts: &Counts, asked: &Row<'_>, text: &str) {
-    if asked.first("only").is_none() && (text.is_empty() || text.len() > LONGEST) {
+fn print_text(out: &mut Page, counts: &Counts, requested: &Row<'_>, text: &str) {
+    if requested.first("only").is_none() && (text.is_empty() || text.len() > LONGEST) {
         return;
     }
-    let (least, most) = match asked.first("bytes") {
+    let (least, most) = match requested.first("bytes") {
         Some(bytes) => numbers(bytes),
         None => (0, text.len()),
     };

@@ -88,10 +88,10 @@ fn write_start(out: &mut Page, start: &Option<(String, Span)>) {
 }
 
 /// Writes a name and its span between two texts.
-fn write_named(out: &mut Page, before: &str, (name, span): (&str, Span), behind: &str) {
+fn write_named(out: &mut Page, before: &str, (name, span): (&str, Span), after: &str) {
     pen::name(out, before, name);
     pen::span(out, span);
-    out.push_str(behind);
+    out.push_str(after);
 }
 
 /// Writes how many conflicts are expected, and where the text says so.

@@ -14,7 +14,7 @@ use vectors_rows::row::{Row, number, words};
 
 /// Writes the results of each call of the row on the row's text: each `start` on what was read, which isn't changed,
 /// and then the others, one after another on a copy of the tree.
-pub fn tell(out: &mut Page, row: &Row<'_>, text: &str) {
+pub fn print(out: &mut Page, row: &Row<'_>, text: &str) {
     let kind = YaccKind::Original(YaccOriginalActionKind::GenericParseTree);
     let parsed = ASTWithValidityInfo::new(out.alloc, kind, text);
     write_made(out, &Script { row }, parsed);
@@ -42,7 +42,7 @@ impl Writer<GrammarAST, AllocError> for Script<'_> {
             return set_programs_twice(out, self.row, ast);
         }
         for line in &self.row.lines {
-            change_told(out, ast, *line);
+            change_printed(out, ast, *line);
         }
         write_tree(out, ast);
     }
@@ -121,12 +121,12 @@ fn rule_of(alloc: Global, line: &str) -> Result<Rule, AllocError> {
 fn name_of(alloc: Global, line: &str) -> Result<(String, Span), AllocError> {
     let (name, start, end) = words(line);
     let (start, end) = (number(start), number(end));
-    let place = Span::new(start.min(end), end);
-    Ok((String::from_str(alloc, name)?, place))
+    let position = Span::new(start.min(end), end);
+    Ok((String::from_str(alloc, name)?, position))
 }
 
 /// Makes a call that modifies a tree. If memory ran out, the tree is checked, and the call is made again.
-fn change_told(out: &mut Page, ast: &mut GrammarAST, line: (&str, &str)) {
+fn change_printed(out: &mut Page, ast: &mut GrammarAST, line: (&str, &str)) {
     let mut before = Page::new(out.alloc);
     write_tree(&mut before, ast);
     out.follow(&before);
@@ -191,7 +191,7 @@ fn set_programs_twice(out: &mut Page, row: &Row<'_>, ast: &mut GrammarAST) {
 }
 
 /// Writes the programs, or that there are none, between two texts.
-fn write_programs(out: &mut Page, before: &str, programs: &Option<String>, behind: &str) {
+fn write_programs(out: &mut Page, before: &str, programs: &Option<String>, after: &str) {
     out.push_str(before);
     match programs {
         Some(programs) => {
@@ -200,7 +200,7 @@ fn write_programs(out: &mut Page, before: &str, programs: &Option<String>, behin
         }
         None => out.push_str("programs None"),
     }
-    out.push_str(behind);
+    out.push_str(after);
 }
 
 /// Adds an empty production to the rule with this name, if it exists.

@@ -12,26 +12,26 @@ use vectors_rows::text::write_text;
 
 /// Writes the results of a cache of the text's newlines, with the text fed in one piece; and the ways to feed it in
 /// pieces that lead to other results.
-pub fn tell(out: &mut Page, row: &Row<'_>, text: &str) {
+pub fn print(out: &mut Page, row: &Row<'_>, text: &str) {
     pen::number(out, "text of ", text.len());
     out.push_str(" bytes\n");
     write_text(out, text);
     match NewlineCache::from_str(out.alloc, text) {
-        Ok(cache) => tell_cache(out, row, &cache, text),
+        Ok(cache) => print_cache(out, row, &cache, text),
         Err(_) => out.tear(),
     }
 }
 
-fn tell_cache(out: &mut Page, row: &Row<'_>, whole: &NewlineCache, text: &str)
+fn print_cache(out: &mut Page, row: &Row<'_>, whole: &NewlineCache, text: &str)
     requires { StandsFor whole.now text.now }
 {
     if row.first("show") == Some("without-memory") {
-        return tell_without_memory(out, row, whole, text);
+        return print_without_memory(out, row, whole, text);
     }
-    match answers(out.alloc, row, whole, text) {
-        Ok(answers) => {
-            out.push_str(answers.as_str());
-            write_ways(out, row, text, answers.as_str());
+    match results(out.alloc, row, whole, text) {
+        Ok(results) => {
+            out.push_str(results.as_str());
+            write_ways(out, row, text, results.as_str());
             write_joined(out, text);
         }
         Err(_) => out.tear(),
@@ -39,13 +39,13 @@ fn tell_cache(out: &mut Page, row: &Row<'_>, whole: &NewlineCache, text: &str)
 }
 
 /// Writes the results of a cache of a text, and of one that was fed nothing.
-fn tell_without_memory(out: &mut Page, row: &Row<'_>, whole: &NewlineCache, text: &str)
+fn print_without_memory(out: &mut Page, row: &Row<'_>, whole: &NewlineCache, text: &str)
     requires { StandsFor whole.now text.now }
 {
     pen::without_memory(out);
-    write_answers(out, row, whole, text);
+    write_results(out, row, whole, text);
     let unfed = NewlineCache::new(out.alloc);
-    write_answers(out, row, &unfed, "");
+    write_results(out, row, &unfed, "");
 }
 
 /// Writes the ways to feed a text in pieces that lead to other results, and how many ways were tried. If a digest is
@@ -55,17 +55,17 @@ fn write_ways(out: &mut Page, row: &Row<'_>, text: &str, whole: &str) {
         Some("digest") => 0,
         _ => try_cuts(out, row, text, whole),
     };
-    let told = try_told(out, row, text, whole);
-    pen::number(out, "fed in ", cuts.saturating_add(told));
+    let printed = try_printed(out, row, text, whole);
+    pen::number(out, "fed in ", cuts.saturating_add(printed));
     out.push_str(" ways\n");
 }
 
 /// Feeds a text in two pieces, cut before each character and at the end, and in pieces of one character. Returns the
 /// number of ways.
 fn try_cuts(out: &mut Page, row: &Row<'_>, text: &str, whole: &str) -> usize {
-    for place in 0..=text.len() {
-        if text.is_char_boundary(place) {
-            try_way(out, row, text, &[place], whole);
+    for position in 0..=text.len() {
+        if text.is_char_boundary(position) {
+            try_way(out, row, text, &[position], whole);
         }
     }
     let lengths = character_lengths(out.alloc, text);
@@ -74,11 +74,11 @@ fn try_cuts(out: &mut Page, row: &Row<'_>, text: &str, whole: &str) -> usize {
 }
 
 /// Feeds a text as the row says. Returns the number of ways.
-fn try_told(out: &mut Page, row: &Row<'_>, text: &str, whole: &str) -> usize {
+fn try_printed(out: &mut Page, row: &Row<'_>, text: &str, whole: &str) -> usize {
     let mut count = 0usize;
     for (word, rest) in &row.lines {
         let lengths = match *word {
-            "pieces" => told_lengths(out.alloc, *rest),
+            "pieces" => printed_lengths(out.alloc, *rest),
             "every" => even_lengths(out.alloc, text, number(*rest)),
             _ => continue,
         };
@@ -124,8 +124,8 @@ fn compare(
 )
     requires { StandsFor cache.now text.now }
 {
-    match answers(out.alloc, row, cache, text) {
-        Ok(answers) if answers.as_str() == whole => {}
+    match results(out.alloc, row, cache, text) {
+        Ok(results) if results.as_str() == whole => {}
         Ok(_) => write_otherwise(out, lengths),
         Err(_) => out.tear(),
     }
@@ -139,7 +139,7 @@ fn write_otherwise(out: &mut Page, lengths: &[usize]) {
 }
 
 /// The lengths that a line gives.
-fn told_lengths(alloc: Global, line: &str) -> Result<Vec<usize>, AllocError> {
+fn printed_lengths(alloc: Global, line: &str) -> Result<Vec<usize>, AllocError> {
     line.split(' ').map(|word| number(word)).collect(alloc)
 }
 
@@ -169,11 +169,11 @@ fn feed_pieces(
 {
     let mut rest = text;
     for length in lengths {
-        let Some((piece, behind)) = rest.split_at_checked(*length) else {
+        let Some((piece, after)) = rest.split_at_checked(*length) else {
             return Ok(false);
         };
         feed(out, row, cache, before(text, rest), piece)?;
-        rest = behind;
+        rest = after;
     }
     feed(out, row, cache, before(text, rest), rest)?;
     Ok(true)
@@ -225,7 +225,7 @@ fn write_differences(out: &mut Page, cache: &NewlineCache, other: &NewlineCache,
 }
 
 /// The results of the four calls: for each byte offset, for the text's end and past it, and for the row's spans.
-fn answers(
+fn results(
     alloc: Global,
     row: &Row<'_>,
     cache: &NewlineCache,
@@ -234,12 +234,12 @@ fn answers(
     requires { StandsFor cache.now text.now }
 {
     let mut out = Page::new(alloc);
-    write_answers(&mut out, row, cache, text);
+    write_results(&mut out, row, cache, text);
     out.into_text()
 }
 
 /// Writes the results of the four calls.
-fn write_answers(out: &mut Page, row: &Row<'_>, cache: &NewlineCache, text: &str)
+fn write_results(out: &mut Page, row: &Row<'_>, cache: &NewlineCache, text: &str)
     requires { StandsFor cache.now text.now }
 {
     for byte in 0..text.len().saturating_add(2) {

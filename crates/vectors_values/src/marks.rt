@@ -24,7 +24,7 @@ trait Key: Ord + Clone + Debug + Drop {
     fn of(alloc: Global, word: &str) -> Result<Self, AllocError>;
 
     /// Writes a text and the key.
-    fn tell(&self, out: &mut Page, before: &str);
+    fn print(&self, out: &mut Page, before: &str);
 
     ghost faithful: { IsFaithful Self.cmp Self.is_clone };
 }
@@ -36,7 +36,7 @@ impl Key for u32 {
         Ok(small(word))
     }
 
-    fn tell(&self, out: &mut Page, before: &str) {
+    fn print(&self, out: &mut Page, before: &str) {
         pen::number(out, before, *self as usize);
     }
 }
@@ -48,14 +48,14 @@ impl Key for String {
         String::from_str(alloc, word)
     }
 
-    fn tell(&self, out: &mut Page, before: &str) {
+    fn print(&self, out: &mut Page, before: &str) {
         pen::name(out, before, self.as_str());
     }
 }
 
 /// Runs the row's script, over keys of the type that the row names, and writes each call, its result, and the map after
 /// it.
-pub fn tell(out: &mut Page, row: &Row<'_>) {
+pub fn print(out: &mut Page, row: &Row<'_>) {
     match row.first("keys") {
         Some("numbers") => play::<u32>(out, row),
         _ => play::<String>(out, row),
@@ -81,26 +81,26 @@ impl<K: Key> Maps<K> {
 /// Runs a script on two maps, of which the second is merged into the first.
 fn play<K: Key>(out: &mut Page, row: &Row<'_>) {
     let mut maps = Maps::<K>::new(out.alloc);
-    for (place, line) in row.lines.iter().enumerate() {
+    for (position, line) in row.lines.iter().enumerate() {
         match line.0 {
-            "merge" => merge_told(out, row, place, &mut maps, line.1),
-            _ => play_line(out, row, place, &mut maps, *line),
+            "merge" => merge_printed(out, row, position, &mut maps, line.1),
+            _ => play_line(out, row, position, &mut maps, *line),
         }
     }
 }
 
 /// Merges the other map, and writes how that ended and the map. If memory runs out, what is then in the map is checked.
-fn merge_told<K: Key>(
+fn merge_printed<K: Key>(
     out: &mut Page,
     row: &Row<'_>,
-    place: usize,
+    position: usize,
     maps: &mut Maps<K>,
     refused: &str,
 ) {
     write_call(out, "    merge ", refused);
     match merge(out, maps, refused) {
         Ok(()) => write_map(out, row, &mut maps.map),
-        Err(_) => stops::tell_stop(out, row, place, &maps.map),
+        Err(_) => stops::print_stop(out, row, position, &maps.map),
     }
 }
 
@@ -108,12 +108,12 @@ fn merge_told<K: Key>(
 fn play_line<K: Key>(
     out: &mut Page,
     row: &Row<'_>,
-    place: usize,
+    position: usize,
     maps: &mut Maps<K>,
     (word, rest): (&str, &str),
 ) {
     match word {
-        "call" => tell_call(out, row, place, &mut maps.map, rest),
+        "call" => print_call(out, row, position, &mut maps.map, rest),
         "calls" => calls(out, &mut maps.map, rest),
         "others" => calls(out, &mut maps.other, rest),
         "other" => {
@@ -137,16 +137,16 @@ fn compare<K: Key>(out: &mut Page, before: &str, map: &MarkMap<K, u32>, other: &
 }
 
 /// Makes a call, and writes it, its result and what is then in the map.
-fn tell_call<K: Key>(
+fn print_call<K: Key>(
     out: &mut Page,
     row: &Row<'_>,
-    place: usize,
+    position: usize,
     map: &mut MarkMap<K, u32>,
     line: &str,
 ) {
     write_call(out, "    ", line);
     if call(out, map, line).is_err() {
-        write_want(out, row, place, map);
+        write_want(out, row, position, map);
         write_call(out, "    ", line);
         note_call(out, map, line);
     }
@@ -155,9 +155,9 @@ fn tell_call<K: Key>(
 
 /// Writes that memory ran out in a call, and what is then in the map if that is also written before the call: after
 /// another call and after a merge.
-fn write_want<K: Key>(out: &mut Page, row: &Row<'_>, place: usize, map: &mut MarkMap<K, u32>) {
+fn write_want<K: Key>(out: &mut Page, row: &Row<'_>, position: usize, map: &mut MarkMap<K, u32>) {
     out.push_str("out of memory\n");
-    match row.lines.get(place.wrapping_sub(1)) {
+    match row.lines.get(position.wrapping_sub(1)) {
         Some(("call" | "merge", _)) => write_map(out, row, map),
         _ => {}
     }
@@ -383,7 +383,7 @@ fn write_watched<K: Key>(out: &mut Page, watched: &str, map: &mut MarkMap<K, u32
 fn write_keys<K: Key>(out: &mut Page, map: &MarkMap<K, u32>) {
     out.push_str("        keys");
     for key in map.keys() {
-        key.tell(out, " ");
+        key.print(out, " ");
     }
 }
 
@@ -391,7 +391,7 @@ fn write_keys<K: Key>(out: &mut Page, map: &MarkMap<K, u32>) {
 fn write_entries<K: Key>(out: &mut Page, map: &MarkMap<K, u32>) {
     out.push_str("; entries");
     for (key, value) in map {
-        key.tell(out, " ");
+        key.print(out, " ");
         pen::number(out, " ", *value as usize);
     }
 }
@@ -411,7 +411,7 @@ fn write_marked<K: Key>(out: &mut Page, map: &MarkMap<K, u32>) {
 fn write_unused<K: Key>(out: &mut Page, keys: &[K]) {
     out.push_str("; unused");
     for key in keys {
-        key.tell(out, " ");
+        key.print(out, " ");
     }
 }
 
@@ -419,7 +419,7 @@ fn write_missing<K: Key>(out: &mut Page, keys: &[&K]) {
     out.push_str("; missing");
     for key in keys {
         let key: &K = *key;
-        key.tell(out, " ");
+        key.print(out, " ");
     }
     out.push('\n');
 }

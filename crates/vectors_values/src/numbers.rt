@@ -8,17 +8,17 @@ use vectors_rows::pen::{self, Piece};
 use vectors_rows::row::{Row, number, numbers};
 
 /// Writes the results for each value of the row. The row's text, or else `a script`, is a location that isn't a span.
-pub fn tell(out: &mut Page, row: &Row<'_>, text: &str) {
+pub fn print(out: &mut Page, row: &Row<'_>, text: &str) {
     if row.first("show") == Some("without-memory") {
-        return tell_without_memory(out, row);
+        return print_without_memory(out, row);
     }
     let script = if text.is_empty() { "a script" } else { text };
     for line in &row.lines {
-        tell_line(out, row, script, *line);
+        print_line(out, row, script, *line);
     }
 }
 
-fn tell_line(out: &mut Page, row: &Row<'_>, script: &str, (word, rest): (&str, &str)) {
+fn print_line(out: &mut Page, row: &Row<'_>, script: &str, (word, rest): (&str, &str)) {
     match word {
         "span" => write_span(out, Some(script), numbers(rest)),
         "number" => write_number(out, number(rest)),
@@ -28,7 +28,7 @@ fn tell_line(out: &mut Page, row: &Row<'_>, script: &str, (word, rest): (&str, &
 }
 
 /// Writes the results for each value of the row, and for the row's list of bits, which were all made before.
-fn tell_without_memory(out: &mut Page, row: &Row<'_>) {
+fn print_without_memory(out: &mut Page, row: &Row<'_>) {
     let (len, first) = numbers(row.first("bits").unwrap_or(""));
     match (
         Vob::from_elem(out.alloc, first == 1, len),
@@ -75,10 +75,10 @@ fn write_parts(out: &mut Page, span: Span) {
         Piece::If(span.is_empty(), ", is empty"),
     ];
     pen::pieces(out, &pieces);
-    let place = Location::from(span);
-    write!(out, ", as a place {place:?};");
-    write_copied(out, &place);
-    pen::flag(out, " ", place == Location::CommandLine);
+    let position = Location::from(span);
+    write!(out, ", as a place {position:?};");
+    write_copied(out, &position);
+    pen::flag(out, " ", position == Location::CommandLine);
 }
 
 fn write_other(out: &mut Page, script: &str) {
@@ -89,9 +89,9 @@ fn write_other(out: &mut Page, script: &str) {
 }
 
 /// Writes whether a location equals a copy.
-fn write_copied(out: &mut Page, place: &Location) {
-    match place.clone() {
-        Ok(copy) => pen::flag(out, " ", copy == *place),
+fn write_copied(out: &mut Page, position: &Location) {
+    match position.clone() {
+        Ok(copy) => pen::flag(out, " ", copy == *position),
         Err(_) => out.tear(),
     }
 }
@@ -147,29 +147,29 @@ fn write_bits(out: &mut Page, row: &Row<'_>, (len, first): (usize, usize)) {
 fn write_calls(out: &mut Page, row: &Row<'_>, bits: &mut Vob) {
     write_list(out, bits);
     for (word, rest) in &row.lines {
-        let (place, bit) = numbers(*rest);
+        let (position, bit) = numbers(*rest);
         match *word {
-            "or" => write_or_all(out, bits, place),
-            _ => write_call(out, bits, *word, place, bit),
+            "or" => write_or_all(out, bits, position),
+            _ => write_call(out, bits, *word, position, bit),
         }
     }
 }
 
 /// Writes the result of a call on a list of bits.
-fn write_call(out: &mut Page, bits: &mut Vob, word: &str, place: usize, bit: usize) {
+fn write_call(out: &mut Page, bits: &mut Vob, word: &str, position: usize, bit: usize) {
     match word {
-        "set" if place < bits.len() => write_set(out, bits, place, bit),
-        "get" => writeln!(out, "    get({place}): {:?}", bits.get(place)),
+        "set" if position < bits.len() => write_set(out, bits, position, bit),
+        "get" => writeln!(out, "    get({position}): {:?}", bits.get(position)),
         _ => {}
     }
 }
 
 /// Sets a bit, and writes whether that changed it, and the list.
-fn write_set(out: &mut Page, bits: &mut Vob, place: usize, bit: usize)
-    requires { place < length bits.old }
+fn write_set(out: &mut Page, bits: &mut Vob, position: usize, bit: usize)
+    requires { position < length bits.old }
 {
-    pen::numbers(out, ("    set(", place), (", ", bit));
-    pen::flag(out, "): ", bits.set(place, bit == 1));
+    pen::numbers(out, ("    set(", position), (", ", bit));
+    pen::flag(out, "): ", bits.set(position, bit == 1));
     out.push('\n');
     write_list(out, bits);
 }
@@ -184,10 +184,10 @@ fn write_or_all(out: &mut Page, bits: &mut Vob, bit: usize) {
 
 /// Adds the bits of another list of the same length, and writes whether that changed this one, whether they are equal,
 /// and the list.
-fn write_or(out: &mut Page, bits: &mut Vob, place: usize, other: &Vob)
+fn write_or(out: &mut Page, bits: &mut Vob, position: usize, other: &Vob)
     requires { length other.now ≡ length bits.old }
 {
-    pen::number(out, "    or(", place);
+    pen::number(out, "    or(", position);
     pen::flag(out, "..): ", bits.or(other));
     pen::flag(out, ", equal: ", *bits == *other);
     out.push('\n');
@@ -198,8 +198,8 @@ fn write_or(out: &mut Page, bits: &mut Vob, place: usize, other: &Vob)
 fn write_list(out: &mut Page, bits: &Vob) {
     pen::number(out, "    ", bits.len());
     out.push_str(" bits ");
-    for place in 0..bits.len() {
-        out.push_str(if bits.get(place) == Some(true) {
+    for position in 0..bits.len() {
+        out.push_str(if bits.get(position) == Some(true) {
             "1"
         } else {
             "0"

@@ -17,7 +17,7 @@ pub firsts_bounded : (g : Grammar) (x : FirstSets) → SayFirsts g x → count_f
 firsts_bounded g x h = subst (λ n. count_firsts x ≤ n)
     (sym (mul-add g.rules g.tokens 1 ∙ ap (λ n. g.rules * g.tokens + n) (mul-one g.rules)))
     (add-le-add (count_of-le g.rules g.tokens x.firsts h.fits.table)
-    (subst (λ n. bits_on x.epsilons ≤ n) h.fits.epsilons (count_by-le-length (λ b. b) x.epsilons)))
+    (subst (λ n. bits_on x.nullable ≤ n) h.fits.nullable (count_by-le-length (λ b. b) x.nullable)))
 
 pub follows_bounded : (g : Grammar) (x : FollowSets) → SayFollows g x → count_follows x ≤ g.rules * (g.tokens + 1)
 follows_bounded g x h =

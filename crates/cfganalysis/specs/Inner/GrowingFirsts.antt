@@ -1,8 +1,8 @@
 -- FIRST sets that grow by what productions give.
 use Rattle.std.specs.Prelude.{ℕ, ◌+◌, Bool, true, false, List, Contains, replicate, slice_set}
 use Rattle.derivation.specs.Grammar.{Sym, Rule, Token, Grammar, Production, HasProduction}
-use Rattle.derivation.specs.First.{First, Empty}
-use Rattle.derivation.specs.FirstSets.{Vanishes, Begins, Covers}
+use Rattle.derivation.specs.First.{First, Nullable}
+use Rattle.derivation.specs.FirstSets.{AreNullable, Begins, Covers}
 use Rattle.cfganalysis.specs.Table.{no_bits, bits_on, count_of}
 use Rattle.cfganalysis.specs.Firsts.{FirstSets, FitsGrammar, IsAmongFirsts, IsEpsilon, epsilon_bit}
 
@@ -10,7 +10,7 @@ use Rattle.cfganalysis.specs.Firsts.{FirstSets, FitsGrammar, IsAmongFirsts, IsEp
 pub record SayFirsts (g : Grammar) (x : FirstSets) : Type 0 where
   pub fits : FitsGrammar g x
   pub first : (r t : ℕ) → IsAmongFirsts x r t → First (HasProduction g) r t
-  pub empty : (r : ℕ) → IsEpsilon x r → Empty (HasProduction g) r
+  pub empty : (r : ℕ) → IsEpsilon x r → Nullable (HasProduction g) r
 
 -- the sets contain all that the production gives
 abbrev pub HaveFirstsOf : FirstSets → Production → Type 0
@@ -27,21 +27,21 @@ pub record HasNoMoreFirsts (r : ℕ) (old new : FirstSets) : Type 0 where
 
 -- how many bits are on
 abbrev pub count_firsts : FirstSets → ℕ
-count_firsts x = count_of x.firsts + bits_on x.epsilons
+count_firsts x = count_of x.firsts + bits_on x.nullable
 
 abbrev pub no_firsts : ℕ → ℕ → FirstSets
-no_firsts rules tokens = record { firsts = no_bits rules tokens; epsilons = replicate rules false }
+no_firsts rules tokens = record { firsts = no_bits rules tokens; nullable = replicate rules false }
 
 -- the sets with this rule added to the nullable ones
 abbrev pub with_epsilon : FirstSets → ℕ → FirstSets
-with_epsilon x r = record { firsts = x.firsts; epsilons = slice_set x.epsilons r true }
+with_epsilon x r = record { firsts = x.firsts; nullable = slice_set x.nullable r true }
 
 -- the tokens that the list begins with, by the sets
 abbrev pub BeginsBy : FirstSets → List Sym → ℕ → Type 0
 BeginsBy x a t = Begins (IsEpsilon x) (IsAmongFirsts x) a t
 
-abbrev pub VanishesBy : FirstSets → List Sym → Type 0
-VanishesBy x a = Vanishes (IsEpsilon x) a
+abbrev pub AreNullableBy : FirstSets → List Sym → Type 0
+AreNullableBy x a = AreNullable (IsEpsilon x) a
 
 -- whether the symbol is a nullable rule
 abbrev pub is_empty_symbol : FirstSets → Sym → Bool

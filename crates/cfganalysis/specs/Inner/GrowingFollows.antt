@@ -2,14 +2,14 @@
 use Rattle.std.specs.Prelude.{◌≡◌, ◌↔◌, ◌⊎◌, ⊤, ◌<◌, ◌≤◌, ℕ, ◌+◌, Bool, false, List, [], ◌∷◌, length, IsTrue, slice_index_or}
 use Rattle.derivation.specs.Grammar.{Sym, Grammar, IsSymbolOf, Production}
 use Rattle.derivation.specs.Follow.{MayFollow}
-use Rattle.derivation.specs.FirstSets.{Vanishes, Begins}
+use Rattle.derivation.specs.FirstSets.{AreNullable, Begins}
 use Rattle.derivation.specs.FollowSets.{Flows}
 use Rattle.cfganalysis.specs.Table.{Table, IsTable, HasBit, Joins, count_of}
 use Rattle.cfgtables.specs.NumberedSymbols.{sym_of}
 use Rattle.cfganalysis.specs.Inner.Waiting.{Waits}
 use Rattle.cfganalysis.specs.Firsts.{FirstSets, FitsGrammar, AreFirsts, IsAmongFirsts, IsEpsilon}
-use Rattle.cfganalysis.specs.declared.follows.Front.{Front}
-use Rattle.cfganalysis.specs.declared.follows.Front.TheVariants as fronts
+use Rattle.cfganalysis.specs.declared.follows.Prefix.{Prefix}
+use Rattle.cfganalysis.specs.declared.follows.Prefix.TheVariants as prefixes
 
 -- the FIRST sets, and a row of tokens for each rule
 pub record FollowSets : Type 0 where
@@ -52,12 +52,12 @@ count_follows x = count_of x.follows
 abbrev pub BeginsList : FollowSets → List Sym → ℕ → Type 0
 BeginsList x a t = Begins (IsEpsilon x.firsts) (IsAmongFirsts x.firsts) a t
 
-abbrev pub VanishesList : FollowSets → List Sym → Type 0
-VanishesList x a = Vanishes (IsEpsilon x.firsts) a
+abbrev pub NullableList : FollowSets → List Sym → Type 0
+NullableList x a = AreNullable (IsEpsilon x.firsts) a
 
 -- the tokens that follow a symbol of the rule's production: what the rest begins with and, if the rest is nullable, what follows the rule
-abbrev pub Behind : FollowSets → ℕ → List Sym → ℕ → Type 0
-Behind x rule rest t = BeginsList x rest t ⊎ (VanishesList x rest × HasBit x.follows rule t)
+abbrev pub After : FollowSets → ℕ → List Sym → ℕ → Type 0
+After x rule rest t = BeginsList x rest t ⊎ (NullableList x rest × HasBit x.follows rule t)
 
 -- tokens were added to the FOLLOW sets of rules
 pub record Puts (gives : ℕ → ℕ → Type 0) (old new : FollowSets) (changed : Bool) : Type 0 where
@@ -65,7 +65,7 @@ pub record Puts (gives : ℕ → ℕ → Type 0) (old new : FollowSets) (changed
   pub joins : Joins gives old.follows new.follows changed
 
 -- tokens were added to the FOLLOW sets of rules, and each rule whose set grew waits
-pub record PutsBehind (gives : ℕ → ℕ → Type 0) (old new : FollowSets) (waiting waiting' : List Bool) : Type 0 where
+pub record PutsAfter (gives : ℕ → ℕ → Type 0) (old new : FollowSets) (waiting waiting' : List Bool) : Type 0 where
   pub firsts : new.firsts ≡ old.firsts
   pub shape : (rows columns : ℕ) → IsTable rows columns old.follows → IsTable rows columns new.follows
   pub bits : (r t : ℕ) → (HasBit new.follows r t ↔ (HasBit old.follows r t ⊎ gives r t))
@@ -74,7 +74,7 @@ pub record PutsBehind (gives : ℕ → ℕ → Type 0) (old new : FollowSets) (w
   pub kept : (r : ℕ) → Waits waiting r → Waits waiting' r
   pub gained : (r : ℕ) → Waits waiting' r → Waits waiting r ⊎ (count_follows old < count_follows new)
   pub more : (r : ℕ) → Waits waiting' r → Waits waiting r ⊎ (HasNoMoreFollows r old new → ⊥)
-  pub told : (r t : ℕ) → HasBit new.follows r t → HasBit old.follows r t ⊎ Waits waiting' r
+  pub reported : (r t : ℕ) → HasBit new.follows r t → HasBit old.follows r t ⊎ Waits waiting' r
 
 -- the token is gathered
 abbrev pub IsGathered : List Bool → ℕ → Type 0
@@ -86,27 +86,27 @@ pub record Gathers (gives : ℕ → Type 0) (old new : List Bool) : Type 0 where
   pub tokens : (t : ℕ) → (IsGathered new t ↔ (IsGathered old t ⊎ gives t))
 
 -- the next tokens at a position of a production: what follows the rule, what the symbol begins with, or what was gathered
-abbrev pub FrontGives : {S : Type 0} → (S → ℕ) → FollowSets → ℕ → List Bool → Front S → ℕ → Type 0
-FrontGives number x rule tokens fronts.End t = HasBit x.follows rule t
-FrontGives number x rule tokens (fronts.Symbol symbol) t = BeginsList x (sym_of number symbol ∷ []) t
-FrontGives number x rule tokens fronts.Gathered t = IsGathered tokens t
+abbrev pub PrefixGives : {S : Type 0} → (S → ℕ) → FollowSets → ℕ → List Bool → Prefix S → ℕ → Type 0
+PrefixGives number x rule tokens prefixes.End t = HasBit x.follows rule t
+PrefixGives number x rule tokens (prefixes.Symbol symbol) t = BeginsList x (sym_of number symbol ∷ []) t
+PrefixGives number x rule tokens prefixes.Gathered t = IsGathered tokens t
 
 -- its symbol, if any, is a symbol of the grammar
-abbrev pub IsFrontOf : {S : Type 0} → (S → ℕ) → Grammar → Front S → Type 0
-IsFrontOf number g fronts.End = ⊤
-IsFrontOf number g (fronts.Symbol symbol) = IsSymbolOf g (sym_of number symbol)
-IsFrontOf number g fronts.Gathered = ⊤
+abbrev pub IsPrefixOf : {S : Type 0} → (S → ℕ) → Grammar → Prefix S → Type 0
+IsPrefixOf number g prefixes.End = ⊤
+IsPrefixOf number g (prefixes.Symbol symbol) = IsSymbolOf g (sym_of number symbol)
+IsPrefixOf number g prefixes.Gathered = ⊤
 
-abbrev pub IsEnd : {S : Type 0} → Front S → Type 0
-IsEnd fronts.End = ⊤
-IsEnd (fronts.Symbol symbol) = ⊥
-IsEnd fronts.Gathered = ⊥
+abbrev pub IsEnd : {S : Type 0} → Prefix S → Type 0
+IsEnd prefixes.End = ⊤
+IsEnd (prefixes.Symbol symbol) = ⊥
+IsEnd prefixes.Gathered = ⊥
 
 -- the next tokens before a symbol: what the symbol begins with and, if it is nullable, the next tokens after it
-pub record StepsBack {S : Type 0} (number : S → ℕ) (x : FollowSets) (rule : ℕ) (s : Sym) (front : Front S) (tokens : List Bool)
-    (front' : Front S) (tokens' : List Bool) : Type 0 where
-  pub past : (t : ℕ) → (FrontGives number x rule tokens' front' t
-      ↔ (BeginsList x (s ∷ []) t ⊎ (VanishesList x (s ∷ []) × FrontGives number x rule tokens front t)))
-  pub begun : IsEnd front' → ⊥
-  pub fits : (g : Grammar) → IsSymbolOf g s → IsFrontOf number g front'
+pub record StepsBack {S : Type 0} (number : S → ℕ) (x : FollowSets) (rule : ℕ) (s : Sym) (prefix : Prefix S) (tokens : List Bool)
+    (prefix' : Prefix S) (tokens' : List Bool) : Type 0 where
+  pub past : (t : ℕ) → (PrefixGives number x rule tokens' prefix' t
+      ↔ (BeginsList x (s ∷ []) t ⊎ (NullableList x (s ∷ []) × PrefixGives number x rule tokens prefix t)))
+  pub begun : IsEnd prefix' → ⊥
+  pub fits : (g : Grammar) → IsSymbolOf g s → IsPrefixOf number g prefix'
   pub long : length tokens' ≡ length tokens

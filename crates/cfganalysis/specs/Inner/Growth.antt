@@ -18,8 +18,8 @@ abbrev pub CanNote : List (List ℕ) → Production → Type 0
 CanNote users p = (g : Grammar) × IsGrammar g × (length users ≡ g.rules) × Contains g.productions p
 
 -- in addition, the sets are sets of that grammar, and no rule's set has grown
-abbrev pub CanTakeIn : {X : Type 0} → (Grammar → X → Type 0) → X → List Bool → Production → Type 0
-CanTakeIn holds x gained p = (g : Grammar) × IsGrammar g × holds g x × NoneWaits gained × (length gained ≡ g.rules) × Contains g.productions p
+abbrev pub CanAddProduction : {X : Type 0} → (Grammar → X → Type 0) → X → List Bool → Production → Type 0
+CanAddProduction holds x gained p = (g : Grammar) × IsGrammar g × holds g x × NoneWaits gained × (length gained ≡ g.rules) × Contains g.productions p
 
 -- for the sets: what they say is true, they contain all that a production gives, how many bits are on, and the rules whose sets a
 -- production depends on
@@ -29,7 +29,7 @@ module _ {X : Type 0} (holds : Grammar → X → Type 0) (covers : X → Product
     pub sound : holds g x
     pub rules : length users ≡ g.rules
     pub gains : length gained ≡ g.rules
-    pub places : length waiting ≡ length g.productions
+    pub positions : length waiting ≡ length g.productions
     pub idle : NoneWaits gained
     pub noted : (q r : ℕ) → q < n → rests_on (nth_production g q) r → Contains (users_of users r) q
     pub within : (q r : ℕ) → Contains (users_of users r) q → q < n
@@ -43,7 +43,7 @@ module _ {X : Type 0} (holds : Grammar → X → Type 0) (covers : X → Product
   module _ (no_more : ℕ → X → X → Type 0) where
     -- what a production gives was added, and the sets still contain what each other production gives, except productions that depend on a
     -- rule whose set grew
-    pub record TakesIn (p : Production) (old new : X) (gained : ℕ → Type 0) : Type 0 where
+    pub record AddsProduction (p : Production) (old new : X) (gained : ℕ → Type 0) : Type 0 where
       pub sound : (g : Grammar) → IsGrammar g → Contains g.productions p → holds g old → holds g new
       pub no_less : bits old ≤ bits new
       pub more : (r : ℕ) → gained r → bits old < bits new
@@ -52,7 +52,7 @@ module _ {X : Type 0} (holds : Grammar → X → Type 0) (covers : X → Product
       pub stays : (q : Production) → ((r : ℕ) → rests_on q r → gained r → ⊥) → covers old q → covers new q
 
     -- what a production gives was added, and the productions that depend on a rule whose set grew wait, as do those that waited before
-    pub record TakesInto (p : Production) (users : List (List ℕ)) (old new : X) (waiting waiting' : List Bool) : Type 0 where
+    pub record AddsInto (p : Production) (users : List (List ℕ)) (old new : X) (waiting waiting' : List Bool) : Type 0 where
       pub sound : (g : Grammar) → IsGrammar g → Contains g.productions p → holds g old → holds g new
       pub no_less : bits old ≤ bits new
       pub more : (r : ℕ) → (no_more r old new → ⊥) → bits old < bits new

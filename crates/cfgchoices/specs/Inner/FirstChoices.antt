@@ -8,8 +8,8 @@ use Rattle.derivation.specs.Sums.{sum_of, symbol_cost}
 use Rattle.cfgleast.specs.Certificate.{rule_choice}
 use Rattle.cfgchoices.specs.Inner.Choices.{ChoicesGive}
 use Rattle.cfgleast.specs.Generator.{CostTables, IsGenerator, token_cost}
-use Rattle.cfgchoices.specs.Inner.Kinds.{IsTight}
-use Rattle.cfgchoices.specs.FirstSentence.{dictionary}
+use Rattle.cfgchoices.specs.Inner.Kinds.{IsOptimal}
+use Rattle.cfgchoices.specs.FirstSentence.{lexicographic}
 
 -- a rule has no choice, or one with a number less than n
 abbrev pub IsNotAbove : List (Option (ℕ × ℕ)) → ℕ → Sym → Type 0
@@ -19,7 +19,7 @@ IsNotAbove choices n (Rule r) = IfSome (rule_choice choices r) (λ choice. choic
 -- the choice of a rule that costs d: a production of that cost, whose rules have no choices or choices with lesser numbers
 pub record Opens (x : CostTables) (q d p m : ℕ) : Type 0 where
   pub choice : rule_choice x.choices q ≡ Some (p, m)
-  pub place : p < length x.grammar.productions
+  pub index : p < length x.grammar.productions
   pub owner : (nth_production x.grammar p).rule ≡ q
   pub has : HasProduction x.grammar q (nth_production x.grammar p).symbols
   pub symbols : All (IsSymbolOf x.grammar) (nth_production x.grammar p).symbols
@@ -39,5 +39,5 @@ pub record Walks (x : CostTables) : Type 0 where
 
 -- no optimal production gives less than the choice of its rule
 abbrev pub AreFirst : CostTables → Type 0
-AreFirst x = (p : ℕ) → IsTight x p → (u v : List ℕ) → ChoicesGive x (Rule (nth_production x.grammar p).rule ∷ []) u
-    → ChoicesGive x (nth_production x.grammar p).symbols v → dictionary u v ≡ Greater → ⊥
+AreFirst x = (p : ℕ) → IsOptimal x p → (u v : List ℕ) → ChoicesGive x (Rule (nth_production x.grammar p).rule ∷ []) u
+    → ChoicesGive x (nth_production x.grammar p).symbols v → lexicographic u v ≡ Greater → ⊥

@@ -9,41 +9,41 @@ use Rattle.derivation.specs.CostLists.{rule_cost}
 use Rattle.cfgleast.specs.Generator.{CostTables, cost_answer, token_cost}
 use Rattle.cfgchoices.specs.Levels.{Along}
 use Rattle.cfgchoices.specs.declared.kinds.Kind.{Kind}
-use Rattle.cfgchoices.specs.declared.kinds.Kind.TheVariants.{Slack, Own, HandsOn}
+use Rattle.cfgchoices.specs.declared.kinds.Kind.TheVariants.{Slack, Base, ChainsTo}
 use Rattle.cfgindex.specs.declared.idxnewtype.RIdx.{RIdx}
 
 -- an optimal production: it costs just what its rule does, and that isn't 0
-pub record IsTight (x : CostTables) (p : ℕ) : Type 0 where
-  pub place : p < length x.grammar.productions
+pub record IsOptimal (x : CostTables) (p : ℕ) : Type 0 where
+  pub index : p < length x.grammar.productions
   pub cost : ℕ
   pub positive : 0 < cost
   pub rule : cost_answer x (nth_production x.grammar p).rule ≡ Some cost
   pub sum : sum_of (symbol_cost (token_cost x) (rule_cost x.least)) (nth_production x.grammar p).symbols ≡ Some cost
 
 -- a chain production leads to q: q is in it, and costs as much as its rule
-pub record IsHeir (x : CostTables) (p q : ℕ) : Type 0 where
-  pub tight : IsTight x p
+pub record IsTarget (x : CostTables) (p q : ℕ) : Type 0 where
+  pub optimal : IsOptimal x p
   pub among : Contains (nth_production x.grammar p).symbols (Rule q)
-  pub same : cost_answer x q ≡ Some tight.cost
+  pub same : cost_answer x q ≡ Some optimal.cost
 
 -- a base production: optimal, and no rule in it costs as much as its rule
-pub record HasNoHeir (x : CostTables) (p : ℕ) : Type 0 where
-  pub tight : IsTight x p
-  pub none : (q : ℕ) → IsHeir x p q → ⊥
+pub record HasNoTarget (x : CostTables) (p : ℕ) : Type 0 where
+  pub optimal : IsOptimal x p
+  pub none : (q : ℕ) → IsTarget x p q → ⊥
 
 -- the kind of a production with these symbols, whose rule has this cost
-abbrev pub IsRowKind : {S : Type 0} → (S → ℕ) → (ℕ → ℕ) → (ℕ → Option ℕ) → ℕ → List Sym → Kind S → Type 0
-IsRowKind number cost settled c symbols Slack = sum_of (symbol_cost cost settled) symbols ≡ Some c → ⊥
-IsRowKind number cost settled c symbols Own = (sum_of (symbol_cost cost settled) symbols ≡ Some c)
+abbrev pub IsSequenceKind : {S : Type 0} → (S → ℕ) → (ℕ → ℕ) → (ℕ → Option ℕ) → ℕ → List Sym → Kind S → Type 0
+IsSequenceKind number cost settled c symbols Slack = sum_of (symbol_cost cost settled) symbols ≡ Some c → ⊥
+IsSequenceKind number cost settled c symbols Base = (sum_of (symbol_cost cost settled) symbols ≡ Some c)
     × ((q : ℕ) → Contains symbols (Rule q) → settled q ≡ Some c → ⊥)
-IsRowKind number cost settled c symbols (HandsOn r) = (sum_of (symbol_cost cost settled) symbols ≡ Some c)
+IsSequenceKind number cost settled c symbols (ChainsTo r) = (sum_of (symbol_cost cost settled) symbols ≡ Some c)
     × Contains symbols (Rule (number r.0)) × (settled (number r.0) ≡ Some c)
 
 -- the kind of a production
 abbrev pub IsKind : {S : Type 0} → (S → ℕ) → CostTables → ℕ → Kind S → Type 0
-IsKind number x p Slack = IsTight x p → ⊥
-IsKind number x p Own = HasNoHeir x p
-IsKind number x p (HandsOn r) = IsHeir x p (number r.0)
+IsKind number x p Slack = IsOptimal x p → ⊥
+IsKind number x p Base = HasNoTarget x p
+IsKind number x p (ChainsTo r) = IsTarget x p (number r.0)
 
 -- the kind of each production
 pub record AreKinds {S : Type 0} (number : S → ℕ) (x : CostTables) (kinds : List (Kind S)) : Type 0 where
@@ -51,24 +51,24 @@ pub record AreKinds {S : Type 0} (number : S → ℕ) (x : CostTables) (kinds : 
   pub each : (p : ℕ) → p < length kinds → IsKind number x p (slice_index_or kinds p Slack)
 
 -- a chain production of rule r leads to rule q
-pub record HasHeir (x : CostTables) (r q : ℕ) : Type 0 where
-  pub place : ℕ
-  pub owner : (nth_production x.grammar place).rule ≡ r
-  pub heir : IsHeir x place q
+pub record HasTarget (x : CostTables) (r q : ℕ) : Type 0 where
+  pub index : ℕ
+  pub owner : (nth_production x.grammar index).rule ≡ r
+  pub target : IsTarget x index q
 
 -- a minimal sentence of a rule
 abbrev pub IsMinimal : CostTables → ℕ → List ℕ → Type 0
 IsMinimal x = Minimal (HasProduction x.grammar) (token_cost x)
 
 -- a base production of the rule, or of a rule that chain productions lead to from it
-pub record IsOwnBelow (x : CostTables) (r p : ℕ) : Type 0 where
-  pub leads : Along (HasHeir x) r (nth_production x.grammar p).rule
-  pub own : HasNoHeir x p
+pub record IsBaseBelow (x : CostTables) (r p : ℕ) : Type 0 where
+  pub leads : Along (HasTarget x) r (nth_production x.grammar p).rule
+  pub base : HasNoTarget x p
 
 -- the numbers of productions
-abbrev pub places_of : {S : Type 0} → (S → ℕ) → List (PIdx S) → List ℕ
-places_of number productions = map (λ p. number p.0) productions
+abbrev pub positions_of : {S : Type 0} → (S → ℕ) → List (PIdx S) → List ℕ
+positions_of number productions = map (λ p. number p.0) productions
 
 -- the rule that a chain production leads to is a rule of the grammar
-abbrev pub HasRulesAsHeirs : {S : Type 0} → (S → ℕ) → Grammar → List (Kind S) → Type 0
-HasRulesAsHeirs {S} number g kinds = (p : ℕ) (heir : RIdx S) → slice_index_or kinds p Slack ≡ HandsOn heir → number heir.0 < g.rules
+abbrev pub HasRulesAsTargets : {S : Type 0} → (S → ℕ) → Grammar → List (Kind S) → Type 0
+HasRulesAsTargets {S} number g kinds = (p : ℕ) (target : RIdx S) → slice_index_or kinds p Slack ≡ ChainsTo target → number target.0 < g.rules

@@ -2,19 +2,19 @@
 use Rattle.std.specs.Prelude.{◌≡◌, ℕ, ◌+◌, ◌<◌, ◌≤◌, List, Option, Some, None, MatchOption, length, slice_index_or}
 use Rattle.cfgindex.specs.declared.idxnewtype.PIdx.{PIdx}
 use Rattle.cfgleast.specs.Generator.{CostTables, cost_answer}
-use Rattle.cfgchoices.specs.Inner.Kinds.{HasNoHeir, IsHeir}
+use Rattle.cfgchoices.specs.Inner.Kinds.{HasNoTarget, IsTarget}
 use Rattle.cfgchoices.specs.declared.first.lists.Listed.{Listed}
-use Rattle.cfgchoices.specs.declared.first.lists.Listed.TheVariants.{Own, HandingTo}
+use Rattle.cfgchoices.specs.declared.first.lists.Listed.TheVariants.{Base, ChainingTo}
 use Rattle.cfgchoices.specs.declared.first.lists.Lists.{Lists}
 
 -- a base production that costs this
-abbrev pub IsOwnAt : CostTables → ℕ → ℕ → Type 0
-IsOwnAt x c p = (own : HasNoHeir x p) × (own.tight.cost ≡ c)
+abbrev pub IsBaseAt : CostTables → ℕ → ℕ → Type 0
+IsBaseAt x c p = (base : HasNoTarget x p) × (base.optimal.cost ≡ c)
 
 -- a production is in the list
 abbrev pub IsIn : {S : Type 0} → (S → ℕ) → CostTables → Listed S → ℕ → Type 0
-IsIn number x (Own c) p = IsOwnAt x c p
-IsIn number x (HandingTo r) p = IsHeir x p (number r.0)
+IsIn number x (Base c) p = IsBaseAt x c p
+IsIn number x (ChainingTo r) p = IsTarget x p (number r.0)
 
 -- the first production, from number n on, of which this is true
 abbrev pub IsFirstFrom : {S : Type 0} → (S → ℕ) → (ℕ → Type 0) → ℕ → Option (PIdx S) → Type 0
@@ -24,12 +24,12 @@ IsFirstFrom number Is n first = MatchOption first ((p : ℕ) → n ≤ p → Is 
 -- for each list its first production from number n on, and for each of these productions the next one in its list
 pub record AreListed {S : Type 0} (number : S → ℕ) (Is : ℕ → ℕ → Type 0) (n : ℕ) (firsts next : List (Option (PIdx S))) : Type 0 where
   pub first : (k : ℕ) → IsFirstFrom number (Is k) n (slice_index_or firsts k None)
-  pub behind : (k p : ℕ) → n ≤ p → Is k p → IsFirstFrom number (Is k) (p + 1) (slice_index_or next p None)
+  pub after : (k p : ℕ) → n ≤ p → Is k p → IsFirstFrom number (Is k) (p + 1) (slice_index_or next p None)
 
 -- the lists of base productions and of chain productions, from number n on
 pub record AreLists {S : Type 0} (number : S → ℕ) (x : CostTables) (n : ℕ) (lists : Lists S) : Type 0 where
-  pub own : AreListed number (IsOwnAt x) n lists.own.items lists.next.items
-  pub handing : AreListed number (λ r p. IsHeir x p r) n lists.handing.items lists.next.items
-  pub costs : (r c : ℕ) → cost_answer x r ≡ Some c → c < length lists.own.items
-  pub rules : length lists.handing.items ≡ x.grammar.rules
-  pub places : length lists.next.items ≡ length x.grammar.productions
+  pub base : AreListed number (IsBaseAt x) n lists.base.items lists.next.items
+  pub chaining : AreListed number (λ r p. IsTarget x p r) n lists.chaining.items lists.next.items
+  pub costs : (r c : ℕ) → cost_answer x r ≡ Some c → c < length lists.base.items
+  pub rules : length lists.chaining.items ≡ x.grammar.rules
+  pub positions : length lists.next.items ≡ length x.grammar.productions

@@ -3,13 +3,13 @@
 ghost use Rattle.std.specs.Prelude.{◌≡◌, ℕ, ◌<◌, ◌++◌, ◌∷◌, [], List, IfOk, IfSome, MatchOption, OnOk, length, map};
 ghost use Rattle.std.specs.Prelude.{reverse, true};
 ghost use Rattle.cfgtables.specs.NumberedSymbols.{sym_of};
-ghost use Rattle.cfgchoices.specs.FirstSentence.{dictionary};
-ghost use Rattle.cfgchoices.specs.Inner.Offers.{Choosing, FirstTokensAre, Gives, IsOffered, Pends, left_to_open};
-ghost use Rattle.cfgchoices.specs.Inner.Offers.{offers_of, row};
+ghost use Rattle.cfgchoices.specs.FirstSentence.{lexicographic};
+ghost use Rattle.cfgchoices.specs.Inner.Candidates.{Choosing, FirstTokensAre, Gives, IsCandidate, Pends, left_to_open};
+ghost use Rattle.cfgchoices.specs.Inner.Candidates.{candidates_of, sequence};
 ghost use Rattle.std.specs.Ordering.{is_ne};
 
-use crate::first::offers::Firsts;
-use crate::first::tight::TightTables;
+use crate::first::candidates::Firsts;
+use crate::first::optimal::OptimalTables;
 use cfgindex::{PIdx, Storage, Symbol, TIdx};
 use cfgtables::Tables;
 use std::alloc::{AllocError, Global};
@@ -45,7 +45,7 @@ fn first_tokens<S: Storage>(ones: &[Symbol<S>], others: &[Symbol<S>]) -> Orderin
     Ordering::Equal
 }
 
-impl<'a, S: Storage, T: Tables<S>> TightTables<'a, S, T> {
+impl<'a, S: Storage, T: Tables<S>> OptimalTables<'a, S, T> {
     /// The symbols of a production as pending symbols: in reverse.
     ///
     /// # Errors
@@ -54,7 +54,7 @@ impl<'a, S: Storage, T: Tables<S>> TightTables<'a, S, T> {
     fn pending(&self, alloc: Global, p: PIdx<S>) -> Result<Vec<Symbol<S>>, AllocError>
         requires { S.number p.0 < length self.now.tables.grammar.productions }
         ensures { IfOk result (λ pending.
-            reverse (map (sym_of S.number) pending.items) ≡ row self.now.tables (S.number p.0)) }
+            reverse (map (sym_of S.number) pending.items) ≡ sequence self.now.tables (S.number p.0)) }
     {
         let mut pending = Vec::new(alloc);
         push_turned(&mut pending, self.symbols(p))?;
@@ -70,30 +70,30 @@ impl<S: Storage> Firsts<S> {
     /// Out of memory.
     fn next_token<T: Tables<S>>(
         &self,
-        tight: &TightTables<S, T>,
+        optimal: &OptimalTables<S, T>,
         pending: &mut Vec<Symbol<S>>,
     ) -> Result<Option<TIdx<S>>, AllocError>
-        requires choosing { Choosing tight.now.tables (offers_of S.number self.now).choices self.now.number }
-        requires given { (w : List ℕ) × Pends tight.now.tables (offers_of S.number self.now).choices
+        requires choosing { Choosing optimal.now.tables (candidates_of S.number self.now).choices self.now.number }
+        requires given { (w : List ℕ) × Pends optimal.now.tables (candidates_of S.number self.now).choices
             (map (sym_of S.number) pending.old.items) w }
         ensures next { IfOk result (λ token. (w : List ℕ)
-            → Pends tight.now.tables (offers_of S.number self.now).choices (map (sym_of S.number) pending.old.items) w
+            → Pends optimal.now.tables (candidates_of S.number self.now).choices (map (sym_of S.number) pending.old.items) w
             → MatchOption token (w ≡ []) (λ t. (v : List ℕ) × (w ≡ S.number t.0 ∷ v)
-            × Pends tight.now.tables (offers_of S.number self.now).choices
+            × Pends optimal.now.tables (candidates_of S.number self.now).choices
             (map (sym_of S.number) pending.new.items) v)) }
         ensures less { IfOk result (λ token. IfSome token (λ _.
-            left_to_open tight.now.tables (offers_of S.number self.now).choices
+            left_to_open optimal.now.tables (candidates_of S.number self.now).choices
             (map (sym_of S.number) pending.new.items)
-            < left_to_open tight.now.tables (offers_of S.number self.now).choices
+            < left_to_open optimal.now.tables (candidates_of S.number self.now).choices
             (map (sym_of S.number) pending.old.items))) }
     {
-        tight.invariant_holds();
+        optimal.invariant_holds();
         while let Some(symbol) = pending.pop() {
             match symbol {
                 Symbol::Token(token) => return Ok(Some(token)),
                 Symbol::Rule(rule) => {
                     if let Some((p, _)) = self.choices[usize::from(rule)] {
-                        push_turned(pending, tight.symbols(p))?;
+                        push_turned(pending, optimal.symbols(p))?;
                     }
                 }
             }
@@ -108,34 +108,34 @@ impl<S: Storage> Firsts<S> {
     /// Out of memory.
     pub(crate) fn compare<T: Tables<S>>(
         &self,
-        tight: &TightTables<S, T>,
+        optimal: &OptimalTables<S, T>,
         one: PIdx<S>,
         other: PIdx<S>,
     ) -> Result<Ordering, AllocError>
-        requires choosing { Choosing tight.now.tables (offers_of S.number self.now).choices self.now.number }
-        requires one { IsOffered tight.now (offers_of S.number self.now).choices self.now.number self.now.cost
+        requires choosing { Choosing optimal.now.tables (candidates_of S.number self.now).choices self.now.number }
+        requires one { IsCandidate optimal.now (candidates_of S.number self.now).choices self.now.number self.now.cost
             (S.number one.0) }
-        requires other { IsOffered tight.now (offers_of S.number self.now).choices self.now.number self.now.cost
+        requires other { IsCandidate optimal.now (candidates_of S.number self.now).choices self.now.number self.now.cost
             (S.number other.0) }
         ensures { IfOk result (λ ordering. (u v : List ℕ)
-            → Gives tight.now.tables (offers_of S.number self.now).choices
-            (row tight.now.tables (S.number one.0)) u
-            → Gives tight.now.tables (offers_of S.number self.now).choices
-            (row tight.now.tables (S.number other.0)) v
-            → ordering ≡ dictionary u v) }
+            → Gives optimal.now.tables (candidates_of S.number self.now).choices
+            (sequence optimal.now.tables (S.number one.0)) u
+            → Gives optimal.now.tables (candidates_of S.number self.now).choices
+            (sequence optimal.now.tables (S.number other.0)) v
+            → ordering ≡ lexicographic u v) }
     {
-        let first = first_tokens(tight.symbols(one), tight.symbols(other));
+        let first = first_tokens(optimal.symbols(one), optimal.symbols(other));
         if first.is_ne() {
             return Ok(first);
         }
-        let mut ones = tight.pending(self.alloc, one)?;
-        let mut others = tight.pending(self.alloc, other)?;
-        while let Some(token) = self.next_token(tight, &mut ones)? {
-            let ordering = Some(token).cmp(&self.next_token(tight, &mut others)?);
+        let mut ones = optimal.pending(self.alloc, one)?;
+        let mut others = optimal.pending(self.alloc, other)?;
+        while let Some(token) = self.next_token(optimal, &mut ones)? {
+            let ordering = Some(token).cmp(&self.next_token(optimal, &mut others)?);
             if ordering.is_ne() {
                 return Ok(ordering);
             }
         }
-        Ok(None.cmp(&self.next_token(tight, &mut others)?))
+        Ok(None.cmp(&self.next_token(optimal, &mut others)?))
     }
 }

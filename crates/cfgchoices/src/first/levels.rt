@@ -5,11 +5,11 @@ ghost use Rattle.cfgleast.specs.Certificate.{choice_of};
 ghost use Rattle.cfgleast.specs.Generator.{IsGeneratorOf, settled_tables, tables_of};
 ghost use Rattle.cfgchoices.specs.Inner.FirstChoices.{AreFirst, Walks};
 ghost use Rattle.cfgchoices.specs.Inner.Kinds.{AreKinds};
-ghost use Rattle.cfgchoices.specs.Inner.Offers.{Climbed, by, chosen_tables, offers_of};
+ghost use Rattle.cfgchoices.specs.Inner.Candidates.{Climbed, by, chosen_tables, candidates_of};
 
+use crate::first::candidates::Firsts;
 use crate::first::lists::{Listed, no_productions};
-use crate::first::offers::Firsts;
-use crate::first::tight::TightTables;
+use crate::first::optimal::OptimalTables;
 use crate::kinds::Kind;
 use cfgindex::{PIdx, Storage};
 use cfgleast::settle::{Settled, no_choices};
@@ -25,17 +25,17 @@ impl<S: Storage> Firsts<S> {
     /// Out of memory.
     fn choose_level<T: Tables<S>>(
         &mut self,
-        tight: &TightTables<S, T>,
+        optimal: &OptimalTables<S, T>,
         cost: usize,
     ) -> Result<(), AllocError>
-        requires climbed { Climbed tight.now (offers_of S.number self.old) cost }
-        requires within { cost < tight.now.limit }
-        ensures { OnOk result (Climbed tight.now (offers_of S.number self.new) (cost + 1)) }
+        requires climbed { Climbed optimal.now (candidates_of S.number self.old) cost }
+        requires within { cost < optimal.now.limit }
+        ensures { OnOk result (Climbed optimal.now (candidates_of S.number self.new) (cost + 1)) }
     {
-        tight.invariant_holds();
+        optimal.invariant_holds();
         self.cost = cost;
-        self.offer_listed(tight, Listed::Own(cost))?;
-        self.choose_all(tight)?;
+        self.nominate_listed(optimal, Listed::Base(cost))?;
+        self.choose_all(optimal)?;
         Ok(())
     }
 
@@ -44,14 +44,17 @@ impl<S: Storage> Firsts<S> {
     /// # Errors
     ///
     /// Out of memory.
-    fn choose_by_cost<T: Tables<S>>(&mut self, tight: &TightTables<S, T>) -> Result<(), AllocError>
-        requires { Climbed tight.now (offers_of S.number self.old) 1 }
-        ensures walks { OnOk result (Walks (chosen_tables tight.now.tables (offers_of S.number self.new))) }
-        ensures first { OnOk result (AreFirst (chosen_tables tight.now.tables (offers_of S.number self.new))) }
+    fn choose_by_cost<T: Tables<S>>(
+        &mut self,
+        optimal: &OptimalTables<S, T>,
+    ) -> Result<(), AllocError>
+        requires { Climbed optimal.now (candidates_of S.number self.old) 1 }
+        ensures walks { OnOk result (Walks (chosen_tables optimal.now.tables (candidates_of S.number self.new))) }
+        ensures first { OnOk result (AreFirst (chosen_tables optimal.now.tables (candidates_of S.number self.new))) }
     {
-        tight.invariant_holds();
-        for cost in 1..tight.costs_len() {
-            self.choose_level(tight, cost)?;
+        optimal.invariant_holds();
+        for cost in 1..optimal.costs_len() {
+            self.choose_level(optimal, cost)?;
         }
         Ok(())
     }
@@ -64,12 +67,12 @@ impl<S: Storage> Firsts<S> {
 /// Out of memory.
 fn choices_by_cost<S: Storage, T: Tables<S>>(
     alloc: Global,
-    tight: &TightTables<S, T>,
+    optimal: &OptimalTables<S, T>,
     rules_len: usize,
 ) -> Result<Vec<Option<(PIdx<S>, u32)>>, AllocError>
-    requires { rules_len ≡ tight.now.tables.grammar.rules }
-    ensures walks { IfOk result (λ firsts. Walks (by tight.now.tables (map (choice_of S.number) firsts.items))) }
-    ensures first { IfOk result (λ firsts. AreFirst (by tight.now.tables (map (choice_of S.number) firsts.items))) }
+    requires { rules_len ≡ optimal.now.tables.grammar.rules }
+    ensures walks { IfOk result (λ firsts. Walks (by optimal.now.tables (map (choice_of S.number) firsts.items))) }
+    ensures first { IfOk result (λ firsts. AreFirst (by optimal.now.tables (map (choice_of S.number) firsts.items))) }
 {
     let choices = no_choices(alloc, rules_len)?;
     let foremost = no_productions(alloc, rules_len)?;
@@ -82,7 +85,7 @@ fn choices_by_cost<S: Storage, T: Tables<S>>(
         level: VecDeque::new(alloc),
         foremost,
     };
-    firsts.choose_by_cost(tight)?;
+    firsts.choose_by_cost(optimal)?;
     Ok(firsts.choices)
 }
 
@@ -107,6 +110,6 @@ pub fn first_choices<S: Storage, T: Tables<S>>(
     ensures first { IfOk result (λ firsts. AreFirst (tables_of S.number (T.grammar tables.now) costs.now
         settled.now.least.items firsts.items)) }
 {
-    let tight = TightTables::new(alloc, tables, costs, settled, kinds)?;
-    choices_by_cost(alloc, &tight, usize::from(tables.rules_len()))
+    let optimal = OptimalTables::new(alloc, tables, costs, settled, kinds)?;
+    choices_by_cost(alloc, &optimal, usize::from(tables.rules_len()))
 }

@@ -16,16 +16,16 @@ use std::alloc::{AllocError, Global};
 #[derive(Clone, Copy)]
 pub(crate) enum Listed<S> {
     /// Base productions of this cost.
-    Own(usize),
+    Base(usize),
     /// Chain productions that lead to this rule.
-    HandingTo(RIdx<S>),
+    ChainingTo(RIdx<S>),
 }
 
 /// Linked lists of productions: the first production of each list, and the next one after each production.
 #[derive(Drop)]
 pub(crate) struct Lists<S: Storage> {
-    pub(crate) own: Vec<Option<PIdx<S>>>,
-    pub(crate) handing: Vec<Option<PIdx<S>>>,
+    pub(crate) base: Vec<Option<PIdx<S>>>,
+    pub(crate) chaining: Vec<Option<PIdx<S>>>,
     pub(crate) next: Vec<Option<PIdx<S>>>,
 }
 
@@ -69,7 +69,7 @@ impl<S: Storage> Lists<S> {
         p: PIdx<S>,
     )
         requires generator { IsGeneratorOf S.number (T.grammar tables.now) costs.now settled.now }
-        requires place { S.number p.0 < length (T.grammar tables.now).productions }
+        requires index { S.number p.0 < length (T.grammar tables.now).productions }
         requires kind { IsKind S.number (settled_tables S.number (T.grammar tables.now) costs.now settled.now)
             (S.number p.0) kind }
         requires lists { AreLists S.number (settled_tables S.number (T.grammar tables.now) costs.now settled.now)
@@ -80,15 +80,15 @@ impl<S: Storage> Lists<S> {
         tables.invariant_holds();
         match kind {
             Kind::Slack => {}
-            Kind::Own => {
+            Kind::Base => {
                 if let Some(cost) = settled.least[usize::from(tables.prod_to_rule(p))] {
-                    self.next[usize::from(p)] = self.own[cost as usize];
-                    self.own[cost as usize] = Some(p);
+                    self.next[usize::from(p)] = self.base[cost as usize];
+                    self.base[cost as usize] = Some(p);
                 }
             }
-            Kind::HandsOn(rule) => {
-                self.next[usize::from(p)] = self.handing[usize::from(rule)];
-                self.handing[usize::from(rule)] = Some(p);
+            Kind::ChainsTo(rule) => {
+                self.next[usize::from(p)] = self.chaining[usize::from(rule)];
+                self.chaining[usize::from(rule)] = Some(p);
             }
         }
     }
@@ -113,8 +113,8 @@ impl<S: Storage> Lists<S> {
     {
         tables.invariant_holds();
         let mut lists = Lists {
-            own: no_productions(alloc, costs_len(&settled.least))?,
-            handing: no_productions(alloc, usize::from(tables.rules_len()))?,
+            base: no_productions(alloc, costs_len(&settled.least))?,
+            chaining: no_productions(alloc, usize::from(tables.rules_len()))?,
             next: no_productions(alloc, kinds.len())?,
         };
         let mut left = kinds.len();

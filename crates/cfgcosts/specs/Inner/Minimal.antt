@@ -10,9 +10,9 @@ use Rattle.cfgindex.specs.declared.idxnewtype.TIdx.{TIdx}
 use Rattle.derivation.specs.Grammar.{Grammar, Sym, Rule, Token}
 use Rattle.cfgtables.specs.Openings.{nth_production}
 use Rattle.cfgleast.specs.Generator.{CostTables, cost_answer}
-use Rattle.cfgchoices.specs.FirstSentence.{dictionary}
+use Rattle.cfgchoices.specs.FirstSentence.{lexicographic}
 use Rattle.cfgchoices.specs.Splits.{Split}
-use Rattle.cfgchoices.specs.Inner.Kinds.{IsMinimal, IsOwnBelow}
+use Rattle.cfgchoices.specs.Inner.Kinds.{IsMinimal, IsBaseBelow}
 use Rattle.cfgcosts.specs.Sentences.{numbers_of}
 
 -- the new list has what was listed before and what satisfies `Is`
@@ -20,10 +20,10 @@ abbrev pub Lists : (ℕ → Type 0) → List ℕ → List ℕ → Type 0
 Lists Is old new = (p : ℕ) → Contains new p ↔ (Contains old p ⊎ Is p)
 
 -- the rule, and each rule in a base production below a listed rule, is listed with its cost
-pub record AreAsked (x : CostTables) (r : ℕ) (listed : List (ℕ × ℕ)) : Type 0 where
+pub record AreRequested (x : CostTables) (r : ℕ) (listed : List (ℕ × ℕ)) : Type 0 where
   pub costs : (c q : ℕ) → Contains listed (c, q) → cost_answer x q ≡ Some c
   pub first : (c : ℕ) × Contains listed (c, r)
-  pub below : (c q p s : ℕ) → Contains listed (c, q) → IsOwnBelow x q p → Contains (nth_production x.grammar p).symbols (Rule s)
+  pub below : (c q p s : ℕ) → Contains listed (c, q) → IsBaseBelow x q p → Contains (nth_production x.grammar p).symbols (Rule s)
       → (d : ℕ) × Contains listed (d, s)
 
 -- the numbers of the tokens of words
@@ -39,7 +39,7 @@ HasSentence sentences r w = Contains (sentences r) w
 
 -- each word of one list followed by each word of the other
 abbrev pub joined : List (List ℕ) → List (List ℕ) → List (List ℕ)
-joined fronts backs = flat_map (λ front. map (λ back. front ++ back) backs) fronts
+joined prefixes backs = flat_map (λ prefix. map (λ back. prefix ++ back) backs) prefixes
 
 -- the words of a symbol: the token itself, or the sentences of the rule
 abbrev pub words_of_symbol : (ℕ → List (List ℕ)) → Sym → List (List ℕ)
@@ -48,7 +48,7 @@ words_of_symbol sentences (Rule r) = sentences r
 
 -- the words of a list's symbols, concatenated
 abbrev pub row_words : (ℕ → List (List ℕ)) → List Sym → List (List ℕ)
-row_words sentences row = fold (λ words s. joined words (words_of_symbol sentences s)) ([] ∷ []) row
+row_words sentences sequence = fold (λ words s. joined words (words_of_symbol sentences s)) ([] ∷ []) sequence
 
 -- these are now the sentences of the rule, and the other rules keep theirs
 pub record Puts (r : ℕ) (words : List (List ℕ)) (sentences sentences' : ℕ → List (List ℕ)) : Type 0 where
@@ -56,16 +56,16 @@ pub record Puts (r : ℕ) (words : List (List ℕ)) (sentences sentences' : ℕ 
   pub others : (q : ℕ) → (q ≡ r → ⊥) → sentences' q ≡ sentences q
 
 -- one of these productions makes the word of such sentences
-pub record IsMadeBy (g : Grammar) (sentences : ℕ → List (List ℕ)) (places : List ℕ) (w : List ℕ) : Type 0 where
-  pub place : ℕ
-  pub among : Contains places place
-  pub parts : Split (HasSentence sentences) (nth_production g place).symbols w
+pub record IsMadeBy (g : Grammar) (sentences : ℕ → List (List ℕ)) (positions : List ℕ) (w : List ℕ) : Type 0 where
+  pub index : ℕ
+  pub among : Contains positions index
+  pub parts : Split (HasSentence sentences) (nth_production g index).symbols w
 
 -- the words are exactly the minimal sentences of the rule, each once, in lexicographic order
 pub record AreMinimal (x : CostTables) (r : ℕ) (words : List (List ℕ)) : Type 0 where
   pub all : (w : List ℕ) → Contains words w ↔ IsMinimal x r w
-  pub order : IsStrictlySortedBy dictionary words
+  pub order : IsStrictlySortedBy lexicographic words
 
 -- so are those of each rule in a base production below the rule
 abbrev pub IsReadyFor : CostTables → (ℕ → List (List ℕ)) → ℕ → Type 0
-IsReadyFor x sentences r = (p q : ℕ) → IsOwnBelow x r p → Contains (nth_production x.grammar p).symbols (Rule q) → AreMinimal x q (sentences q)
+IsReadyFor x sentences r = (p q : ℕ) → IsBaseBelow x r p → Contains (nth_production x.grammar p).symbols (Rule q) → AreMinimal x q (sentences q)

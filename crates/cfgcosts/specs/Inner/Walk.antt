@@ -14,24 +14,24 @@ pub record IsFirstSentence (g : Grammar) (cost : ℕ → ℕ) (r : ℕ) (w : Lis
   pub within : All (λ t. t + 1 < g.tokens) w
 
 -- each production is counted as often as it is among the opened ones
-pub record AreCountsOf (g : Grammar) (opened : ℕ → ℕ) (all : ℕ) (places : List ℕ) : Type 0 where
-  pub each : (p : ℕ) → p < length g.productions → opened p ≡ times p places
-  pub together : all ≡ length places
+pub record AreCountsOf (g : Grammar) (opened : ℕ → ℕ) (all : ℕ) (positions : List ℕ) : Type 0 where
+  pub each : (p : ℕ) → p < length g.productions → opened p ≡ times p positions
+  pub together : all ≡ length positions
 
 -- a finished walk from the rule: it found the first minimal sentence, which the opened productions derive
 pub record HasWalked (g : Grammar) (cost : ℕ → ℕ) (r : ℕ) (HasOpened : List ℕ → Type 0) (w : List ℕ) : Type 0 where
   pub found : IsFirstSentence g cost r w
-  pub places : List ℕ
-  pub opened : HasOpened places
+  pub positions : List ℕ
+  pub opened : HasOpened positions
   pub list : List Sym
-  pub derived : DerivesBy g places (Rule r ∷ []) list
+  pub derived : DerivesBy g positions (Rule r ∷ []) list
   pub tokens : Split (IsFree g cost) list w
-  pub few : length places ≤ 1 + length w * g.rules
-  pub free : OpensNoneFree g cost (λ p. times p places)
+  pub few : length positions ≤ 1 + length w * g.rules
+  pub free : OpensNoneFree g cost (λ p. times p positions)
 
 -- or the walk ran out of memory
 pub record HasStopped (g : Grammar) (cost : ℕ → ℕ) (r : ℕ) (HasOpened : List ℕ → Type 0) : Type 0 where
-  pub places : List ℕ
-  pub opened : HasOpened places
-  pub few : (c : ℕ) → Least (HasProduction g) cost r c → length places ≤ 1 + c * g.rules
-  pub free : OpensNoneFree g cost (λ p. times p places)
+  pub positions : List ℕ
+  pub opened : HasOpened positions
+  pub few : (c : ℕ) → Least (HasProduction g) cost r c → length positions ≤ 1 + c * g.rules
+  pub free : OpensNoneFree g cost (λ p. times p positions)

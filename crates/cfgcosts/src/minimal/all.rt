@@ -4,16 +4,16 @@ ghost use Rattle.std.specs.Prelude.{◌≡◌, ◌↔◌, ℕ, ◌<◌, [], ◌+
 ghost use Rattle.std.specs.List.Sorted.{IsStrictlySortedBy};
 ghost use Rattle.derivation.specs.Grammar.{HasProduction};
 ghost use Rattle.derivation.specs.Costs.{Minimal};
-ghost use Rattle.cfgleast.specs.Generator.{HasNone, IsTooDear, cost_answer, token_cost};
-ghost use Rattle.cfgcosts.specs.Inner.Heirs.{HasSameSentences};
+ghost use Rattle.cfgleast.specs.Generator.{HasNone, IsTooLarge, cost_answer, token_cost};
+ghost use Rattle.cfgcosts.specs.Inner.Targets.{HasSameSentences};
 ghost use Rattle.cfgcosts.specs.Inner.Minimal.{AreMinimal, IsMadeBy, IsReadyFor, sentences_in, words_of};
-ghost use Rattle.cfgchoices.specs.FirstSentence.{dictionary};
+ghost use Rattle.cfgchoices.specs.FirstSentence.{lexicographic};
 ghost use Rattle.cfgcosts.specs.Sentences.{numbers_of};
-ghost use Rattle.cfgchoices.specs.Inner.Kinds.{places_of};
+ghost use Rattle.cfgchoices.specs.Inner.Kinds.{positions_of};
 
 use crate::errors::SentenceError;
 use crate::generator::SentenceGenerator;
-use crate::minimal::products::{SentenceTable, made_by_row};
+use crate::minimal::products::{SentenceTable, made_by_sequence};
 use cfgindex::{PIdx, RIdx, Storage, TIdx, to_storage};
 use cfgtables::Tables;
 use std::alloc::{AllocError, Global};
@@ -22,12 +22,12 @@ use std::collections::BTreeMap;
 impl<'a, S: Storage, T: Tables<S>> SentenceGenerator<'a, S, T> {
     /// A rule with the same minimal sentences: the rule itself or, if its only optimal production is a chain
     /// production, the last rule of that chain.
-    fn last_heir(&self, rule: RIdx<S>) -> RIdx<S>
+    fn last_target(&self, rule: RIdx<S>) -> RIdx<S>
         requires { S.number rule.0 < self.now.grammar.rules }
         ensures { HasSameSentences self.now (S.number rule.0) (S.number result.0) }
     {
         self.invariant_holds();
-        self.last_heirs[usize::from(rule)]
+        self.last_targets[usize::from(rule)]
     }
 
     /// What the productions make of the table's sentences, each word once, in lexicographic order.
@@ -38,17 +38,17 @@ impl<'a, S: Storage, T: Tables<S>> SentenceGenerator<'a, S, T> {
     fn made_words(
         &self,
         alloc: Global,
-        own: &[PIdx<S>],
+        base: &[PIdx<S>],
         table: &SentenceTable<S>,
     ) -> Result<Vec<Vec<TIdx<S>>>, AllocError>
-        requires { All (λ p. p < length self.now.grammar.productions) (places_of S.number own.now) }
+        requires { All (λ p. p < length self.now.grammar.productions) (positions_of S.number base.now) }
         ensures all { IfOk result (λ words. (w : List ℕ) → Contains (words_of S.number words) w
-            ↔ IsMadeBy self.now.grammar (sentences_in S.number table.now) (places_of S.number own.now) w) }
-        ensures order { IfOk result (λ words. IsStrictlySortedBy dictionary (words_of S.number words)) }
+            ↔ IsMadeBy self.now.grammar (sentences_in S.number table.now) (positions_of S.number base.now) w) }
+        ensures order { IfOk result (λ words. IsStrictlySortedBy lexicographic (words_of S.number words)) }
     {
         let mut words = Vec::new(alloc);
-        for p in own {
-            let mut made = made_by_row(alloc, table, self.tables.prod(*p))?;
+        for p in base {
+            let mut made = made_by_sequence(alloc, table, self.tables.prod(*p))?;
             words.append(&mut made)?;
         }
         words.sort_unstable();
@@ -80,8 +80,8 @@ impl<'a, S: Storage, T: Tables<S>> SentenceGenerator<'a, S, T> {
             words.push(Vec::new(alloc))?;
             return Ok(words);
         }
-        let own = self.own_productions(alloc, rule)?;
-        self.made_words(alloc, &own, table)
+        let base = self.base_productions(alloc, rule)?;
+        self.made_words(alloc, &base, table)
     }
 
     /// All minimal sentences of the rule, from a table that is filled by increasing cost.
@@ -96,8 +96,8 @@ impl<'a, S: Storage, T: Tables<S>> SentenceGenerator<'a, S, T> {
     {
         self.invariant_holds();
         let mut table = BTreeMap::new(alloc);
-        let mut asked = self.asked_rules(alloc, rule)?;
-        while let Some((cost, number)) = asked.pop() {
+        let mut requested = self.requested_rules(alloc, rule)?;
+        while let Some((cost, number)) = requested.pop() {
             let level = RIdx(to_storage(number as usize));
             let sentences = self.level_sentences(alloc, level, cost, &table)?;
             drop(table.insert(number as usize, sentences)?);
@@ -122,18 +122,18 @@ impl<'a, S: Storage, T: Tables<S>> SentenceGenerator<'a, S, T> {
             → Contains (map (numbers_of S.number) sentences.items) w
             ↔ Minimal (HasProduction self.now.grammar) (token_cost self.now) (S.number rule.0) w) }
         ensures order { IfOk result (λ sentences.
-            IsStrictlySortedBy dictionary (map (numbers_of S.number) sentences.items)) }
+            IsStrictlySortedBy lexicographic (map (numbers_of S.number) sentences.items)) }
         ensures prefix_free { IfOk result (λ sentences. (w rest : List ℕ)
             → Contains (map (numbers_of S.number) sentences.items) w
             → Contains (map (numbers_of S.number) sentences.items) (w ++ rest) → rest ≡ []) }
         ensures none { (result ≡ Err SentenceError.NoSentence)
             ↔ HasNone (HasProduction self.now.grammar) (S.number rule.0) }
-        ensures dear { (result ≡ Err SentenceError.CostTooLarge)
-            ↔ IsTooDear (HasProduction self.now.grammar) (token_cost self.now) (S.number rule.0) }
+        ensures too_large { (result ≡ Err SentenceError.CostTooLarge)
+            ↔ IsTooLarge (HasProduction self.now.grammar) (token_cost self.now) (S.number rule.0) }
     {
         self.invariant_holds();
         self.min_sentence_cost(rule)?;
-        let sentences = self.all_sentences(alloc, self.last_heir(rule))?;
+        let sentences = self.all_sentences(alloc, self.last_target(rule))?;
         Ok(sentences)
     }
 }

@@ -2,8 +2,8 @@
 
 ghost use Rattle.std.specs.Prelude.{◌≡◌, ◌↔◌, ℕ, ◌<◌, Contains, IfOk, OnOk, length};
 ghost use Rattle.cfgtables.specs.Openings.{nth_production};
-ghost use Rattle.search.specs.Reached.{Reaches};
-ghost use Rattle.cfgchoices.specs.Inner.Kinds.{HasHeir, HasNoHeir, IsHeir, IsOwnBelow, places_of};
+ghost use Rattle.search.specs.Reachable.{Reaches};
+ghost use Rattle.cfgchoices.specs.Inner.Kinds.{HasTarget, HasNoTarget, IsTarget, IsBaseBelow, positions_of};
 ghost use Rattle.cfgcosts.specs.Inner.Minimal.{Lists};
 
 use crate::generator::SentenceGenerator;
@@ -19,25 +19,25 @@ impl<'a, S: Storage, T: Tables<S>> SentenceGenerator<'a, S, T> {
     /// # Errors
     ///
     /// Out of memory.
-    fn take_in(
+    fn add_production(
         &self,
         p: PIdx<S>,
         search: &mut Search<Few>,
-        own: &mut Vec<PIdx<S>>,
+        base: &mut Vec<PIdx<S>>,
     ) -> Result<(), AllocError>
-        requires place { S.number p.0 < length self.now.grammar.productions }
+        requires index { S.number p.0 < length self.now.grammar.productions }
         requires rules { length search.old.reached ≡ self.now.grammar.rules }
-        ensures heir { OnOk result (Reaches (IsHeir self.now (S.number p.0)) search.old search.new) }
-        ensures own { OnOk result (Lists (λ q. (q ≡ S.number p.0) × HasNoHeir self.now q)
-            (places_of S.number own.old.items) (places_of S.number own.new.items)) }
+        ensures target { OnOk result (Reaches (IsTarget self.now (S.number p.0)) search.old search.new) }
+        ensures base { OnOk result (Lists (λ q. (q ≡ S.number p.0) × HasNoTarget self.now q)
+            (positions_of S.number base.old.items) (positions_of S.number base.new.items)) }
     {
         match self.kinds[usize::from(p)] {
             Kind::Slack => Ok(()),
-            Kind::Own => {
-                own.push(p)?;
+            Kind::Base => {
+                base.push(p)?;
                 Ok(())
             }
-            Kind::HandsOn(rule) => {
+            Kind::ChainsTo(rule) => {
                 search.reach(usize::from(rule))?;
                 Ok(())
             }
@@ -53,17 +53,17 @@ impl<'a, S: Storage, T: Tables<S>> SentenceGenerator<'a, S, T> {
         &self,
         rule: RIdx<S>,
         search: &mut Search<Few>,
-        own: &mut Vec<PIdx<S>>,
+        base: &mut Vec<PIdx<S>>,
     ) -> Result<(), AllocError>
         requires rule { S.number rule.0 < self.now.grammar.rules }
         requires rules { length search.old.reached ≡ self.now.grammar.rules }
-        ensures heirs { OnOk result (Reaches (HasHeir self.now (S.number rule.0)) search.old search.new) }
-        ensures own { OnOk result (Lists
-            (λ p. ((nth_production self.now.grammar p).rule ≡ S.number rule.0) × HasNoHeir self.now p)
-            (places_of S.number own.old.items) (places_of S.number own.new.items)) }
+        ensures targets { OnOk result (Reaches (HasTarget self.now (S.number rule.0)) search.old search.new) }
+        ensures base { OnOk result (Lists
+            (λ p. ((nth_production self.now.grammar p).rule ≡ S.number rule.0) × HasNoTarget self.now p)
+            (positions_of S.number base.old.items) (positions_of S.number base.new.items)) }
     {
         for p in self.tables.rule_to_prods(rule) {
-            self.take_in(*p, search, own)?;
+            self.add_production(*p, search, base)?;
         }
         Ok(())
     }
@@ -73,21 +73,21 @@ impl<'a, S: Storage, T: Tables<S>> SentenceGenerator<'a, S, T> {
     /// # Errors
     ///
     /// Out of memory.
-    pub(crate) fn own_productions(
+    pub(crate) fn base_productions(
         &self,
         alloc: Global,
         rule: RIdx<S>,
     ) -> Result<Vec<PIdx<S>>, AllocError>
         requires { S.number rule.0 < self.now.grammar.rules }
-        ensures { IfOk result (λ own. (p : ℕ) → Contains (places_of S.number own.items) p
-            ↔ IsOwnBelow self.now (S.number rule.0) p) }
+        ensures { IfOk result (λ base. (p : ℕ) → Contains (positions_of S.number base.items) p
+            ↔ IsBaseBelow self.now (S.number rule.0) p) }
     {
-        let mut own = Vec::new(alloc);
+        let mut base = Vec::new(alloc);
         let mut search = Search::through_few(alloc, self.tables.rules_len().0.to_usize());
         search.reach(usize::from(rule))?;
         while let Some(node) = search.next() {
-            self.go_through(RIdx(to_storage(node)), &mut search, &mut own)?;
+            self.go_through(RIdx(to_storage(node)), &mut search, &mut base)?;
         }
-        Ok(own)
+        Ok(base)
     }
 }

@@ -20,58 +20,58 @@ pub(crate) type SentenceTable<S> = BTreeMap<usize, Vec<Vec<TIdx<S>>>>;
 /// Out of memory.
 fn join<S: Storage>(
     alloc: Global,
-    front: &[TIdx<S>],
+    prefix: &[TIdx<S>],
     back: &[TIdx<S>],
 ) -> Result<Vec<TIdx<S>>, AllocError>
-    ensures { IfOk result (λ word. word.items ≡ front.now ++ back.now) }
+    ensures { IfOk result (λ word. word.items ≡ prefix.now ++ back.now) }
 {
-    let mut word = Vec::with_capacity(alloc, front.len().saturating_add(back.len()))?;
-    word.extend_from_slice(front)?;
+    let mut word = Vec::with_capacity(alloc, prefix.len().saturating_add(back.len()))?;
+    word.extend_from_slice(prefix)?;
     word.extend_from_slice(back)?;
     Ok(word)
 }
 
-/// Adds the words that are `front` followed by one of `backs`.
+/// Adds the words that are `prefix` followed by one of `backs`.
 ///
 /// # Errors
 ///
 /// Out of memory.
 fn join_each<S: Storage>(
     alloc: Global,
-    mut front: Vec<TIdx<S>>,
+    mut prefix: Vec<TIdx<S>>,
     backs: &[Vec<TIdx<S>>],
     words: &mut Vec<Vec<TIdx<S>>>,
 ) -> Result<(), AllocError>
     ensures { OnOk result (map (numbers_of S.number) words.new.items ≡ map (numbers_of S.number) words.old.items
-        ++ map (λ back. numbers_of S.number front ++ back) (map (numbers_of S.number) backs.now)) }
+        ++ map (λ back. numbers_of S.number prefix ++ back) (map (numbers_of S.number) backs.now)) }
 {
     let Some((last, others)) = backs.split_last() else {
         return Ok(());
     };
     for back in others {
-        words.push(join(alloc, &front, back)?)?;
+        words.push(join(alloc, &prefix, back)?)?;
     }
-    front.extend_from_slice(last)?;
-    words.push(front)?;
+    prefix.extend_from_slice(last)?;
+    words.push(prefix)?;
     Ok(())
 }
 
-/// The words that are one of `fronts` followed by one of `backs`.
+/// The words that are one of `prefixes` followed by one of `backs`.
 ///
 /// # Errors
 ///
 /// Out of memory.
 fn join_all<S: Storage>(
     alloc: Global,
-    fronts: Vec<Vec<TIdx<S>>>,
+    prefixes: Vec<Vec<TIdx<S>>>,
     backs: &[Vec<TIdx<S>>],
 ) -> Result<Vec<Vec<TIdx<S>>>, AllocError>
     ensures { IfOk result (λ words.
-        words_of S.number words ≡ joined (words_of S.number fronts) (map (numbers_of S.number) backs.now)) }
+        words_of S.number words ≡ joined (words_of S.number prefixes) (map (numbers_of S.number) backs.now)) }
 {
     let mut words = Vec::new(alloc);
-    for front in fronts {
-        join_each(alloc, front, backs, &mut words)?;
+    for prefix in prefixes {
+        join_each(alloc, prefix, backs, &mut words)?;
     }
     Ok(words)
 }
@@ -108,7 +108,7 @@ fn push_symbol<S: Storage>(
 /// # Errors
 ///
 /// Out of memory.
-pub(crate) fn made_by_row<S: Storage>(
+pub(crate) fn made_by_sequence<S: Storage>(
     alloc: Global,
     table: &SentenceTable<S>,
     symbols: &[Symbol<S>],

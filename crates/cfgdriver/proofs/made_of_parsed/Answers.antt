@@ -3,7 +3,7 @@ use Rattle.std.proofs.lemmas.Result.{IfOk-weaker}
 use Rattle.cfgrammar.specs.Answer.{WasRead, in_numbers}
 use Rattle.cfgrammar.specs.ErrorSpans.{EachErrorSpan}
 use Rattle.cfgrammar.specs.Numbered.{Numbered}
-use Rattle.cfgrammar.specs.Places.{IsPiece, IsWithin}
+use Rattle.cfgrammar.specs.TextSpans.{IsPiece, IsWithin}
 use Rattle.cfgrammar.specs.Syntax.{Syntax, EachSpan}
 use Rattle.cfgrammar.specs.TreeView.{syntax}
 use Rattle.cfgdriver.specs.ReadText.{IsMadeOf}
@@ -14,9 +14,9 @@ grammar-requires g c = subst (EachSpan (IsPiece c.args.text.now) (IsWithin c.arg
 
 pub errors-requires : goal.errors-requires
 errors-requires g c =
-    let placed = rw c.in-Err-Errors.field-0-is at (c.in-Err-Errors.ensures.places c.args.text.now c.utf8.text c.requires) in
+    let located = rw c.in-Err-Errors.field-0-is at (c.in-Err-Errors.ensures.offsets c.args.text.now c.utf8.text c.requires) in
     let errors = rw c.in-Err-Errors.errors-is at c.deref.ensures.value in
-    subst (All (EachErrorSpan (IsPiece c.args.text.now))) (sym errors) placed
+    subst (All (EachErrorSpan (IsPiece c.args.text.now))) (sym errors) located
 
 pub returns-in-Ok : goal.returns-in-Ok
 returns-in-Ok g c =

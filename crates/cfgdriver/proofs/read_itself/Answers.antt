@@ -2,7 +2,7 @@ use Rattle.std.proofs.Common.{All, inl, refl, sym, subst}
 use Rattle.std.proofs.lemmas.Result.{IfOk-weaker}
 use Rattle.cfgrammar.specs.Answer.{WasRead, Found, IsRefused}
 use Rattle.cfgrammar.specs.ErrorSpans.{EachErrorSpan}
-use Rattle.cfgrammar.specs.Places.{IsPiece}
+use Rattle.cfgrammar.specs.TextSpans.{IsPiece}
 use Rattle.cfgrammar.specs.YaccFault.TheVariants as faults
 use Rattle.cfgrammar.proofs.OfItself.{parsed_itself, refused_itself}
 use Rattle.cfgdriver.specs.ReadText.{IsMadeOf, greatest}
@@ -10,9 +10,9 @@ use Rattle.cfgdriver.proofs.read_itself.Goals as goal
 
 pub errors-requires : goal.errors-requires
 errors-requires g c =
-    let placed = rw c.in-Err-Errors.field-0-is at c.in-Err-Errors.ensures.fault_places in
+    let located = rw c.in-Err-Errors.field-0-is at c.in-Err-Errors.ensures.fault_offsets in
     let errors = rw c.in-Err-Errors.errors-is at c.deref.ensures.value in
-    subst (All (EachErrorSpan (IsPiece c.args.text.now))) (sym errors) placed
+    subst (All (EachErrorSpan (IsPiece c.args.text.now))) (sym errors) located
 
 pub returns-in-Ok : goal.returns-in-Ok
 returns-in-Ok g c =
@@ -24,13 +24,13 @@ returns-in-Err-Errors g c =
     let answer = rw c.in-Err-Errors.field-0-is at c.in-Err-Errors.ensures.answer in
     let errors = rw c.in-Err-Errors.errors-is at c.deref.ensures.value in
     let it = refused_itself c.args.text.now c.in-Err-Errors.ensures.one (faults.Errors c.in-Err-Errors.errors) answer in
-    let told = c.in-Err-Errors.errors.items in
+    let reported = c.in-Err-Errors.errors.items in
     let OfErrors = g.T.TextReader.of_errors c.args.reader.now c.args.text.now in
     let OfGrammar = g.T.TextReader.of_grammar c.args.reader.now c.args.text.now in (
       it.0,
       it.1,
       IfOk-weaker c.errors.result (OfErrors c.deref.result.now) (IsMadeOf OfErrors OfGrammar it.0)
-          (λ made of. inl (told, subst (λ (found : Found). IsRefused greatest found told) (sym it.2) refl, subst (λ errors. OfErrors errors made) errors of)) c.errors.ensures,
+          (λ made of. inl (reported, subst (λ (found : Found). IsRefused greatest found reported) (sym it.2) refl, subst (λ errors. OfErrors errors made) errors of)) c.errors.ensures,
     )
 
 pub returns-in-Err-OutOfMemory : goal.returns-in-Err-OutOfMemory

@@ -14,8 +14,8 @@ module _ (P : ℕ → List Sym → Type 0) where
   abbrev pub HasWord : List Sym → Type 0
   HasWord a = (w : List ℕ) × Yields P a w
 
-  abbrev pub IsDead : List Sym → Type 0
-  IsDead a = (w : List ℕ) → Yields P a w → ⊥
+  abbrev pub IsUnproductive : List Sym → Type 0
+  IsUnproductive a = (w : List ℕ) → Yields P a w → ⊥
 
   -- the list yields a word that costs n or more
   pub record AtLeast (cost : ℕ → ℕ) (a : List Sym) (n : ℕ) : Type 0 where
@@ -24,8 +24,8 @@ module _ (P : ℕ → List Sym → Type 0) where
     pub enough : n ≤ cost_of cost word
 
   -- the list costs at least what the rule does
-  abbrev pub IsRowAbove : List Sym → ℕ → Type 0
-  IsRowAbove a x = (cost : ℕ → ℕ) (n : ℕ) → AtLeast cost (Rule x ∷ []) n → AtLeast cost a n
+  abbrev pub IsSequenceAbove : List Sym → ℕ → Type 0
+  IsSequenceAbove a x = (cost : ℕ → ℕ) (n : ℕ) → AtLeast cost (Rule x ∷ []) n → AtLeast cost a n
 
   abbrev pub IsAbove : ℕ → ℕ → Type 0
-  IsAbove r x = IsRowAbove (Rule r ∷ []) x
+  IsAbove r x = IsSequenceAbove (Rule r ∷ []) x

@@ -1,8 +1,8 @@
 -- What productions of a group's rules cost, without the rules of the group.
 use Rattle.std.specs.Prelude.{◌≡◌, ℕ, ◌+◌, ◌*◌, ◌<◌, ◌≤◌, ◌⊎◌, ◌||◌, nat_lt, min, max, true, false, List, [], ◌∷◌, All, Contains, Option, Ok, Err, length, slice_index, sum_by}
 use Rattle.derivation.specs.Grammar.{Sym, Rule, Grammar, HasProduction}
-use Rattle.cfggreatest.specs.Inner.AtLeast.{AtLeast, HasWord, IsAbove, IsDead, weigh}
-use Rattle.cfggreatest.specs.Inner.Known.{AreTrue, IsLiveSymbol, is_dead, is_outside, known_cost, known_of, read_symbol}
+use Rattle.cfggreatest.specs.Inner.AtLeast.{AtLeast, HasWord, IsAbove, IsUnproductive, weigh}
+use Rattle.cfggreatest.specs.Inner.Known.{AreTrue, IsProductiveSymbol, is_unproductive, is_outside, known_cost, known_of, read_symbol}
 use Rattle.cfggreatest.specs.declared.sums.Known.{Known}
 use Rattle.cfggreatest.specs.declared.sums.Known.TheVariants.{Open}
 use Rattle.cfggreatest.specs.declared.sums.Stop.{Stop}
@@ -15,15 +15,15 @@ module _ (cost : ℕ → ℕ) (known : List Known) (start : ℕ) where
   IsRead s = (o : Option ℕ) × (read_symbol cost known start s ≡ Ok o)
 
   -- what the list costs, if rules of the group cost k, and `large` gives the costs that are too large
-  abbrev pub row_cost : (ℕ → ℕ) → ℕ → List Sym → ℕ
-  row_cost large k a = sum_by (weigh cost (λ r. known_cost start k (large r) (known_of known r))) a
+  abbrev pub sequence_cost : (ℕ → ℕ) → ℕ → List Sym → ℕ
+  sequence_cost large k a = sum_by (weigh cost (λ r. known_cost start k (large r) (known_of known r))) a
 
   -- the symbols outside the group cost this much in total, which is `outer` when it is cut down to 65536; `inner` of the symbols are rules
   -- of the group
   pub record CostsBeside (large : ℕ → ℕ) (a : List Sym) (outer inner : ℕ) : Type 0 where
     pub rest : ℕ
     pub cut : outer ≡ min rest 65536
-    pub whole : (k : ℕ) → row_cost large k a ≡ rest + k * inner
+    pub whole : (k : ℕ) → sequence_cost large k a ≡ rest + k * inner
 
   pub record IsSum (a : List Sym) (outer inner : ℕ) : Type 0 where
     pub read : All IsRead a
@@ -34,16 +34,16 @@ module _ (cost : ℕ → ℕ) (known : List Known) (start : ℕ) where
   pub record IsUnder (a : List Sym) (x : Sums) : Type 0 where
     pub outer : ℕ
     pub inner : ℕ
-    pub live : All (IsLiveSymbol known) a
+    pub productive : All (IsProductiveSymbol known) a
     pub is : IsSum a outer inner
     pub little : outer ≤ x.top
     pub few : (inner ≡ 0) ⊎ ((outer ≡ 0) × ((inner ≡ 1) ⊎ (x.twice ≡ true)))
 
   -- the sum of a list of productive symbols was added
-  pub record AddsRow (a : List Sym) (old new : Sums) : Type 0 where
+  pub record AddsSequence (a : List Sym) (old new : Sums) : Type 0 where
     pub outer : ℕ
     pub inner : ℕ
-    pub live : All (IsLiveSymbol known) a
+    pub productive : All (IsProductiveSymbol known) a
     pub is : IsSum a outer inner
     pub top : new.top ≡ max old.top outer
     pub twice : new.twice ≡ (old.twice || nat_lt 1 inner)
@@ -64,17 +64,17 @@ module _ (cost : ℕ → ℕ) (known : List Known) (start : ℕ) where
     pub one : 0 < inner
     pub grows : stop ≡ Grows
 
-  abbrev pub StopsRow : List Sym → Stop → Type 0
-  StopsRow a stop = All (IsLiveSymbol known) a × (StopsAt a stop ⊎ GrowsBeside a stop)
+  abbrev pub StopsSequence : List Sym → Stop → Type 0
+  StopsSequence a stop = All (IsProductiveSymbol known) a × (StopsAt a stop ⊎ GrowsBeside a stop)
 
-  abbrev pub TakesRow : List Sym → Sums → Sums → Type 0
-  TakesRow a old new = ((All (IsLiveSymbol known) a → ⊥) × (new ≡ old)) ⊎ AddsRow a old new
+  abbrev pub TakesSequence : List Sym → Sums → Sums → Type 0
+  TakesSequence a old new = ((All (IsProductiveSymbol known) a → ⊥) × (new ≡ old)) ⊎ AddsSequence a old new
 
 -- the results are true, and the rules from this index of the path on are a group, each above each
 pub record IsGroup (g : Grammar) (cost : ℕ → ℕ) (known : List Known) (path : List ℕ) (start : ℕ) : Type 0 where
   pub so : AreTrue g cost known
-  pub lives : (r : ℕ) → is_dead (known_of known r) ≡ false → HasWord (HasProduction g) (Rule r ∷ [])
-  pub places : (r place : ℕ) → known_of known r ≡ Open place → (place < length path) × (slice_index path place ≡ r)
+  pub have_words : (r : ℕ) → is_unproductive (known_of known r) ≡ false → HasWord (HasProduction g) (Rule r ∷ [])
+  pub positions : (r index : ℕ) → known_of known r ≡ Open index → (index < length path) × (slice_index path index ≡ r)
   pub members : (i : ℕ) → start ≤ i → i < length path → (known_of known (slice_index path i) ≡ Open i) × HasWord (HasProduction g) (Rule (slice_index path i) ∷ [])
   pub above : (i j : ℕ) → start ≤ i → i < length path → start ≤ j → j < length path → IsAbove (HasProduction g) (slice_index path i) (slice_index path j)
 
@@ -91,7 +91,7 @@ module _ (P : ℕ → List Sym → Type 0) (cost : ℕ → ℕ) (path : List ℕ
 
   -- each production of the rule yields nothing, or its sum is no greater than the greatest one
   abbrev pub AreUnder : List Known → ℕ → Sums → Type 0
-  AreUnder known r x = (a : List Sym) → P r a → IsDead P a ⊎ IsUnder cost known start a x
+  AreUnder known r x = (a : List Sym) → P r a → IsUnproductive P a ⊎ IsUnder cost known start a x
 
   -- why the sum of a group was stopped: the group leads to a rule outside it that has no result, or the group's costs grow
   abbrev pub IsStopped : ℕ → List Known → Stop → Type 0

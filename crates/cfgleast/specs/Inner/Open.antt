@@ -39,13 +39,13 @@ module _ (cost : ℕ → ℕ) (settled : ℕ → Option ℕ) where
   module _ (g : Grammar) where
     -- the production exists, and its first symbols were summed
     pub record IsPartial (x : Partial) : Type 0 where
-      pub place : x.production < length g.productions
+      pub index : x.production < length g.productions
       pub taken : x.taken ≤ length (nth_production g x.production).symbols
       pub sum : IsCutSum (take x.taken (nth_production g x.production).symbols) x.sum
 
     -- the next symbol is this rule
     pub record WaitsFor (r : ℕ) (x : Partial) : Type 0 where
-      pub place : x.production < length g.productions
+      pub index : x.production < length g.productions
       pub taken : x.taken < length (nth_production g x.production).symbols
       pub symbol : slice_index_or (nth_production g x.production).symbols x.taken (Rule r) ≡ Rule r
       pub sum : IsCutSum (take x.taken (nth_production g x.production).symbols) x.sum
@@ -69,7 +69,7 @@ module _ (cost : ℕ → ℕ) (settled : ℕ → Option ℕ) where
       -- each production is in one of these phases, and what is settled costs at most what is queued
       pub record AreOpen (floor : ℕ) : Type 0 where
         pub queued_sum : (c p : ℕ) → Contains queue (c, p) → IsCutSum (nth_production g p).symbols c
-        pub queued_place : (c p : ℕ) → Contains queue (c, p) → p < length g.productions
+        pub queued_position : (c p : ℕ) → Contains queue (c, p) → p < length g.productions
         pub queued_above : (c p : ℕ) → Contains queue (c, p) → floor ≤ c
         pub held_for : (r : ℕ) (x : Partial) → Contains (waiting_for waiting r) x → WaitsFor r x
         pub phase : (p : ℕ) → p < length g.productions → Phase p
@@ -96,6 +96,6 @@ count_open queue waiting = length queue + sum_by length waiting
 -- costs of tokens and of rules for a grammar, whose productions can be counted up to `most`
 pub record AreInput (g : Grammar) (most : ℕ) (costs : List ℕ) (least : List (Option ℕ)) : Type 0 where
   pub grammar : IsGrammar g
-  pub places : length g.productions ≤ most
+  pub positions : length g.productions ≤ most
   pub tokens : length costs ≡ g.tokens
   pub rules : length least ≡ g.rules

@@ -18,7 +18,7 @@ module _ (g : Grammar) (cost : ℕ → ℕ) (least : List (Option ℕ)) (choices
   -- the rule was settled by one of its productions, when all rules in that were settled
   pub record IsSettledBy (r c p n : ℕ) : Type 0 where
     pub choice : rule_choice choices r ≡ Some (p, n)
-    pub place : p < length g.productions
+    pub index : p < length g.productions
     pub owner : (nth_production g p).rule ≡ r
     pub sum : IsCutSum cost (rule_cost least) (nth_production g p).symbols c
     pub below : All (IsChosenBelow choices n) (nth_production g p).symbols

@@ -4,7 +4,7 @@ ghost use Rattle.std.specs.Prelude.{IsSomeAnd, IfErr, IfOk, OnOk, OnErr, MatchRe
 ghost use Rattle.std.specs.Option.{ForSome};
 ghost use Rattle.cfgmarks.specs.Marks.{marks, entry_at};
 ghost use Rattle.cfgmarks.specs.Merging.{stays, conflicts, combined, adopted, behavior_of, Takes, MergesInto};
-ghost use Rattle.cfgmarks.specs.Merging.{AllMerged, KeepsStored, wanted, CallableOnWanted};
+ghost use Rattle.cfgmarks.specs.Merging.{AllMerged, KeepsStored, expected, CallableOnExpected};
 ghost use Rattle.cfgmarks.specs.MergeFaults.{IsRefusal, IsConflict, IsFaultAt, MergesKey, StoresKey, StopsAt};
 
 use super::{MarkMap, Marked, MergeBehavior, MergeError, MergeFault};
@@ -35,7 +35,7 @@ impl<K: Ord + Clone, V: Drop> MarkMap<K, V> {
         other: MarkMap<K, U>,
         convert: F,
     ) -> Result<(), MergeFault<K, V, E>>
-        requires { CallableOnWanted K.cmp (F.pre convert) (marks self.old) (marks other) }
+        requires { CallableOnExpected K.cmp (F.pre convert) (marks self.old) (marks other) }
         ensures ok { OnOk result (AllMerged K.cmp (λ u v. F.post convert u (Ok v)) (marks self.old) (marks other)
             (marks self.new)) }
         ensures fault { IfErr result (λ fault. StopsAt (λ u v. F.post convert u (Ok v))
@@ -56,7 +56,7 @@ impl<K: Ord + Clone, V: Drop> MarkMap<K, V> {
         theirs: Marked<U>,
         convert: &F,
     ) -> Result<(), MergeFault<K, V, E>>
-        requires { ForSome (wanted (marks self.old).behavior (entry_at K.cmp (marks self.old) key) theirs)
+        requires { ForSome (expected (marks self.old).behavior (entry_at K.cmp (marks self.old) key) theirs)
             (F.pre convert.now) }
         ensures ok { OnOk result (MergesKey K.cmp (λ u v. F.post convert.now u (Ok v)) key theirs (marks self.old)
             (marks self.new)) }
@@ -112,7 +112,7 @@ impl<V: Drop> Marked<V> {
         default: MergeBehavior,
         convert: &F,
     ) -> Result<(), Refusal<V, E>>
-        requires { ForSome (wanted default (Some self.old) theirs) (F.pre convert.now) }
+        requires { ForSome (expected default (Some self.old) theirs) (F.pre convert.now) }
         ensures ok { OnOk result (MergesInto (λ u v. F.post convert.now u (Ok v))
             (behavior_of default self.old) self.old theirs self.new) }
         ensures err { OnErr result (self.new ≡ self.old) }

@@ -2,7 +2,7 @@
 
 ghost use Rattle.std.specs.Prelude.{◌≡◌, ◌↔◌, ◌+◌, ◌≤◌, ◌<◌, All, length, map, IsTrue};
 ghost use Rattle.cfgast.specs.SyntaxView.{symbol_view};
-ghost use Rattle.cfgnumbers.specs.Fits.{LeavesRoom, productions_behind};
+ghost use Rattle.cfgnumbers.specs.Fits.{LeavesRoom, productions_after};
 ghost use Rattle.cfgnumbers.specs.Numbered.{rules_before, spaced, file_symbol, file_symbols};
 ghost use Rattle.cfgnumbers.specs.TablesView.{file_of, implicit_in};
 
@@ -25,15 +25,15 @@ impl Numbering<'_> {
         ensures { IsTrue result
             ↔ ((rules_before (implicit_in self.now) + length (file_of self.now).rules ≤ S.MAX)
             × (length (file_of self.now).tokens < S.MAX)
-            × (length (file_of self.now).productions + productions_behind (implicit_in self.now) ≤ S.MAX)) }
+            × (length (file_of self.now).productions + productions_after (implicit_in self.now) ≤ S.MAX)) }
     {
-        let behind = match self.implicit {
+        let after = match self.implicit {
             Some(tokens) => tokens.len() + 3,
             None => 1,
         };
         leaves_room::<S>(self.ast.rules().len(), self.rules_before())
             && leaves_room::<S>(self.ast.tokens().len(), 1)
-            && leaves_room::<S>(self.ast.prods().len(), behind)
+            && leaves_room::<S>(self.ast.prods().len(), after)
     }
 
     /// Whether it can count the symbols of each of these productions.

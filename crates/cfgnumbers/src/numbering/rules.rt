@@ -98,14 +98,14 @@ fn put_added_rule<S: Storage>(
     count: usize,
 ) -> Result<(), AllocError>
     requires new { list_any (bytes_eq name.now) (names rows.old.entries) ≡ false }
-    requires places { first + count ≤ S.MAX }
+    requires positions { first + count ≤ S.MAX }
     ensures { OnOk result (map (rule_view S.number) rows.new.entries
         ≡ map (rule_view S.number) rows.old.entries ++ added_rule name.now (range_with_len first count) ∷ []) }
 {
     let name = String::from_str(alloc, name)?;
     let row = RuleRow {
         span: Span::new(0, 0),
-        prods: places_in_order(alloc, first, count)?,
+        prods: positions_in_order(alloc, first, count)?,
         actiont: None,
     };
     rows.insert(name, row)?;
@@ -113,7 +113,7 @@ fn put_added_rule<S: Storage>(
 }
 
 /// This many productions in order, from `first` on.
-fn places_in_order<S: Storage>(
+fn positions_in_order<S: Storage>(
     alloc: Global,
     first: usize,
     count: usize,
@@ -122,9 +122,9 @@ fn places_in_order<S: Storage>(
     ensures { IfOk result (λ prods. map (λ p. S.number p.0) prods.items ≡ range_with_len first count) }
 {
     let mut prods = Vec::with_capacity(alloc, count)?;
-    for place in 0..count {
+    for index in 0..count {
         prove!(first <= S::MAX);
-        prods.push(PIdx(to_storage(first + place)))?;
+        prods.push(PIdx(to_storage(first + index)))?;
     }
     Ok(prods)
 }
@@ -137,7 +137,7 @@ fn put_rule<S: Storage>(
     rule: &Rule,
 ) -> Result<(), AllocError>
     requires new { list_any (bytes_eq name.now) (names rows.old.entries) ≡ false }
-    requires places { All (λ place. place ≤ S.MAX) rule.now.pidxs.items }
+    requires positions { All (λ index. index ≤ S.MAX) rule.now.pidxs.items }
     ensures { OnOk result (map (rule_view S.number) rows.new.entries
         ≡ map (rule_view S.number) rows.old.entries ++ file_rule (name.now, plain_rule rule.now) ∷ []) }
 {
@@ -146,7 +146,7 @@ fn put_rule<S: Storage>(
     let actiont = rule.actiont.clone()?;
     let row = RuleRow {
         span: *span,
-        prods: stored_places(alloc, &rule.pidxs)?,
+        prods: stored_positions(alloc, &rule.pidxs)?,
         actiont,
     };
     rows.insert(name, row)?;
@@ -154,13 +154,16 @@ fn put_rule<S: Storage>(
 }
 
 /// The productions with these numbers, as indices.
-fn stored_places<S: Storage>(alloc: Global, places: &[usize]) -> Result<Vec<PIdx<S>>, AllocError>
-    requires { All (λ place. place ≤ S.MAX) places.now }
-    ensures { IfOk result (λ prods. map (λ p. S.number p.0) prods.items ≡ places.now) }
+fn stored_positions<S: Storage>(
+    alloc: Global,
+    positions: &[usize],
+) -> Result<Vec<PIdx<S>>, AllocError>
+    requires { All (λ index. index ≤ S.MAX) positions.now }
+    ensures { IfOk result (λ prods. map (λ p. S.number p.0) prods.items ≡ positions.now) }
 {
-    let mut prods = Vec::with_capacity(alloc, places.len())?;
-    for place in places {
-        prods.push(PIdx(to_storage(*place)))?;
+    let mut prods = Vec::with_capacity(alloc, positions.len())?;
+    for index in positions {
+        prods.push(PIdx(to_storage(*index)))?;
     }
     Ok(prods)
 }

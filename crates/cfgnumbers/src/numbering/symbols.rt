@@ -83,12 +83,12 @@ impl Numbering<'_> {
     }
 
     /// The rule with this index in the file.
-    pub(super) fn rule_at<S: Storage>(&self, place: usize) -> RIdx<S>
-        requires { rules_before (implicit_in self.now) + place ≤ S.MAX }
-        ensures { S.number result.0 ≡ rules_before (implicit_in self.now) + place }
+    pub(super) fn rule_at<S: Storage>(&self, index: usize) -> RIdx<S>
+        requires { rules_before (implicit_in self.now) + index ≤ S.MAX }
+        ensures { S.number result.0 ≡ rules_before (implicit_in self.now) + index }
     {
-        prove!(place <= S::MAX);
-        RIdx(to_storage(self.rules_before() + place))
+        prove!(index <= S::MAX);
+        RIdx(to_storage(self.rules_before() + index))
     }
 
     /// The token with this name.
@@ -97,7 +97,7 @@ impl Numbering<'_> {
         requires room { LeavesRoom S.MAX (implicit_in self.now) (file_of self.now) }
         ensures { S.number result.0 ≡ token_index (file_of self.now) name.now }
     {
-        let place = self.ast.tokens().get_index_of(name).unwrap();
-        TIdx(to_storage(place))
+        let index = self.ast.tokens().get_index_of(name).unwrap();
+        TIdx(to_storage(index))
     }
 }

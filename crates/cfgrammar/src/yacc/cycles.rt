@@ -1,3 +1,3 @@
 //! Cyclic rules, and shortest cycles.
 
-pub use loops::{Step, Steps, alone_steps, shortest_loop, shortest_loops};
+pub use cycles::{Step, Steps, shortest_cycle, shortest_cycles, unit_steps};

@@ -5,8 +5,8 @@ use Rattle.cfgwords.specs.declared.fault.FaultKind.{FaultKind}
 use Rattle.cfgbase.specs.declared.span.Span.{Span}
 use Rattle.cfgwords.specs.Actions.{action_at, action_of}
 use Rattle.cfgwords.specs.Text.{fault_at}
-use Rattle.cfgwords.specs.Blank.{part_of, front_of}
-use Rattle.reading.specs.Leaves.{Gives, ValueOf, Leaves}
+use Rattle.cfgwords.specs.Blank.{part_of, prefix_of}
+use Rattle.constructs.specs.Leaves.{Gives, ValueOf, Leaves}
 use Rattle.cfgwords.specs.declared.fault.Fault.{Fault}
 use Rattle.cfgwords.specs.FileWords.{TokenText, name_of, token_of, word_at, token_at}
 use Rattle.cfgwords.specs.declared.words.Word.{Word as CodeWord}
@@ -17,10 +17,10 @@ use Rattle.cfgast.specs.Syntax.{Syntax, syntax_of}
 use Rattle.cfgast.specs.SyntaxView.{syntax_view, syntax_built, word_view, token_view}
 use Rattle.cfgast.specs.declared.syntax.Syntax.{Syntax as CodeSyntax}
 use Rattle.cfgkinds.specs.declared.kind.YaccKind.{YaccKind}
-use Rattle.reading.specs.Construct.{Construct, computes}
-use Rattle.reading.specs.Read.{stop_of}
-use Rattle.reading.specs.Steps as steps
-use Rattle.reading.specs.Steps.{ReaderKind}
+use Rattle.constructs.specs.Construct.{Construct, computes}
+use Rattle.constructs.specs.Read.{stop_of}
+use Rattle.constructs.specs.Steps as steps
+use Rattle.constructs.specs.Steps.{ReaderKind}
 use Rattle.cfgreader.specs.FileGrammar.{file}
 use Rattle.cfgreader.specs.declared.bodies.Part.{Part as CodePart}
 use Rattle.cfgreader.specs.declared.bodies.Part.TheVariants as code_parts
@@ -55,9 +55,9 @@ Builds = steps.Builds file_reader
 
 -- whether there is a part of a blank here, and the rest after it
 abbrev pub IsPartHere : Bool → Reader → Result (Option (Bor (List ℕ))) ReadFault → Type 0
-IsPartHere lines reader (Ok part) = part_of lines (front_of reader.rest.now) ≡ Ok (option_map (λ rest. rest.now) part)
+IsPartHere lines reader (Ok part) = part_of lines (prefix_of reader.rest.now) ≡ Ok (option_map (λ rest. rest.now) part)
 IsPartHere lines reader (Err errors.OutOfMemory) = ⊥
-IsPartHere lines reader (Err (errors.Fault fault)) = (kind : FaultKind) × (part_of lines (front_of reader.rest.now) ≡ Err kind) × (fault ≡ fault_at reader.len kind reader.rest.now)
+IsPartHere lines reader (Err (errors.Fault fault)) = (kind : FaultKind) × (part_of lines (prefix_of reader.rest.now) ≡ Err kind) × (fault ≡ fault_at reader.len kind reader.rest.now)
 
 abbrev pub text_view : CodeToken → TokenText
 text_view token = record { name = token.name.now; quoted = token.quoted }
@@ -78,7 +78,7 @@ IsTokenHere old new None = (token_of old.rest.now ≡ None) × (new ≡ old)
 abbrev pub part_view : CodePart → Part
 part_view (code_parts.Symbol token) = SymbolPart (token_view token)
 part_view (code_parts.Precedence token) = PrecedencePart (token_view token)
-part_view (code_parts.Empty end) = EmptyPart end
+part_view (code_parts.Nullable end) = EmptyPart end
 
 abbrev pub parts_view : CodeParts → Parts
 parts_view parts = record {

@@ -1,15 +1,15 @@
 -- What the code's keywords declare, as constructs.
 use Rattle.std.specs.Prelude.{◌≡◌, ℕ, List, [], ◌∷◌, Option, Some, None}
 use denote.Ref.{Bor}
-use Rattle.reading.specs.Pieces.{strip}
-use Rattle.reading.specs.Read.{gives}
-use Rattle.reading.specs.Construct.{then, again, computes}
+use Rattle.constructs.specs.Pieces.{strip}
+use Rattle.constructs.specs.Read.{gives}
+use Rattle.constructs.specs.Construct.{then, again, computes}
 use Rattle.cfgast.specs.Items.{ExpectDeclared, ExpectReduceReduceDeclared}
 use Rattle.cfgkinds.specs.declared.kind.YaccKind.{YaccKind}
 use Rattle.cfgreader.specs.declared.keywords.Declaration.{Declaration}
 use Rattle.cfgreader.specs.declared.keywords.Declaration.TheVariants as code
 use Rattle.cfgreader.specs.declared.reader.Reader.{Reader}
-use Rattle.cfgreader.specs.Keywords.{Behind, behind}
+use Rattle.cfgreader.specs.Keywords.{After, after}
 use Rattle.cfgreader.specs.Declarations.{list_declaration, start_declaration, epp_declaration, marking_declaration, precedence_declaration, number_declaration, parse_param_declaration, parse_generics_declaration, action_type_declaration, declaration}
 use Rattle.cfgreader.specs.Inner.Lists.{listed_in, begun, marked}
 
@@ -23,25 +23,25 @@ first_of [] text = None
 first_of ((word, a) ∷ table) text = with_value a (strip word text) (first_of table text)
 
 -- what follows a keyword
-abbrev pub declared : ℕ → Declaration → Behind
-declared len (code.List list) = behind (list_declaration len (listed_in len list))
-declared len code.Start = behind (start_declaration len)
-declared len code.PrintedForm = behind (epp_declaration len)
-declared len (code.Marked marking) = behind (marking_declaration len (begun marking) (marked marking))
-declared len (code.Precedence kind) = behind (precedence_declaration len kind)
-declared len code.Expect = behind (number_declaration len ExpectDeclared)
-declared len code.ExpectReduceReduce = behind (number_declaration len ExpectReduceReduceDeclared)
-declared len code.ParseParam = behind (parse_param_declaration len)
-declared len code.ParseGenerics = behind (parse_generics_declaration len)
-declared len code.ActionType = behind (action_type_declaration len)
+abbrev pub declared : ℕ → Declaration → After
+declared len (code.List list) = after (list_declaration len (listed_in len list))
+declared len code.Start = after (start_declaration len)
+declared len code.PrintedForm = after (epp_declaration len)
+declared len (code.Marked marking) = after (marking_declaration len (begun marking) (marked marking))
+declared len (code.Precedence kind) = after (precedence_declaration len kind)
+declared len code.Expect = after (number_declaration len ExpectDeclared)
+declared len code.ExpectReduceReduce = after (number_declaration len ExpectReduceReduceDeclared)
+declared len code.ParseParam = after (parse_param_declaration len)
+declared len code.ParseGenerics = after (parse_generics_declaration len)
+declared len code.ActionType = after (action_type_declaration len)
 
-abbrev pub shown_row : Bor (List ℕ) × Declaration → List ℕ × Declaration
-shown_row row = (row.0.now, row.1)
+abbrev pub shown_sequence : Bor (List ℕ) × Declaration → List ℕ × Declaration
+shown_sequence sequence = (sequence.0.now, sequence.1)
 
 -- which of a table's words the text begins with (the first of them), and the rest after it
-abbrev pub IsRowHere : List (List ℕ × Declaration) → Reader → Reader → Option Declaration → Type 0
-IsRowHere table old new (Some found) = (first_of table old.rest.now ≡ Some (found, new.rest.now)) × (new.len ≡ old.len) × (new.tree ≡ old.tree)
-IsRowHere table old new None = (first_of table old.rest.now ≡ None) × (new ≡ old)
+abbrev pub IsSequenceHere : List (List ℕ × Declaration) → Reader → Reader → Option Declaration → Type 0
+IsSequenceHere table old new (Some found) = (first_of table old.rest.now ≡ Some (found, new.rest.now)) × (new.len ≡ old.len) × (new.tree ≡ old.tree)
+IsSequenceHere table old new None = (first_of table old.rest.now ≡ None) × (new ≡ old)
 
 -- whether there is a declaration here, and the rest after its keyword, where reading it continues
 abbrev pub IsKeywordHere : YaccKind → Reader → Reader → Option Declaration → Type 0

@@ -7,10 +7,10 @@ use Rattle.std.specs.Ordering.{nat_cmp}
 use Rattle.std.specs.declared.alloc.Global.{Global}
 use denote.Ref.{Bor}
 use Rattle.cfgbase.specs.declared.span.Span.{Span}
-use Rattle.reading.specs.Leaves.{Gives, ValueOf, Leaves}
-use Rattle.reading.specs.Construct.{Construct}
-use Rattle.reading.specs.Steps as steps
-use Rattle.reading.specs.Steps.{ReaderKind}
+use Rattle.constructs.specs.Leaves.{Gives, ValueOf, Leaves}
+use Rattle.constructs.specs.Construct.{Construct}
+use Rattle.constructs.specs.Steps as steps
+use Rattle.constructs.specs.Steps.{ReaderKind}
 use Rattle.cfgsection.specs.declared.section.reader.Reader.{Reader}
 use Rattle.cfgsection.specs.declared.section.fault.Fault.{Fault as CodeFault}
 use Rattle.cfgsection.specs.declared.section.fault.ReadFault.{ReadFault}
@@ -55,11 +55,11 @@ Builds = steps.Builds section_reader
 
 -- the spans that are noted for a key
 abbrev pub spans_at : BTreeMap (Bor (List ℕ)) (Vec Span Global) → List ℕ → List Span
-spans_at places key = option_map_or (λ spans. spans.items) (get_by (λ k. slice_cmp nat_cmp key k.now) places) []
+spans_at offsets key = option_map_or (λ spans. spans.items) (get_by (λ k. slice_cmp nat_cmp key k.now) offsets) []
 
 -- the error for a key that is given more than once, at the spans that are noted for it
 abbrev pub duplicate_at : BTreeMap (Bor (List ℕ)) (Vec Span Global) → List ℕ → Fault
-duplicate_at places key = record { kind = DuplicateEntry; locations = spans_at places key }
+duplicate_at offsets key = record { kind = DuplicateEntry; locations = spans_at offsets key }
 
 -- the fault that ended a reading, if one did, or the rest
 abbrev pub end_view : Result (Bor (List ℕ)) CodeFault → Result (List ℕ) Fault

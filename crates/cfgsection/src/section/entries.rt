@@ -1,11 +1,11 @@
 //! Entries, and the section as a whole.
 
 ghost use Rattle.std.specs.Prelude.{◌≡◌, ◌≤◌, Ok, length};
-ghost use Rattle.reading.specs.Construct.{goes_on};
-ghost use Rattle.cfgwords.specs.Text.{place};
+ghost use Rattle.constructs.specs.Construct.{goes_on};
+ghost use Rattle.cfgwords.specs.Text.{offset_of};
 ghost use Rattle.cfgsection.specs.SectionGrammar.{end_fault, negated, value_of, entry, entry_turn, entries};
 ghost use Rattle.cfgsection.specs.SectionGrammar.{braced, section};
-ghost use Rattle.cfgkinds.specs.Values.{placed_view};
+ghost use Rattle.cfgkinds.specs.Values.{located_view};
 
 use crate::section::entry::Entry;
 use crate::section::fault::{Fault, ReadFault};
@@ -24,7 +24,7 @@ impl<'a> Reader<'a> {
     /// Passes what follows a `!` that is at `start`.
     #[tactic(auto, unfolding(crate::specs::SectionGrammar::negated))]
     fn negated(&mut self, start: usize) -> Result<Entry, ReadFault>
-        requires { start ≤ place self.old.len self.old.rest.now }
+        requires { start ≤ offset_of self.old.len self.old.rest.now }
         ensures { Builds entry_view self.old self.new result (negated self.old.len start) }
     {
         let (key, key_span) = self.name()?;
@@ -39,7 +39,7 @@ impl<'a> Reader<'a> {
     /// Passes what follows a key.
     #[tactic(auto, unfolding(crate::specs::SectionGrammar::value_of))]
     fn value_of(&mut self, key: (String, Span)) -> Result<Entry, ReadFault>
-        ensures { Builds entry_view self.old self.new result (value_of self.old.len (placed_view key)) }
+        ensures { Builds entry_view self.old self.new result (value_of self.old.len (located_view key)) }
     {
         let (key, key_span) = key;
         if !self.accept(":") {
@@ -64,7 +64,7 @@ impl<'a> Reader<'a> {
     pub(super) fn entry(&mut self) -> Result<Entry, ReadFault>
         ensures { Builds entry_view self.old self.new result (entry self.old.len) }
     {
-        let start = self.place();
+        let start = self.offset();
         if self.accept("!") {
             return self.negated(start);
         }
@@ -96,19 +96,19 @@ impl<'a> Reader<'a> {
 
     /// The fault if there is no comma or `}`, in a section whose `{` is at `opening`.
     fn end_fault(&self, opening: usize) -> Fault
-        requires { opening ≤ place self.now.len self.now.rest.now }
+        requires { opening ≤ offset_of self.now.len self.now.rest.now }
         ensures { fault_view result ≡ end_fault self.now.len opening self.now.rest.now }
     {
-        let place = self.place();
+        let offset = self.offset();
         if self.begins(b'*') {
             Fault {
                 kind: unexpected_star(),
-                span: Span::new(place, place + 1),
+                span: Span::new(offset, offset + 1),
             }
         } else {
             Fault {
                 kind: HeaderErrorKind::ExpectedToken('}'),
-                span: Span::new(opening, place),
+                span: Span::new(opening, offset),
             }
         }
     }
@@ -118,7 +118,7 @@ impl<'a> Reader<'a> {
     fn braced(&mut self) -> Result<(), ReadFault>
         ensures { Builds (λ x. x) self.old self.new result (braced self.old.len) }
     {
-        let opening = self.place();
+        let opening = self.offset();
         self.expect("{", HeaderErrorKind::ExpectedToken('{'))?;
         self.white();
         self.entries()?;

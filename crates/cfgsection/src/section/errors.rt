@@ -3,7 +3,7 @@
 ghost use Rattle.std.specs.Prelude.{◌≡◌, ◌++◌, ◌∷◌, [], ℕ, List, length, map, IfOk, OnOk, ◌==◌};
 ghost use Rattle.std.specs.Prelude.{if◌then◌else◌};
 ghost use Rattle.std.specs.Str.{bytes_eq};
-ghost use Rattle.cfgsection.specs.SectionErrors.{places_of, repeated, duplicate_errors, section_errors};
+ghost use Rattle.cfgsection.specs.SectionErrors.{offsets_of, repeated, duplicate_errors, section_errors};
 ghost use Rattle.cfgsection.specs.SectionReads.{entry_view, errors_view};
 ghost use Rattle.cfgsection.specs.Inner.Steps.{end_view, fault_view, spans_at, duplicate_at};
 
@@ -17,18 +17,18 @@ use std::collections::BTreeMap;
 /// Notes one more span of a key, and returns whether it is the second.
 fn note<'a>(
     alloc: Global,
-    places: &mut BTreeMap<&'a str, Vec<Span>>,
+    offsets: &mut BTreeMap<&'a str, Vec<Span>>,
     key: &'a str,
     span: Span,
 ) -> Result<bool, AllocError>
-    ensures places { OnOk result ((other : List ℕ) → spans_at places.new other
-        ≡ (if bytes_eq key.now other then spans_at places.old other ++ span ∷ [] else spans_at places.old other)) }
-    ensures second { IfOk result (λ second. second ≡ (length (spans_at places.old key.now) == 1)) }
+    ensures offsets { OnOk result ((other : List ℕ) → spans_at offsets.new other
+        ≡ (if bytes_eq key.now other then spans_at offsets.old other ++ span ∷ [] else spans_at offsets.old other)) }
+    ensures second { IfOk result (λ second. second ≡ (length (spans_at offsets.old key.now) == 1)) }
 {
-    let mut spans = places.remove(key).unwrap_or(Vec::new(alloc));
+    let mut spans = offsets.remove(key).unwrap_or(Vec::new(alloc));
     spans.push(span)?;
     let second = spans.len() == 2;
-    places.insert(key, spans)?;
+    offsets.insert(key, spans)?;
     Ok(second)
 }
 
@@ -37,31 +37,31 @@ fn gathered<'a>(
     alloc: Global,
     entries: &'a [Entry],
 ) -> Result<(BTreeMap<&'a str, Vec<Span>>, Vec<&'a str>), AllocError>
-    ensures places { IfOk result (λ found. (key : List ℕ)
-        → spans_at found.0 key ≡ places_of (map entry_view entries.now) key) }
+    ensures offsets { IfOk result (λ found. (key : List ℕ)
+        → spans_at found.0 key ≡ offsets_of (map entry_view entries.now) key) }
     ensures again { IfOk result (λ found. map (λ key. key.now) found.1.items
         ≡ repeated (map entry_view entries.now)) }
 {
-    let mut places = BTreeMap::new(alloc);
+    let mut offsets = BTreeMap::new(alloc);
     let mut again = Vec::new(alloc);
     for entry in entries {
         let key = entry.key.as_str();
-        if note(alloc, &mut places, key, entry.key_span)? {
+        if note(alloc, &mut offsets, key, entry.key_span)? {
             again.push(key)?;
         }
     }
-    Ok((places, again))
+    Ok((offsets, again))
 }
 
 /// The spans that are noted for a key.
 fn spans_of(
     alloc: Global,
-    places: &BTreeMap<&str, Vec<Span>>,
+    offsets: &BTreeMap<&str, Vec<Span>>,
     key: &str,
 ) -> Result<Vec<Span>, AllocError>
-    ensures { IfOk result (λ spans. spans.items ≡ spans_at places.now key.now) }
+    ensures { IfOk result (λ spans. spans.items ≡ spans_at offsets.now key.now) }
 {
-    match places.get(key) {
+    match offsets.get(key) {
         Some(spans) => Vec::from_slice(alloc, spans.as_slice()),
         None => Ok(Vec::new(alloc)),
     }
@@ -70,15 +70,15 @@ fn spans_of(
 /// An error for each of the keys, at the spans that are noted for it.
 fn errors_at(
     alloc: Global,
-    places: &BTreeMap<&str, Vec<Span>>,
+    offsets: &BTreeMap<&str, Vec<Span>>,
     keys: Vec<&str>,
 ) -> Result<Vec<HeaderError<Span>>, AllocError>
     ensures { IfOk result (λ errors. errors_view errors.items
-        ≡ map (λ key. duplicate_at places.now key.now) keys.entry.items) }
+        ≡ map (λ key. duplicate_at offsets.now key.now) keys.entry.items) }
 {
     let mut errors = Vec::new(alloc);
     for key in keys {
-        let locations = spans_of(alloc, places, key)?;
+        let locations = spans_of(alloc, offsets, key)?;
         errors.push(HeaderError {
             kind: HeaderErrorKind::DuplicateEntry,
             locations,
@@ -91,8 +91,8 @@ fn errors_at(
 fn duplicate_errors(alloc: Global, entries: &[Entry]) -> Result<Vec<HeaderError<Span>>, AllocError>
     ensures { IfOk result (λ errors. errors_view errors.items ≡ duplicate_errors (map entry_view entries.now)) }
 {
-    let (places, again) = gathered(alloc, entries)?;
-    errors_at(alloc, &places, again)
+    let (offsets, again) = gathered(alloc, entries)?;
+    errors_at(alloc, &offsets, again)
 }
 
 /// The error for what stopped a reading.

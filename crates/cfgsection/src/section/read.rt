@@ -2,7 +2,7 @@
 
 ghost use Rattle.std.specs.Prelude.{◌≡◌, map, length, IfOk};
 ghost use Rattle.std.specs.Str.{IsUtf8};
-ghost use Rattle.reading.specs.Construct.{computes};
+ghost use Rattle.constructs.specs.Construct.{computes};
 ghost use Rattle.cfgsection.specs.SectionGrammar.{section};
 ghost use Rattle.cfgsection.specs.SectionReads.{HasOneSection, end_of, entry_view};
 ghost use Rattle.cfgsection.specs.Inner.Steps.{end_view};

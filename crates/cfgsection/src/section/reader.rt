@@ -1,21 +1,21 @@
 //! The reader of a section: an offset in the text, and the entries that were read.
 
 ghost use Rattle.std.specs.Prelude.{◌≡◌, ◌+◌, ◌≤◌, length, [], Some, None, Ok, MatchBool, IfOk};
-ghost use Rattle.reading.specs.Construct.{expect, goes_on};
-ghost use Rattle.reading.specs.Pieces.{strip};
-ghost use Rattle.cfgwords.specs.Text.{place};
+ghost use Rattle.constructs.specs.Construct.{expect, goes_on};
+ghost use Rattle.constructs.specs.Pieces.{strip};
+ghost use Rattle.cfgwords.specs.Text.{offset_of};
 ghost use Rattle.cfgerrors.specs.HeaderErrors.{error_kind_view};
 ghost use Rattle.cfgsection.specs.SectionGrammar.{begins, goes_on_before, unexpected_star, fault_at, wide_character};
 ghost use Rattle.cfgsection.specs.SectionGrammar.{white_character, separator, white, separators, comma, name};
 ghost use Rattle.cfgsection.specs.SectionGrammar.{name_fault};
-ghost use Rattle.cfgkinds.specs.Values.{placed_view};
+ghost use Rattle.cfgkinds.specs.Values.{located_view};
 
 use crate::section::entry::Entry;
 use crate::section::fault::{Fault, ReadFault};
 use cfgbase::Span;
 use cfgerrors::HeaderErrorKind;
 use cfgwords::section::leading_section_name;
-use reading::after_word;
+use constructs::after_word;
 use std::alloc::Global;
 
 const GLOB_HINT: &str = "perhaps this is a glob, in which case it requires string quoting.";
@@ -43,7 +43,7 @@ impl<'a> Reader<'a> {
     /// Before the rest of a text of `len` bytes, with nothing read.
     pub(super) fn new(alloc: Global, len: usize, rest: &'a str) -> Self
         requires { length rest.now ≤ len }
-        ensures place { (result.rest.now ≡ rest.now) × (result.len ≡ len) }
+        ensures offset { (result.rest.now ≡ rest.now) × (result.len ≡ len) }
         ensures entries { entries_of result ≡ [] }
     {
         Reader {
@@ -62,8 +62,8 @@ impl<'a> Reader<'a> {
     }
 
     /// The offset of the rest, in bytes.
-    pub(super) fn place(&self) -> usize
-        ensures { result ≡ place self.now.len self.now.rest.now }
+    pub(super) fn offset(&self) -> usize
+        ensures { result ≡ offset_of self.now.len self.now.rest.now }
     {
         self.len - self.rest.len()
     }
@@ -72,10 +72,10 @@ impl<'a> Reader<'a> {
     pub(super) fn fault(&self, kind: HeaderErrorKind) -> Fault
         ensures { fault_view result ≡ fault_at self.now.len (error_kind_view kind) self.now.rest.now }
     {
-        let place = self.place();
+        let offset = self.offset();
         Fault {
             kind,
-            span: Span::new(place, place),
+            span: Span::new(offset, offset),
         }
     }
 
@@ -203,12 +203,12 @@ impl<'a> Reader<'a> {
     /// Passes the name that must be here, and returns it in lower case with its span.
     #[tactic(auto, unfolding(crate::specs::SectionGrammar::name))]
     pub(super) fn name(&mut self) -> Result<(String, Span), ReadFault>
-        ensures read { Builds placed_view self.old self.new result (name self.old.len) }
-        ensures after { IfOk result (λ name. place self.old.len self.old.rest.now ≤ name.1.end) }
+        ensures read { Builds located_view self.old self.new result (name self.old.len) }
+        ensures after { IfOk result (λ name. offset_of self.old.len self.old.rest.now ≤ name.1.end) }
     {
         match leading_section_name(self.rest) {
             Some((word, rest)) => {
-                let start = self.place();
+                let start = self.offset();
                 let mut name = String::from_str(self.alloc, word)?;
                 name.make_ascii_lowercase();
                 self.rest = rest;

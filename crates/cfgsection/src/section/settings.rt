@@ -67,11 +67,11 @@ impl<'a> Reader<'a> {
     fn number(&mut self) -> Result<Setting<Span>, ReadFault>
         ensures { Builds setting_view self.old self.new result (number self.old.len) }
     {
-        let start = self.place();
+        let start = self.offset();
         match leading_integer(self.rest) {
             Some((number, rest)) => {
                 self.rest = rest;
-                Ok(Setting::Num(number as u64, Span::new(start, self.place())))
+                Ok(Setting::Num(number as u64, Span::new(start, self.offset())))
             }
             None => {
                 let (digits, _) = run(self.rest, ByteClass::Digit);
@@ -116,9 +116,9 @@ impl<'a> Reader<'a> {
     {
         self.separators();
         let values = self.elements(room)?;
-        let closing = self.place();
+        let closing = self.offset();
         self.expect("]", HeaderErrorKind::ExpectedToken(']'))?;
-        Ok(Setting::Array(values, opens, Span::new(closing, self.place())))
+        Ok(Setting::Array(values, opens, Span::new(closing, self.offset())))
     }
 
     /// The same, if `room` brackets may still open, that one included.
@@ -143,14 +143,14 @@ impl<'a> Reader<'a> {
         if starts(self.rest, ByteClass::Digit) {
             return self.number();
         }
-        let start = self.place();
+        let start = self.offset();
         if let Some((text, rest)) = leading_text(self.rest) {
             let value = String::from_str(self.alloc, text)?;
             self.rest = rest;
             return Ok(Setting::String(value, Span::new(start + 1, start + 1 + text.len())));
         }
         if self.accept("[") {
-            let opens = Span::new(start, self.place());
+            let opens = Span::new(start, self.offset());
             self.bracketed(room, opens)
         } else {
             self.applied()

@@ -1,8 +1,8 @@
 -- What the steps of reading a text do, given its section.
 use Rattle.std.specs.Prelude.{◌≡◌, ℕ, false, List, map, Option, option_map, Result, Ok, Err}
 use denote.Ref.{Bor}
-use Rattle.reading.specs.Construct.{computes}
-use Rattle.reading.specs.Read.{stop_of}
+use Rattle.constructs.specs.Construct.{computes}
+use Rattle.constructs.specs.Read.{stop_of}
 use Rattle.cfgast.specs.Syntax.{syntax_of}
 use Rattle.cfgtree.specs.TreeView.{syntax}
 use Rattle.cfgtree.specs.declared.ast.GrammarAST.{GrammarAST}
@@ -30,8 +30,8 @@ IsReadSection text (Err (header.Errors errors)) = section_of false text ≡ Err 
 IsReadSection text (Err header.OutOfMemory) = Unit {0}
 
 -- the tree of the rest after it, and what stopped the reading
-abbrev pub IsReadBehind : YaccKind → ℕ → List ℕ → GrammarAST × Option Stopped → Type 0
-IsReadBehind kind len rest (tree, stop) = (syntax tree ≡ syntax_of (computes (file kind len) rest).items)
+abbrev pub IsReadAfter : YaccKind → ℕ → List ℕ → GrammarAST × Option Stopped → Type 0
+IsReadAfter kind len rest (tree, stop) = (syntax tree ≡ syntax_of (computes (file kind len) rest).items)
     × (option_map stop_view stop ≡ option_map InFile (stop_of (computes (file kind len) rest).outcome))
 
 -- the errors of a section, as those of a grammar

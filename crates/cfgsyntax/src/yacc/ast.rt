@@ -15,9 +15,9 @@ ghost use Rattle.cfgerrors.specs.Refusal.{ListsErrors};
 ghost use Rattle.cfgtree.specs.TreeView.{syntax};
 ghost use Rattle.cfgsection.specs.Named.{HasOneNaming, Names, Naming};
 ghost use Rattle.cfgsyntax.specs.Faults.{errors_of};
-ghost use Rattle.cfgwords.specs.Places.{IsPiece, IsWithin};
+ghost use Rattle.cfgwords.specs.TextSpans.{IsPiece, IsWithin};
 ghost use Rattle.cfgsyntax.specs.Inner.Steps.{IsReadSection};
-ghost use Rattle.cfgsyntax.specs.OfItself.{AnswersNaming, AnswersOr, IsParsedAs};
+ghost use Rattle.cfgsyntax.specs.OfItself.{ReturnsNaming, ReturnsOr, IsParsedAs};
 ghost use Rattle.cfgsyntax.specs.Reads.{Reads, HasOneReading, Stop};
 ghost use Rattle.cfgtree.specs.Sound.{IsSound};
 ghost use Rattle.cfgsyntax.specs.ErrorSpans.{EachFaultSpan, EachParsedSpan};
@@ -79,7 +79,7 @@ impl ASTWithValidityInfo {
         ensures errors { IfOk result (λ parsed. (items : List Item) (stop : Option Stop)
             → Reads kind text.now items stop
             → parsed.errors ≡ errors_of items stop) }
-        ensures places { IfOk result (EachParsedSpan (IsPiece text.now) (IsWithin text.now)) }
+        ensures offsets { IfOk result (EachParsedSpan (IsPiece text.now) (IsWithin text.now)) }
     {
         ASTWithValidityInfo::read(alloc, kind, text, after_section(alloc, text))
     }
@@ -92,9 +92,9 @@ impl ASTWithValidityInfo {
     /// value is not a kind; and running out of memory. What is wrong after the section is not an error of this call.
     pub fn from_str(alloc: Global, text: &str) -> YaccGrammarResult<Self>
         ensures one { HasOneNaming text.now }
-        ensures answer { (naming : Naming) → Names text.now naming → AnswersNaming text.now naming result }
-        ensures places { IfOk result (EachParsedSpan (IsPiece text.now) (IsWithin text.now)) }
-        ensures fault_places { IfErr result (EachFaultSpan (IsPiece text.now)) }
+        ensures answer { (naming : Naming) → Names text.now naming → ReturnsNaming text.now naming result }
+        ensures offsets { IfOk result (EachParsedSpan (IsPiece text.now) (IsWithin text.now)) }
+        ensures fault_offsets { IfErr result (EachFaultSpan (IsPiece text.now)) }
         ensures listed { IfErr result ListsErrors }
     {
         let (kind, rest) = match kind_named(alloc, text) {
@@ -117,9 +117,9 @@ impl ASTWithValidityInfo {
         text: &str,
     ) -> YaccGrammarResult<(Self, KindSource)>
         ensures one { HasOneNaming text.now }
-        ensures answer { AnswersOr default text.now result }
-        ensures places { IfOk result (λ x. EachParsedSpan (IsPiece text.now) (IsWithin text.now) x.0) }
-        ensures fault_places { IfErr result (EachFaultSpan (IsPiece text.now)) }
+        ensures answer { ReturnsOr default text.now result }
+        ensures offsets { IfOk result (λ x. EachParsedSpan (IsPiece text.now) (IsWithin text.now) x.0) }
+        ensures fault_offsets { IfErr result (EachFaultSpan (IsPiece text.now)) }
         ensures listed { IfErr result ListsErrors }
     {
         let (named, rest) = match kind_if_named(alloc, text) {
@@ -144,7 +144,7 @@ impl ASTWithValidityInfo {
         requires { IsReadSection text.now rest }
         ensures one { HasOneReading kind text.now }
         ensures parsed { IfOk result (IsParsedAs kind text.now) }
-        ensures places { IfOk result (EachParsedSpan (IsPiece text.now) (IsWithin text.now)) }
+        ensures offsets { IfOk result (EachParsedSpan (IsPiece text.now) (IsWithin text.now)) }
     {
         let (ast, stop) = read(alloc, kind, text, rest)?;
         let errors = errors_found(alloc, &ast, stop);

@@ -1,6 +1,6 @@
 -- Rules and tokens as the nodes of a search.
 use Rattle.std.specs.Prelude.{◌≡◌, ◌↔◌, ◌⊎◌, ℕ, ◌+◌, List, ◌++◌, map, length, Option, Some, option_map, position, slice_get, bytes_eq}
-use Rattle.search.specs.Reached.{FoundBy, IsReachedIn, SearchState}
+use Rattle.search.specs.Reachable.{FoundBy, IsReachableIn, SearchState}
 use Rattle.cfgast.specs.Syntax.{Syntax, Production, entry_name}
 use Rattle.cfgtree.specs.Unused.{Name, RuleName, TokenName, name_of, Leads, IsUsed, Expected}
 
@@ -11,15 +11,15 @@ nodes s = map (λ rule. RuleName rule.0) s.rules ++ map TokenName s.tokens
 -- the first index of the name
 abbrev pub node_of : Syntax → Name → Option ℕ
 node_of s (RuleName name) = position (bytes_eq name) (map entry_name s.rules)
-node_of s (TokenName name) = option_map (λ place. length s.rules + place) (position (bytes_eq name) s.tokens)
+node_of s (TokenName name) = option_map (λ index. length s.rules + index) (position (bytes_eq name) s.tokens)
 
 abbrev pub IsNodeOf : Syntax → Name → ℕ → Type 0
 IsNodeOf s name node = node_of s name ≡ Some node
 
 -- the production at this index holds a symbol whose node this is
-pub record HeldAt (s : Syntax) (place node : ℕ) : Type 0 where
+pub record HeldAt (s : Syntax) (index node : ℕ) : Type 0 where
   pub production : Production
-  pub there : slice_get s.productions place ≡ Some production
+  pub there : slice_get s.productions index ≡ Some production
   pub holds : FoundBy (IsNodeOf s) (map name_of production.symbols) node
 
 -- what is at one node leads to a name whose node is the other
@@ -32,5 +32,5 @@ pub record LeadsTo (s : Syntax) (node other : ℕ) : Type 0 where
 
 -- the search has reached exactly what is reachable, or expected to be unused
 pub record Knows (s : Syntax) (x : SearchState) : Type 0 where
-  pub shape : length x.reached ≡ length (nodes s)
-  pub each : (node : ℕ) (name : Name) → slice_get (nodes s) node ≡ Some name → (IsReachedIn x node ↔ (IsUsed s name ⊎ Expected s name))
+  pub shape : length x.reachable ≡ length (nodes s)
+  pub each : (node : ℕ) (name : Name) → slice_get (nodes s) node ≡ Some name → (IsReachableIn x node ↔ (IsUsed s name ⊎ Expected s name))

@@ -18,7 +18,7 @@ use std::alloc::{AllocError, Global};
 impl<S: Storage> Tables<S> for YaccGrammar<S> {
     ghost use Rattle.std.specs.Prelude.{◌≡◌, ◌<◌, length, map};
     ghost use Rattle.cfgtables.specs.Openings.{nth_production};
-    ghost use Rattle.cfgtables.specs.Openings.{ArePlacesOf};
+    ghost use Rattle.cfgtables.specs.Openings.{ArePositionsOf};
     ghost use Rattle.cfgtables.specs.NumberedSymbols.{sym_of};
 
     ghost grammar = { core };
@@ -45,7 +45,7 @@ impl<S: Storage> Tables<S> for YaccGrammar<S> {
 
     fn rule_to_prods(&self, ridx: RIdx<S>) -> &[PIdx<S>]
         requires { S.number ridx.0 < length self.now.rules }
-        ensures { ArePlacesOf (core self.now) (S.number ridx.0) (map (λ p. S.number p.0) result.now) }
+        ensures { ArePositionsOf (core self.now) (S.number ridx.0) (map (λ p. S.number p.0) result.now) }
     {
         self.invariant_holds();
         self.rule_to_prods(ridx)

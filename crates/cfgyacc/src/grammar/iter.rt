@@ -14,10 +14,10 @@ pub trait Index: Sized {
 
     ghost number: { Self → ℕ };
 
-    /// The index that represents the number `place`.
-    fn at(place: usize) -> Self
-        requires { place ≤ MAX }
-        ensures { number result ≡ place };
+    /// The index that represents the number `index`.
+    fn at(index: usize) -> Self
+        requires { index ≤ MAX }
+        ensures { number result ≡ index };
 }
 
 impl<S: Storage> Index for PIdx<S> {
@@ -25,8 +25,8 @@ impl<S: Storage> Index for PIdx<S> {
 
     ghost number = { λ x. S.number x.0 };
 
-    fn at(place: usize) -> Self {
-        PIdx(to_storage(place))
+    fn at(index: usize) -> Self {
+        PIdx(to_storage(index))
     }
 }
 
@@ -35,8 +35,8 @@ impl<S: Storage> Index for RIdx<S> {
 
     ghost number = { λ x. S.number x.0 };
 
-    fn at(place: usize) -> Self {
-        RIdx(to_storage(place))
+    fn at(index: usize) -> Self {
+        RIdx(to_storage(index))
     }
 }
 
@@ -45,8 +45,8 @@ impl<S: Storage> Index for TIdx<S> {
 
     ghost number = { λ x. S.number x.0 };
 
-    fn at(place: usize) -> Self {
-        TIdx(to_storage(place))
+    fn at(index: usize) -> Self {
+        TIdx(to_storage(index))
     }
 }
 
@@ -99,8 +99,8 @@ impl<I: Index> Iterator for IdxIter<I> {
     ghost remaining = { λ x. at_most (x.end - x.start) };
 
     fn next(&mut self) -> Option<I> {
-        let place = self.left.next()?;
-        Some(I::at(place))
+        let index = self.left.next()?;
+        Some(I::at(index))
     }
 
     fn size_hint(&self) -> (usize, Option<usize>)

@@ -6,7 +6,7 @@ ghost use Rattle.std.specs.Prelude.{option_map, All, Err, IfErr, IfOk, IfSome, I
 ghost use Rattle.std.specs.HashMap.{get_by};
 ghost use Rattle.std.specs.Str.{IsUtf8, bytes_eq};
 ghost use Rattle.std.specs.String.{string_bytes};
-ghost use Rattle.cfgwords.specs.Places.{IsPiece, IsWithin};
+ghost use Rattle.cfgwords.specs.TextSpans.{IsPiece, IsWithin};
 ghost use Rattle.cfgast.specs.SyntaxView.{pair_view};
 ghost use Rattle.cfgerrors.specs.Refusal.{ListsErrors};
 ghost use Rattle.cfgtree.specs.TreeView.{syntax};
@@ -34,7 +34,7 @@ use cfgsyntax::yacc::YaccKind;
 use cfgsyntax::yacc::ast::{ASTWithValidityInfo, GrammarAST};
 use cfgsyntax::yacc::parser::{YaccFault, YaccGrammarResult};
 use indexmap::IndexMap;
-use lending::{all, lend};
+use scoped::{all, lend};
 use std::alloc::{AllocError, Global};
 use std::collections::HashMap;
 use std::marker::Model;
@@ -79,7 +79,7 @@ impl YaccGrammar<u32> {
     /// Those of [`new_with_storaget`](YaccGrammar::new_with_storaget).
     pub fn new(alloc: Global, kind: YaccKind, text: &str) -> YaccGrammarResult<Self>
         ensures answer { IsGrammarOf kind text.now 4294967295 result }
-        ensures places { EachAnswerSpan (IsPiece text.now) (IsWithin text.now) result }
+        ensures offsets { EachAnswerSpan (IsPiece text.now) (IsWithin text.now) result }
         ensures listed { IfErr result ListsErrors }
     {
         YaccGrammar::new_with_storaget(alloc, kind, text)
@@ -102,7 +102,7 @@ impl<S: Storage> YaccGrammar<S> {
     /// tokens, productions or the symbols of a production, including those that are added; and out of memory.
     pub fn new_with_storaget(alloc: Global, kind: YaccKind, text: &str) -> YaccGrammarResult<Self>
         ensures answer { IsGrammarOf kind text.now S.MAX result }
-        ensures places { EachAnswerSpan (IsPiece text.now) (IsWithin text.now) result }
+        ensures offsets { EachAnswerSpan (IsPiece text.now) (IsWithin text.now) result }
         ensures listed { IfErr result ListsErrors }
     {
         let parsed = ASTWithValidityInfo::new(alloc, kind, text);
@@ -118,7 +118,7 @@ impl<S: Storage> YaccGrammar<S> {
     /// something that isn't a kind; otherwise those of reading the file as the kind.
     pub fn from_str(alloc: Global, text: &str) -> YaccGrammarResult<Self>
         ensures answer { IsGrammarOfItself text.now S.MAX result }
-        ensures places { EachAnswerSpan (IsPiece text.now) (IsWithin text.now) result }
+        ensures offsets { EachAnswerSpan (IsPiece text.now) (IsWithin text.now) result }
         ensures listed { IfErr result ListsErrors }
     {
         YaccGrammar::of_parsed(alloc, ASTWithValidityInfo::from_str(alloc, text))
@@ -130,7 +130,7 @@ impl<S: Storage> YaccGrammar<S> {
         parsed: YaccGrammarResult<ASTWithValidityInfo>,
     ) -> YaccGrammarResult<Self>
         ensures answer { IfOk parsed (λ parsed. IsAnswer S.MAX (WasRead parsed) result) }
-        ensures places { IfOk parsed (λ parsed. (text : List ℕ) → IsUtf8 text
+        ensures offsets { IfOk parsed (λ parsed. (text : List ℕ) → IsUtf8 text
             → EachParsedSpan (IsPiece text) (IsWithin text) parsed
             → EachAnswerSpan (IsPiece text) (IsWithin text) result) }
         ensures refused { IfErr parsed (λ fault. result ≡ Err fault) }
@@ -153,7 +153,7 @@ impl<S: Storage> YaccGrammar<S> {
         parsed: &ASTWithValidityInfo,
     ) -> YaccGrammarResult<Self>
         ensures answer { IsAnswer S.MAX (WasRead parsed.now) result }
-        ensures places { (text : List ℕ) → IsUtf8 text → EachParsedSpan (IsPiece text) (IsWithin text) parsed.now
+        ensures offsets { (text : List ℕ) → IsUtf8 text → EachParsedSpan (IsPiece text) (IsWithin text) parsed.now
             → EachAnswerSpan (IsPiece text) (IsWithin text) result }
         ensures listed { IfErr result ListsErrors }
     {

@@ -1,6 +1,6 @@
 //! The nullable rules, and a caller's own theorem.
 
-ghost use Rattle.cfgrammar.specs.First.{Empty};
+ghost use Rattle.cfgrammar.specs.First.{Nullable};
 ghost use Rattle.cfgrammar.specs.Grammar.{HasProduction};
 ghost use Rattle.cfgrammar.specs.Numbered.{core};
 ghost use Rattle.std.specs.Prelude.{◌<◌, ◌↔◌, IfOk, IsTrue, length};
@@ -20,7 +20,7 @@ pub fn is_nullable(
     rule: RIdx<u32>,
 ) -> Result<bool, AllocError>
     requires { rule.0 < length grammar.now.rules }
-    ensures { IfOk result (λ nullable. IsTrue nullable ↔ Empty (HasProduction (core grammar.now)) rule.0) }
+    ensures { IfOk result (λ nullable. IsTrue nullable ↔ Nullable (HasProduction (core grammar.now)) rule.0) }
 {
     let firsts = grammar.firsts(alloc)?;
     Ok(firsts.is_epsilon_set(rule))

@@ -32,8 +32,8 @@ fn write_sentences(
     grammar: &YaccGrammar<u32>,
     sentences: &[Vec<TIdx<u32>>],
 ) -> Result<(), AllocError> {
-    for (place, sentence) in sentences.iter().enumerate() {
-        lines.push_str(if place == 0 { ":" } else { " |" })?;
+    for (position, sentence) in sentences.iter().enumerate() {
+        lines.push_str(if position == 0 { ":" } else { " |" })?;
         for tidx in sentence {
             if *tidx < grammar.tokens_len() {
                 write!(lines, " {}", grammar.token_epp(*tidx).unwrap_or(""))?;

@@ -15,8 +15,8 @@ pub(super) fn call<K: Key>(
 ) -> Result<(), AllocError> {
     match map.entry(key.clone()?) {
         Entry::Occupied(mut entry) => {
-            let told = call_occupied(&mut entry, act);
-            pen::pieces(out, &[told, Piece::Text("\n")]);
+            let printed = call_occupied(&mut entry, act);
+            pen::pieces(out, &[printed, Piece::Text("\n")]);
             Ok(())
         }
         Entry::Vacant(entry) => call_vacant(out, entry, key, act),
@@ -106,7 +106,7 @@ fn mark_vacant<K: Key>(
         Act::MarkRequired => entry.mark_required(),
         Act::SetMergeBehavior(behavior) => entry.set_merge_behavior(behavior),
         _ => {
-            entry.key().tell(out, "vacant, ");
+            entry.key().print(out, "vacant, ");
             out.push('\n');
             return Ok(());
         }
@@ -127,7 +127,7 @@ pub(super) fn write_key<K: Key>(out: &mut Page, map: &mut MarkMap<K, u32>, word:
 
 /// Writes a key, its value, and whether it is used and required.
 fn write_marks<K: Key>(out: &mut Page, map: &MarkMap<K, u32>, key: &K) {
-    key.tell(out, " [");
+    key.print(out, " [");
     write_value(out, map.get(key));
     let is_there = map.get(key).is_some();
     pen::text_if(out, map.contains_key(key) != is_there, " (or not)");

@@ -10,14 +10,14 @@ use vectors_rows::row::Row;
 /// Notes that memory ran out while the line at this index merged the other map. Writes before if the map isn't one into
 /// which exactly the keys below one of the other map's are merged. A row with a digest doesn't watch all keys, and
 /// isn't checked.
-pub(super) fn tell_stop<K: Key>(
+pub(super) fn print_stop<K: Key>(
     out: &mut Page,
     row: &Row<'_>,
-    place: usize,
+    position: usize,
     map: &MarkMap<K, u32>,
 ) {
     if row.first("show") != Some("digest") {
-        let is_other = matches!(is_merged_so_far(out.alloc, row, place, map), Ok(false));
+        let is_other = matches!(is_merged_so_far(out.alloc, row, position, map), Ok(false));
         pen::text_if(out, is_other, "other keys are merged, ");
     }
     out.tear();
@@ -28,12 +28,12 @@ pub(super) fn tell_stop<K: Key>(
 fn is_merged_so_far<K: Key>(
     alloc: Global,
     row: &Row<'_>,
-    place: usize,
+    position: usize,
     map: &MarkMap<K, u32>,
 ) -> Result<bool, AllocError> {
     let watched = row.first("watch").unwrap_or("");
     for (below, _) in watched.split(' ').enumerate() {
-        if is_merged_below(alloc, row, place, below, map)? {
+        if is_merged_below(alloc, row, position, below, map)? {
             return Ok(true);
         }
     }
@@ -45,12 +45,12 @@ fn is_merged_so_far<K: Key>(
 fn is_merged_below<K: Key>(
     alloc: Global,
     row: &Row<'_>,
-    place: usize,
+    position: usize,
     below: usize,
     map: &MarkMap<K, u32>,
 ) -> Result<bool, AllocError> {
     let mut maps = Maps::<K>::new(alloc);
-    let is_theirs = merge_below(alloc, row, (place, below), &mut maps)?;
+    let is_theirs = merge_below(alloc, row, (position, below), &mut maps)?;
     Ok(is_theirs && maps.map == *map)
 }
 
@@ -59,11 +59,11 @@ fn is_merged_below<K: Key>(
 fn merge_below<K: Key>(
     alloc: Global,
     row: &Row<'_>,
-    (place, below): (usize, usize),
+    (position, below): (usize, usize),
     maps: &mut Maps<K>,
 ) -> Result<bool, AllocError> {
     let mut unread = Page::new(alloc);
-    play_before(&mut unread, row, place, maps);
+    play_before(&mut unread, row, position, maps);
     let is_theirs = remove_from(alloc, row, below, &mut maps.other)?;
     merge(&mut unread, maps, "")?;
     unread.text()?;
@@ -71,14 +71,14 @@ fn merge_below<K: Key>(
 }
 
 /// Runs the lines of a script before an index.
-fn play_before<K: Key>(out: &mut Page, row: &Row<'_>, place: usize, maps: &mut Maps<K>) {
-    for (place, line) in row.lines.iter().take(place).enumerate() {
+fn play_before<K: Key>(out: &mut Page, row: &Row<'_>, position: usize, maps: &mut Maps<K>) {
+    for (position, line) in row.lines.iter().take(position).enumerate() {
         match line.0 {
             "merge" => {
                 let merged = merge(out, maps, line.1);
                 out.note(merged);
             }
-            _ => play_line(out, row, place, maps, *line),
+            _ => play_line(out, row, position, maps, *line),
         }
     }
 }

@@ -3,7 +3,7 @@ use Rattle.std.proofs.lemmas.List.{length-map}
 use Rattle.derivation.specs.Grammar.{IsSymbolOf}
 use Rattle.cfgtables.specs.NumberedSymbols.{sym_of}
 use Rattle.cfgtables.proofs.Slices.{mapped_within, mapped_at, mapped_all}
-use Rattle.cfganalysis.proofs.Noting.{front_more, front_all}
+use Rattle.cfganalysis.proofs.Noting.{prefix_more, prefix_all}
 use Rattle.cfganalysis.proofs.firsts.note_rules.Goals as goal
 
 pub note_symbol-requires : goal.note_symbol-requires
@@ -16,8 +16,8 @@ note_symbol-requires g c = (
 pub loop-held-preserved : goal.loop-held-preserved
 loop-held-preserved g c =
     let lt : c.loop-held.held-index < length c.args.symbols.now = omega (arith, c.loop-held-test.true) in
-    front_more _ _ _ _ _ _ _ (mapped_within (sym_of g.S.Storage.number) _ _ _ c.held-item.is lt)
+    prefix_more _ _ _ _ _ _ _ (mapped_within (sym_of g.S.Storage.number) _ _ _ c.held-item.is lt)
     (mapped_at (sym_of g.S.Storage.number) _ _ _ c.held-item.is lt) c.loop-held.invariant c.in_ok-note_symbol.ensures
 
 pub returns : goal.returns
-returns g c = front_all _ _ _ _ _ (simp length-map (omega (arith, c.loop-held-test.false, c.loop-held.auto.held-index-end))) c.loop-held.invariant
+returns g c = prefix_all _ _ _ _ _ (simp length-map (omega (arith, c.loop-held-test.false, c.loop-held.auto.held-index-end))) c.loop-held.invariant

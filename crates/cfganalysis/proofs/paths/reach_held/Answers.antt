@@ -1,6 +1,6 @@
 use Rattle.std.proofs.Common.{◌<◌, length, arith, ◌∙◌, subst, Contains}
 use Rattle.derivation.specs.Grammar.{Rule}
-use Rattle.search.specs.Reached.{Reaches}
+use Rattle.search.specs.Reachable.{Reaches}
 use Rattle.search.proofs.Each.{each_more, each_all, each_none, found_mapped}
 use Rattle.cfgtables.proofs.Slices.{mapped_all}
 use Rattle.cfganalysis.proofs.References.{symbols_there}

@@ -1,5 +1,5 @@
 use Rattle.std.proofs.Common.{take}
-use Rattle.search.specs.Reached.{FoundBy, Reaches}
+use Rattle.search.specs.Reachable.{FoundBy, Reaches}
 use Rattle.cfganalysis.specs.Paths.{HeldIn}
 use Rattle.cfganalysis.proofs.paths.reach_held.Given as goal
 

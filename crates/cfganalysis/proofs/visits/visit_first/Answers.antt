@@ -1,5 +1,5 @@
 use Rattle.std.proofs.Common.{arith, ◌∙◌}
-use Rattle.cfgtables.proofs.Placed.{at_place}
+use Rattle.cfgtables.proofs.Located.{at_position}
 use Rattle.cfganalysis.specs.Inner.Growth.{shown}
 use Rattle.cfganalysis.proofs.Visiting.{all_below, noted_within, visited_first}
 use Rattle.cfganalysis.proofs.visits.visit_first.Goals as goal
@@ -14,12 +14,12 @@ note-requires g c = (
   g.P.Productions.content c.args.productions.now,
   c.requires.can.grammar,
   c.requires.visited.rules,
-  at_place (g.P.Productions.content c.args.productions.now) (g.S.Storage.number c.to_storage.result) _
+  at_position (g.P.Productions.content c.args.productions.now) (g.S.Storage.number c.to_storage.result) _
       (omega (arith, c.to_storage.ensures, c.requires.number)) c.rule_of-rule.ensures c.open-symbols.ensures.symbols,
 )
 
-pub take_in-requires-clause-grammar : goal.take_in-requires-clause-grammar
-take_in-requires-clause-grammar g c =
+pub add_production-requires-clause-grammar : goal.add_production-requires-clause-grammar
+add_production-requires-clause-grammar g c =
     let w = c.requires.visited in (
       g.P.Productions.content c.args.productions.now,
       c.requires.can.grammar,
@@ -27,15 +27,15 @@ take_in-requires-clause-grammar g c =
       w.idle,
       w.gains,
       c.in_ok-note.ensures.shape ∙ w.rules,
-      at_place (g.P.Productions.content c.args.productions.now) (g.S.Storage.number c.to_storage.result) _
+      at_position (g.P.Productions.content c.args.productions.now) (g.S.Storage.number c.to_storage.result) _
           (omega (arith, c.to_storage.ensures, c.requires.number)) c.rule_of-rule.ensures c.open-symbols.ensures.symbols,
     )
 
-pub take_in-requires-clause-within : goal.take_in-requires-clause-within
-take_in-requires-clause-within g c = noted_within _ _ _ _ _ _ _ _ _ _ _ _ c.requires.visited _ _ c.requires.number c.in_ok-note.ensures
+pub add_production-requires-clause-within : goal.add_production-requires-clause-within
+add_production-requires-clause-within g c = noted_within _ _ _ _ _ _ _ _ _ _ _ _ c.requires.visited _ _ c.requires.number c.in_ok-note.ensures
 
 pub returns-clause-visited : goal.returns-clause-visited
 returns-clause-visited g c =
     visited_first _ _ _ _ _ _ _ _ _ _ _ _ c.requires.visited _ _ _ (shown g.S.Storage.number c.rule_of-rule.result c.open-symbols.result.now) _ _ _ _ _ _ _ c.requires.can.grammar c.requires.number c.to_storage.ensures
-    c.rule_of-rule.ensures c.open-symbols.ensures.symbols c.open-symbols.follows.holds-at-none c.in_ok-note.ensures c.take_in.ensures.takes
-    c.take_in.ensures.users c.take_in.ensures.gained c.take_in.ensures.rules
+    c.rule_of-rule.ensures c.open-symbols.ensures.symbols c.open-symbols.follows.holds-at-none c.in_ok-note.ensures c.add_production.ensures.takes
+    c.add_production.ensures.users c.add_production.ensures.gained c.add_production.ensures.rules

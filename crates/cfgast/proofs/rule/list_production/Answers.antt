@@ -12,7 +12,7 @@ returns-in_err-push-clause-unchanged c =
     let new : Rule = record { name = old.name; pidxs = c.push.new.self; actiont = old.actiont } in
     on_err c.from_residual.result (ap (map rule_entry) (c.get_mut.follows.holds new).0
     ∙ changed-set_value name (λ rule. rule) rules old new c.in-Some.ensures.unique (sym c.in-Some.ensures.value)
-    (ap (λ places. record (rule_view old) { productions = places }) c.in_err-push.ensures.items)
+    (ap (λ offsets. record (rule_view old) { productions = offsets }) c.in_err-push.ensures.items)
     ∙ changed-nothing name (map rule_entry rules))
 
 pub returns-in_ok-push-clause-listed : goal.returns-in_ok-push-clause-listed
@@ -21,7 +21,7 @@ returns-in_ok-push-clause-listed c =
     let new : Rule = record { name = old.name; pidxs = c.push.new.self; actiont = old.actiont } in
     ap (map rule_entry) (c.get_mut.follows.holds new).0
     ∙ changed-set_value c.args.name.now (longer c.args.index) c.args.rules.now.entries old new c.in-Some.ensures.unique (sym c.in-Some.ensures.value)
-    (ap (λ places. record (rule_view old) { productions = places }) c.in_ok-push.ensures.items)
+    (ap (λ offsets. record (rule_view old) { productions = offsets }) c.in_ok-push.ensures.items)
 
 pub returns-in_default-clause-listed : goal.returns-in_default-clause-listed
 returns-in_default-clause-listed c =

@@ -2,7 +2,7 @@ use Rattle.std.proofs.Common.{map, length, refl, sym, ◌∙◌, true≢false}
 use Rattle.cfgtables.specs.NumberedSymbols.{sym_of}
 use Rattle.derivation.specs.CostLists.{IsListed}
 use Rattle.cfgleast.specs.Certificate.{IsChosenBelow, choice_of}
-use Rattle.derivation.proofs.Rows.{shown_holds, shown_more, shown_all}
+use Rattle.derivation.proofs.Sequences.{shown_holds, shown_more, shown_all}
 use Rattle.cfgcertificate.proofs.certificate.are_chosen_below.Goals as goal
 
 pub is_chosen_below-requires : goal.is_chosen_below-requires

@@ -6,27 +6,27 @@ use Rattle.cfgcertificate.proofs.certificate.check_least.Goals as goal
 pub is_covered-requires-clause-rule : goal.is_covered-requires-clause-rule
 is_covered-requires-clause-rule g c =
     let grammar = g.T.Tables.grammar c.args.grm.now in
-    let place : g.S.Storage.number c.to_storage.result < length grammar.productions =
+    let index : g.S.Storage.number c.to_storage.result < length grammar.productions =
     omega (arith, c.loop-number-test.true, c.to_usize-prods_len.ensures.value, c.prods_len.ensures, c.to_storage.ensures) in
-    let below = owner_within grammar (g.S.Storage.number c.to_storage.result) c.rules_len.ensures.content place in
+    let below = owner_within grammar (g.S.Storage.number c.to_storage.result) c.rules_len.ensures.content index in
     omega (arith, c.prod_to_rule.ensures, below, c.requires.least)
 
 pub is_covered-requires-clause-symbols : goal.is_covered-requires-clause-symbols
 is_covered-requires-clause-symbols g c =
     let grammar = g.T.Tables.grammar c.args.grm.now in
-    let place : g.S.Storage.number c.to_storage.result < length grammar.productions =
+    let index : g.S.Storage.number c.to_storage.result < length grammar.productions =
     omega (arith, c.loop-number-test.true, c.to_usize-prods_len.ensures.value, c.prods_len.ensures, c.to_storage.ensures) in
-    production_listed grammar (g.S.Storage.number c.to_storage.result) (length c.args.least.now) (length c.args.costs.now) _ c.rules_len.ensures.content place
+    production_listed grammar (g.S.Storage.number c.to_storage.result) (length c.args.least.now) (length c.args.costs.now) _ c.rules_len.ensures.content index
     c.requires.least c.requires.costs c.prod.ensures
 
 pub returns-then-not-is_covered-clause-exact : goal.returns-then-not-is_covered-clause-exact
 returns-then-not-is_covered-clause-exact g c =
     let grammar = g.T.Tables.grammar c.args.grm.now in
-    let place : g.S.Storage.number c.to_storage.result < length grammar.productions =
+    let index : g.S.Storage.number c.to_storage.result < length grammar.productions =
     omega (arith, c.loop-number-test.true, c.to_usize-prods_len.ensures.value, c.prods_len.ensures, c.to_storage.ensures) in (
       (λ h. absurd (true≢false (sym h))),
       (λ all. sym c.if-not-is_covered.true ∙ c.is_covered.ensures.exact.1
-          (covered_here grammar c.args.costs.now c.args.least.now (g.S.Storage.number c.to_storage.result) _ _ place c.prod_to_rule.ensures c.prod.ensures all)),
+          (covered_here grammar c.args.costs.now c.args.least.now (g.S.Storage.number c.to_storage.result) _ _ index c.prod_to_rule.ensures c.prod.ensures all)),
     )
 
 pub loop-number-preserved : goal.loop-number-preserved

@@ -4,7 +4,7 @@ use Rattle.std.proofs.lemmas.Grind.{common_steps}
 use Rattle.cfgtables.specs.NumberedSymbols.{sym_of}
 use Rattle.derivation.specs.Sums.{symbol_cost}
 use Rattle.derivation.specs.CostLists.{IsListed, rule_cost}
-use Rattle.derivation.proofs.Rows.{next_shown, shown_holds}
+use Rattle.derivation.proofs.Sequences.{next_shown, shown_holds}
 use Rattle.cfgleast.proofs.Cut.{SumSoFar, sum_none, sum_one}
 use Rattle.cfgcertificate.proofs.certificate.cut_sum.Goals as goal
 

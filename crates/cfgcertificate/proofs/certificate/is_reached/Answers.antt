@@ -27,20 +27,20 @@ returns-then-not-is_production_of g c =
     let choice_is = sym c.in-Some-choice_at.ensures in (
       (λ h. absurd (true≢false (sym h))),
       (λ h. let rests = shown_from_reached grammar c.args.costs.now c.args.least.now choices c.args.rule c.in-Some.cost _ cost_is choice_is h in
-          sym c.if-not-is_production_of.true ∙ c.is_production_of.ensures.found rests.place rests.owner),
+          sym c.if-not-is_production_of.true ∙ c.is_production_of.ensures.found rests.index rests.owner),
     )
 
 pub costs_just-requires : goal.costs_just-requires
 costs_just-requires g c =
     production_listed (g.T.Tables.grammar c.args.grm.now) (g.S.Storage.number c.in-Some-choice_at.p.0) (length c.args.least.now) (length c.args.costs.now) _
-    c.requires.content (c.is_production_of.ensures.place c.if-not-is_production_of.false) c.requires.least c.requires.costs c.prod-symbols.ensures
+    c.requires.content (c.is_production_of.ensures.index c.if-not-is_production_of.false) c.requires.least c.requires.costs c.prod-symbols.ensures
 
 pub are_chosen_below-requires : goal.are_chosen_below-requires
 are_chosen_below-requires g c =
     let grammar = g.T.Tables.grammar c.args.grm.now in (
       grammar.tokens,
       production_listed grammar (g.S.Storage.number c.in-Some-choice_at.p.0) (length c.args.choices.now) grammar.tokens _
-          c.requires.content (c.is_production_of.ensures.place c.if-not-is_production_of.false) c.requires.choices refl c.prod-symbols.ensures,
+          c.requires.content (c.is_production_of.ensures.index c.if-not-is_production_of.false) c.requires.choices refl c.prod-symbols.ensures,
     )
 
 pub returns-then-costs_just : goal.returns-then-costs_just
@@ -52,7 +52,7 @@ returns-then-costs_just g c =
     let cost_is = sym c.least_cost.ensures ∙ c.in-Some.is in
     let choice_is = sym c.in-Some-choice_at.ensures in (
       (λ h. reached_from_shown grammar c.args.costs.now c.args.least.now choices c.args.rule c.in-Some.cost _ cost_is choice_is (record {
-        place = c.is_production_of.ensures.place c.if-not-is_production_of.false;
+        index = c.is_production_of.ensures.index c.if-not-is_production_of.false;
         owner = c.is_production_of.ensures.owner c.if-not-is_production_of.false;
         sum = subst sum c.prod-symbols.ensures (c.costs_just.ensures.0 c.if-costs_just.true);
         below = subst (All below) c.prod-symbols.ensures (c.are_chosen_below.ensures.0 h);

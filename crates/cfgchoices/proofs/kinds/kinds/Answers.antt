@@ -4,11 +4,11 @@ use Rattle.cfgleast.specs.Generator.{tables_of}
 use Rattle.cfgchoices.specs.Inner.Kinds.{IsKind}
 use Rattle.cfgchoices.specs.declared.kinds.Kind.TheVariants.{Slack}
 use Rattle.cfgleast.proofs.Pushed.{each_push}
-use Rattle.cfgchoices.proofs.Tight.{heirs_are_rules}
+use Rattle.cfgchoices.proofs.Optimal.{targets_are_rules}
 use Rattle.cfgchoices.proofs.kinds.kinds.Goals as goal
 
-pub kind_of-requires-clause-place : goal.kind_of-requires-clause-place
-kind_of-requires-clause-place g c = omega (arith, c.to_storage.ensures, c.loop-number-test.true, c.to_usize-prods_len.ensures.value, c.prods_len.ensures)
+pub kind_of-requires-clause-index : goal.kind_of-requires-clause-index
+kind_of-requires-clause-index g c = omega (arith, c.to_storage.ensures, c.loop-number-test.true, c.to_usize-prods_len.ensures.value, c.prods_len.ensures)
 
 pub loop-number-preserved : goal.loop-number-preserved
 loop-number-preserved g c =
@@ -21,8 +21,8 @@ loop-number-preserved g c =
           (omega (arith, lt, ap length c.in_ok-push.ensures.items, length_push c.loop-number.kinds.items c.kind_of.result));
     }
 
-pub returns-clause-heirs : goal.returns-clause-heirs
-returns-clause-heirs g c =
+pub returns-clause-targets : goal.returns-clause-targets
+returns-clause-targets g c =
     let number = g.S.Storage.number in
     let x = tables_of number (g.T.Tables.grammar c.args.tables.now) c.args.costs.now c.args.settled.now.least.items c.args.settled.now.choices.items in
-    heirs_are_rules number x c.loop-number.kinds.items c.args.settled.now.number c.requires c.loop-number.invariant.each
+    targets_are_rules number x c.loop-number.kinds.items c.args.settled.now.number c.requires c.loop-number.invariant.each

@@ -4,12 +4,12 @@ use Rattle.cfgerrors.proofs.header.write_conversion.Goals as goal
 
 pub returns-clause-styled : goal.returns-clause-styled
 returns-clause-styled g c = λ flush ok.
-    let wanted = c.in_ok-write_parts.ensures.styled flush refl in
-    let cause = c.write_str.ensures.styled wanted.flush ok in
-    has_written_styled_append _ _ _ _ _ _ wanted cause
+    let expected = c.in_ok-write_parts.ensures.styled flush refl in
+    let cause = c.write_str.ensures.styled expected.flush ok in
+    has_written_styled_append _ _ _ _ _ _ expected cause
 
 pub returns-clause-plain : goal.returns-clause-plain
 returns-clause-plain g c = λ plain ok.
-    let wanted = c.in_ok-write_parts.ensures.plain plain refl in
-    let cause = c.write_str.ensures.writes wanted.plain ok in
-    has_written_append _ _ _ _ _ _ wanted cause
+    let expected = c.in_ok-write_parts.ensures.plain plain refl in
+    let cause = c.write_str.ensures.writes expected.plain ok in
+    has_written_append _ _ _ _ _ _ expected cause

@@ -3,7 +3,7 @@ use Rattle.std.proofs.lemmas.Grind.{common_steps}
 use Rattle.std.proofs.Output.{has_written_append, has_written_of_eq, has_written_styled_append, has_written_styled_of_eq}
 use Rattle.std.proofs.lemmas.List.{flat_map_more, take_all}
 use Rattle.std.specs.List.{flat_map, join_by}
-use Rattle.cfgerrors.proofs.Lines.{behind}
+use Rattle.cfgerrors.proofs.Lines.{after}
 use Rattle.cfgerrors.proofs.parts.write_lines.Goals as goal
 
 pub loop-value-preserved : goal.loop-value-preserved
@@ -15,13 +15,13 @@ loop-value-preserved g c =
           let before = c.loop-value.invariant.plain text is plain in
           let line_end = c.in_ok-write_str.ensures.writes before.plain (refl {a = true}) in
           let written = (rw (is value) at c.in_ok-fmt-2.ensures.writes) line_end.plain (refl {a = true}) in
-          has_written_of_eq _ _ _ _ _ (flat_map_more (behind text) [] shown value ∙ ap (flat_map (behind text)) next)
+          has_written_of_eq _ _ _ _ _ (flat_map_more (after text) [] shown value ∙ ap (flat_map (after text)) next)
           (has_written_append _ _ _ _ _ _ before (has_written_append _ _ _ _ _ _ line_end written));
       styled = λ text is flush.
           let before = c.loop-value.invariant.styled text is flush in
           let line_end = c.in_ok-write_str.ensures.styled before.flush (refl {a = true}) in
           let written = (rw (is value _) at c.in_ok-fmt-2.ensures.styled) line_end.flush (refl {a = true}) in
-          has_written_styled_of_eq _ _ _ _ _ (flat_map_more (behind text) [] shown value ∙ ap (flat_map (behind text)) next)
+          has_written_styled_of_eq _ _ _ _ _ (flat_map_more (after text) [] shown value ∙ ap (flat_map (after text)) next)
           (has_written_styled_append _ _ _ _ _ _ before (has_written_styled_append _ _ _ _ _ _ line_end written));
     }
 

@@ -11,6 +11,6 @@ abbrev pub invariant-loop-rule : goal.invariant-loop-rule
 invariant-loop-rule g l = record {
   walk : IsWalk (g.T.Tables.grammar l.grm) l.walk;
   so : AreTrue (g.T.Tables.grammar l.grm) (slice_index l.costs) l.walk.known.items;
-  rules : length l.answers.items ≡ l.rule;
-  means : (r : ℕ) → r < l.rule → Means (HasProduction (g.T.Tables.grammar l.grm)) (slice_index l.costs) r (get_or l.answers.items r (Err NoSentence));
+  rules : length l.results.items ≡ l.rule;
+  means : (r : ℕ) → r < l.rule → Means (HasProduction (g.T.Tables.grammar l.grm)) (slice_index l.costs) r (get_or l.results.items r (Err NoSentence));
 }

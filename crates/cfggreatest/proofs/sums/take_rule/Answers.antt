@@ -4,64 +4,64 @@ use Rattle.std.proofs.lemmas.List.{length-map}
 use Rattle.std.proofs.lemmas.Result.{err_from_is_err_and}
 use Rattle.derivation.specs.Grammar.{HasProduction}
 use Rattle.cfgtables.specs.NumberedSymbols.{sym_of}
-use Rattle.cfgtables.specs.Openings.{ArePlacesOf}
+use Rattle.cfgtables.specs.Openings.{ArePositionsOf}
 use Rattle.cfgtables.proofs.Slices.{mapped_all, mapped_at, mapped_within}
 use Rattle.derivation.specs.CostLists.{IsListed}
 use Rattle.derivation.proofs.Listed.{symbols_listed}
-use Rattle.cfggreatest.specs.Inner.AtLeast.{IsDead}
+use Rattle.cfggreatest.specs.Inner.AtLeast.{IsUnproductive}
 use Rattle.cfggreatest.specs.Inner.Sums.{IsUnder}
-use Rattle.cfggreatest.proofs.Placed.{placed, placed_all, placed_more}
-use Rattle.cfggreatest.proofs.Reaching.{no_less_then, row_stopped, row_taken, under_more_all}
+use Rattle.cfggreatest.proofs.Located.{located, located_all, located_more}
+use Rattle.cfggreatest.proofs.Reaching.{no_less_then, sequence_stopped, sequence_taken, under_more_all}
 use Rattle.cfggreatest.proofs.sums.take_rule.Goals as goal
 
 pub prod-requires : goal.prod-requires
 prod-requires g c = mapped_all (λ p. g.S.Storage.number p.0) _ _ _ c.p-item.is c.loop-p-test.true
-    (λ p. p < length (g.T.Tables.grammar c.args.grm.now).productions) c.rule_to_prods-places.ensures.within
+    (λ p. p < length (g.T.Tables.grammar c.args.grm.now).productions) c.rule_to_prods-positions.ensures.within
 
-pub take_row-requires : goal.take_row-requires
-take_row-requires g c =
+pub take_sequence-requires : goal.take_sequence-requires
+take_sequence-requires g c =
     let grammar = g.T.Tables.grammar c.args.grm.now in
-    let place = mapped_all (λ p. g.S.Storage.number p.0) _ _ _ c.p-item.is c.loop-p-test.true (λ p. p < length grammar.productions) c.rule_to_prods-places.ensures.within in
+    let index = mapped_all (λ p. g.S.Storage.number p.0) _ _ _ c.p-item.is c.loop-p-test.true (λ p. p < length grammar.productions) c.rule_to_prods-positions.ensures.within in
     subst (λ n. All (IsListed n (length c.args.costs.now)) (map (sym_of g.S.Storage.number) c.prod.result.now)) (sym c.requires.known)
     (subst (λ n. All (IsListed grammar.rules n) (map (sym_of g.S.Storage.number) c.prod.result.now)) (sym c.requires.costs)
     (subst (All (IsListed grammar.rules grammar.tokens)) (sym c.prod.ensures)
-    (symbols_listed grammar (g.S.Storage.number c.p-item.result.0) c.invariant_holds.ensures.content place)))
+    (symbols_listed grammar (g.S.Storage.number c.p-item.result.0) c.invariant_holds.ensures.content index)))
 
-pub returns-in_err-take_row-clause-stopped : goal.returns-in_err-take_row-clause-stopped
-returns-in_err-take_row-clause-stopped g c =
+pub returns-in_err-take_sequence-clause-stopped : goal.returns-in_err-take_sequence-clause-stopped
+returns-in_err-take_sequence-clause-stopped g c =
     let grammar = g.T.Tables.grammar c.args.grm.now in
-    let places = map (λ p. g.S.Storage.number p.0) c.rule_to_prods-places.result.now in
-    let lt : c.loop-p.p-index < length c.rule_to_prods-places.result.now = c.loop-p-test.true in
-    let has = placed grammar _ places (subst (λ r. ArePlacesOf grammar r places) c.to_storage.ensures c.rule_to_prods-places.ensures) c.loop-p.p-index _ _
+    let positions = map (λ p. g.S.Storage.number p.0) c.rule_to_prods-positions.result.now in
+    let lt : c.loop-p.p-index < length c.rule_to_prods-positions.result.now = c.loop-p-test.true in
+    let has = located grammar _ positions (subst (λ r. ArePositionsOf grammar r positions) c.to_storage.ensures c.rule_to_prods-positions.ensures) c.loop-p.p-index _ _
     (mapped_within (λ p. g.S.Storage.number p.0) _ _ _ c.p-item.is lt) (mapped_at (λ p. g.S.Storage.number p.0) _ _ _ c.p-item.is lt) c.prod.ensures in
     let p = err_from_is_err_and c.from_residual.result c.from_residual.ensures.1 in
-    rw (p.1, p.2) (row_stopped grammar c.invariant_holds.ensures.content (slice_index c.args.costs.now) c.args.known.now c.args.path.now c.args.start c.requires.group
-    c.args.place c.requires.behind c.requires.within _ has c.in_err-take_row.ensures.0 _ c.in_err-take_row.ensures.1)
+    rw (p.1, p.2) (sequence_stopped grammar c.invariant_holds.ensures.content (slice_index c.args.costs.now) c.args.known.now c.args.path.now c.args.start c.requires.group
+    c.args.index c.requires.after c.requires.within _ has c.in_err-take_sequence.ensures.0 _ c.in_err-take_sequence.ensures.1)
 
 pub loop-p-preserved : goal.loop-p-preserved
 loop-p-preserved g c =
     let grammar = g.T.Tables.grammar c.args.grm.now in
-    let places = map (λ p. g.S.Storage.number p.0) c.rule_to_prods-places.result.now in
-    let of = subst (λ r. ArePlacesOf grammar r places) c.to_storage.ensures c.rule_to_prods-places.ensures in
-    let lt : c.loop-p.p-index < length c.rule_to_prods-places.result.now = c.loop-p-test.true in
+    let positions = map (λ p. g.S.Storage.number p.0) c.rule_to_prods-positions.result.now in
+    let of = subst (λ r. ArePositionsOf grammar r positions) c.to_storage.ensures c.rule_to_prods-positions.ensures in
+    let lt : c.loop-p.p-index < length c.rule_to_prods-positions.result.now = c.loop-p-test.true in
     let within = mapped_within (λ p. g.S.Storage.number p.0) _ _ _ c.p-item.is lt in
     let at = mapped_at (λ p. g.S.Storage.number p.0) _ _ _ c.p-item.is lt in
-    let has = placed grammar _ places of c.loop-p.p-index _ _ within at c.prod.ensures in
-    let taken = row_taken grammar c.invariant_holds.ensures.content (slice_index c.args.costs.now) c.args.known.now c.args.path.now c.args.start c.requires.group
-    c.args.place c.requires.behind c.requires.within _ has c.loop-p.sums c.take_row.new.sums c.loop-p.invariant.reached c.in_ok-take_row.ensures in
+    let has = located grammar _ positions of c.loop-p.p-index _ _ within at c.prod.ensures in
+    let taken = sequence_taken grammar c.invariant_holds.ensures.content (slice_index c.args.costs.now) c.args.known.now c.args.path.now c.args.start c.requires.group
+    c.args.index c.requires.after c.requires.within _ has c.loop-p.sums c.take_sequence.new.sums c.loop-p.invariant.reached c.in_ok-take_sequence.ensures in
     record {
       reached = taken.0;
-      under = placed_more grammar _ places of (λ a. IsDead (HasProduction grammar) a ⊎ IsUnder (slice_index c.args.costs.now) c.args.known.now c.args.start a c.take_row.new.sums)
+      under = located_more grammar _ positions of (λ a. IsUnproductive (HasProduction grammar) a ⊎ IsUnder (slice_index c.args.costs.now) c.args.known.now c.args.start a c.take_sequence.new.sums)
           c.loop-p.p-index _ _ within at c.prod.ensures
           (λ k below. under_more_all (HasProduction grammar) _ _ _ _ _ _ taken.2 (c.loop-p.invariant.under k below)) taken.1;
-      more = no_less_then c.args.sums.now c.loop-p.sums c.take_row.new.sums c.loop-p.invariant.more taken.2;
+      more = no_less_then c.args.sums.now c.loop-p.sums c.take_sequence.new.sums c.loop-p.invariant.more taken.2;
     }
 
 pub returns-clause-under : goal.returns-clause-under
 returns-clause-under g c =
     let grammar = g.T.Tables.grammar c.args.grm.now in
-    let places = map (λ p. g.S.Storage.number p.0) c.rule_to_prods-places.result.now in
-    let len = length-map c.rule_to_prods-places.result.now (λ p. g.S.Storage.number p.0) in
-    placed_all grammar _ places (subst (λ r. ArePlacesOf grammar r places) c.to_storage.ensures c.rule_to_prods-places.ensures)
-    (λ a. IsDead (HasProduction grammar) a ⊎ IsUnder (slice_index c.args.costs.now) c.args.known.now c.args.start a c.loop-p.sums)
+    let positions = map (λ p. g.S.Storage.number p.0) c.rule_to_prods-positions.result.now in
+    let len = length-map c.rule_to_prods-positions.result.now (λ p. g.S.Storage.number p.0) in
+    located_all grammar _ positions (subst (λ r. ArePositionsOf grammar r positions) c.to_storage.ensures c.rule_to_prods-positions.ensures)
+    (λ a. IsUnproductive (HasProduction grammar) a ⊎ IsUnder (slice_index c.args.costs.now) c.args.known.now c.args.start a c.loop-p.sums)
     c.loop-p.p-index (let past = c.loop-p-test.false in omega (arith, len, past)) c.loop-p.invariant.under

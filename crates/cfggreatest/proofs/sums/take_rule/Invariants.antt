@@ -2,14 +2,14 @@ use Rattle.std.proofs.Common.{ℕ, ◌<◌, ◌⊎◌, map, get_or}
 use Rattle.std.specs.List.{slice_index}
 use Rattle.derivation.specs.Grammar.{HasProduction}
 use Rattle.cfgtables.specs.Openings.{nth_production}
-use Rattle.cfggreatest.specs.Inner.AtLeast.{IsDead}
+use Rattle.cfggreatest.specs.Inner.AtLeast.{IsUnproductive}
 use Rattle.cfggreatest.specs.Inner.Sums.{AreNoLess, AreReached, IsUnder}
 use Rattle.cfggreatest.proofs.sums.take_rule.Given as goal
 
 abbrev pub invariant-loop-p : goal.invariant-loop-p
 invariant-loop-p g l = record {
   reached : AreReached (HasProduction (g.T.Tables.grammar l.grm)) (slice_index l.costs) l.path l.start l.sums;
-  under : (k : ℕ) → k < l.p-index → IsDead (HasProduction (g.T.Tables.grammar l.grm)) (nth_production (g.T.Tables.grammar l.grm) (get_or (map (λ p. g.S.Storage.number p.0) l.places) k 0)).symbols
-      ⊎ IsUnder (slice_index l.costs) l.known l.start (nth_production (g.T.Tables.grammar l.grm) (get_or (map (λ p. g.S.Storage.number p.0) l.places) k 0)).symbols l.sums;
+  under : (k : ℕ) → k < l.p-index → IsUnproductive (HasProduction (g.T.Tables.grammar l.grm)) (nth_production (g.T.Tables.grammar l.grm) (get_or (map (λ p. g.S.Storage.number p.0) l.positions) k 0)).symbols
+      ⊎ IsUnder (slice_index l.costs) l.known l.start (nth_production (g.T.Tables.grammar l.grm) (get_or (map (λ p. g.S.Storage.number p.0) l.positions) k 0)).symbols l.sums;
   more : AreNoLess l.fn.sums l.sums;
 }

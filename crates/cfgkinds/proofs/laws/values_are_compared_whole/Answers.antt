@@ -1,6 +1,6 @@
 use Rattle.std.proofs.Common.{◌∙◌, ◌&&◌, ap, refl, true, false}
 use Rattle.cfgkinds.specs.Values.{namespaced_view}
-use Rattle.cfgkinds.specs.SameValues.{same_placed}
+use Rattle.cfgkinds.specs.SameValues.{same_located}
 use Rattle.cfgkinds.specs.declared.value.Value.TheVariants as values
 use Rattle.cfgkinds.proofs.SameLemmas.{same_both, same_namespaces}
 use Rattle.cfgkinds.proofs.laws.values_are_compared_whole.Goals as goal
@@ -8,7 +8,7 @@ use Rattle.cfgkinds.proofs.laws.values_are_compared_whole.Goals as goal
 pub returns-clause-name : goal.returns-clause-name
 returns-clause-name g c a b =
     let eq = g.T.PartialEq.eq in
-    ap (λ same. same && same_placed eq (namespaced_view a).member (namespaced_view b).member) (same_namespaces eq a.namespace b.namespace)
+    ap (λ same. same && same_located eq (namespaced_view a).member (namespaced_view b).member) (same_namespaces eq a.namespace b.namespace)
     ∙ same_both eq (namespaced_view a) (namespaced_view b)
 
 pub returns-clause-value : goal.returns-clause-value

@@ -14,7 +14,7 @@ start-requires-clause-input g c =
     let rules = (g.T.Tables.grammar c.args.grm.now).rules in
     record {
       grammar = c.invariant_holds.ensures.content;
-      places = c.invariant_holds.ensures.productions;
+      positions = c.invariant_holds.ensures.productions;
       tokens = c.requires.costs;
       rules = ap length (c.deref.ensures.value ∙ c.requires.least) ∙ length-replicate {A = Option ℕ} rules None;
     }
@@ -33,7 +33,7 @@ loop-top-init g c =
     record {
       input = record {
         grammar = c.invariant_holds.ensures.content;
-        places = c.invariant_holds.ensures.productions;
+        positions = c.invariant_holds.ensures.productions;
         tokens = c.requires.costs;
         rules = ap length c.requires.least ∙ length-replicate {A = Option ℕ} grammar.rules None;
       };

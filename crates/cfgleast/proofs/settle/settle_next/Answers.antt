@@ -7,7 +7,7 @@ use Rattle.cfgleast.specs.Certificate.{choice_of}
 use Rattle.derivation.specs.CostLists.{rule_cost}
 use Rattle.cfgleast.specs.Inner.Open.{AreAllOpen, AreInput}
 use Rattle.cfgleast.specs.Inner.Settled.{AreChosen}
-use Rattle.cfgleast.proofs.Settles.{popped_place, popped_again, settles_chosen, settles_woken, settled_if_some, unset_if_none, owner_within}
+use Rattle.cfgleast.proofs.Settles.{popped_position, popped_again, settles_chosen, settles_woken, settled_if_some, unset_if_none, owner_within}
 use Rattle.cfgleast.proofs.settle.settle_next.Given.{Over}
 use Rattle.cfgleast.proofs.settle.settle_next.Goals.{After-from-rule}
 use Rattle.cfgleast.proofs.settle.settle_next.Goals as goal
@@ -18,18 +18,18 @@ owner g c = c.from-rule.ensures ∙ c.prod_to_rule.ensures ∙ ap (λ n. (nth_pr
 rule_within : (g : Over) (c : After-from-rule g) → c.from-rule.result < (g.T.Tables.grammar c.args.grm.now).rules
 rule_within g c =
     let grammar = g.T.Tables.grammar c.args.grm.now in
-    let place = popped_place grammar (slice_index c.args.costs.now) c.args.settled.now.least.items c.args.top c.args.queue.now c.args.waiting.now c.requires.popped in
-    subst (λ n. n < grammar.rules) (sym (owner g c)) (owner_within grammar c.args.top.1 c.requires.input.grammar place)
+    let index = popped_position grammar (slice_index c.args.costs.now) c.args.settled.now.least.items c.args.top c.args.queue.now c.args.waiting.now c.requires.popped in
+    subst (λ n. n < grammar.rules) (sym (owner g c)) (owner_within grammar c.args.top.1 c.requires.input.grammar index)
 
 pub to_storage-requires : goal.to_storage-requires
 to_storage-requires g c =
-    let place = popped_place (g.T.Tables.grammar c.args.grm.now) (slice_index c.args.costs.now) c.args.settled.now.least.items c.args.top c.args.queue.now c.args.waiting.now c.requires.popped in
-    omega (arith, place, c.requires.input.places)
+    let index = popped_position (g.T.Tables.grammar c.args.grm.now) (slice_index c.args.costs.now) c.args.settled.now.least.items c.args.top c.args.queue.now c.args.waiting.now c.requires.popped in
+    omega (arith, index, c.requires.input.positions)
 
 pub prod_to_rule-requires : goal.prod_to_rule-requires
 prod_to_rule-requires g c =
-    let place = popped_place (g.T.Tables.grammar c.args.grm.now) (slice_index c.args.costs.now) c.args.settled.now.least.items c.args.top c.args.queue.now c.args.waiting.now c.requires.popped in
-    subst (λ n. n < length (g.T.Tables.grammar c.args.grm.now).productions) (sym c.to_storage.ensures) place
+    let index = popped_position (g.T.Tables.grammar c.args.grm.now) (slice_index c.args.costs.now) c.args.settled.now.least.items c.args.top c.args.queue.now c.args.waiting.now c.requires.popped in
+    subst (λ n. n < length (g.T.Tables.grammar c.args.grm.now).productions) (sym c.to_storage.ensures) index
 
 pub returns-then-is_some-clause-state : goal.returns-then-is_some-clause-state
 returns-then-is_some-clause-state g c =
@@ -93,7 +93,7 @@ take-woken-requires g c =
 pub wake-requires-clause-input : goal.wake-requires-clause-input
 wake-requires-clause-input g c = record {
   grammar = c.requires.input.grammar;
-  places = c.requires.input.places;
+  positions = c.requires.input.positions;
   tokens = c.requires.input.tokens;
   rules = ap length (c.deref.ensures.value ∙ c.settle.ensures.least) ∙ length-set c.args.settled.now.least.items c.from-rule.result (Some c.args.top.0) ∙ c.requires.input.rules;
 }
@@ -106,7 +106,7 @@ returns-clause-input g c =
     on_ok_weaker {Q = AreInput (g.T.Tables.grammar c.args.grm.now) g.S.Storage.MAX c.args.costs.now c.settle.new.self.least.items} c.wake.result
     (λ _. record {
       grammar = c.requires.input.grammar;
-      places = c.requires.input.places;
+      positions = c.requires.input.positions;
       tokens = c.requires.input.tokens;
       rules = ap length (c.settle.ensures.least) ∙ length-set c.args.settled.now.least.items c.from-rule.result (Some c.args.top.0) ∙ c.requires.input.rules;
     }) c.wake.ensures.lists

@@ -26,29 +26,29 @@ returns-in-Err g c =
     let cost = slice_index c.args.costs.now in
     let settled = rule_cost c.args.least.now in
     let stop = subst (λ (a : List Sym). StopsAt cost settled a c.in-Err.rule c.in-Err.partial) symbols c.in-Err.ensures.stop in
-    let listed = symbols_listed grammar c.args.partial.production c.requires.input.grammar c.requires.partial.place in
+    let listed = symbols_listed grammar c.args.partial.production c.requires.input.grammar c.requires.partial.index in
     let within = subst (λ n. c.in-Err.rule < n) (sym c.requires.lists)
     (stop_listed cost settled grammar (nth_production grammar c.args.partial.production).symbols grammar.rules grammar.tokens c.in-Err.rule c.in-Err.partial listed stop) in
     on_ok_weaker {Q = MovesOn cost settled grammar c.args.partial.production c.args.queue.now c.args.queue.now c.args.waiting.now c.add.new.self}
     c.add.result (λ put. waits c.in-Err.rule c.in-Err.partial c.in-Err.ensures.same
-    (stop_waits cost settled grammar c.args.partial.production c.in-Err.rule c.in-Err.partial c.requires.partial.place c.in-Err.ensures.same stop) stop.unset within refl put) c.add.ensures
+    (stop_waits cost settled grammar c.args.partial.production c.in-Err.rule c.in-Err.partial c.requires.partial.index c.in-Err.ensures.same stop) stop.unset within refl put) c.add.ensures
 
 pub to_storage-requires : goal.to_storage-requires
 to_storage-requires g c =
-    omega (arith, c.requires.partial.place, c.requires.input.places)
+    omega (arith, c.requires.partial.index, c.requires.input.positions)
 
 pub prod-symbols-requires : goal.prod-symbols-requires
-prod-symbols-requires g c = subst (λ n. n < length (g.T.Tables.grammar c.args.grm.now).productions) (sym c.to_storage.ensures) c.requires.partial.place
+prod-symbols-requires g c = subst (λ n. n < length (g.T.Tables.grammar c.args.grm.now).productions) (sym c.to_storage.ensures) c.requires.partial.index
 
 pub walk-requires-clause-listed : goal.walk-requires-clause-listed
 walk-requires-clause-listed g c =
     let grammar = g.T.Tables.grammar c.args.grm.now in
     let symbols = c.prod-symbols.ensures ∙ ap (λ n. (nth_production grammar n).symbols) c.to_storage.ensures in
-    let row = map (sym_of g.S.Storage.number) c.prod-symbols.result.now in
+    let sequence = map (sym_of g.S.Storage.number) c.prod-symbols.result.now in
     let listed = subst (All (IsListed grammar.rules grammar.tokens)) (sym symbols)
-    (symbols_listed grammar c.args.partial.production c.requires.input.grammar c.requires.partial.place) in
-    subst (λ n. All (IsListed n (length c.args.costs.now)) row) (sym c.requires.input.rules)
-    (subst (λ n. All (IsListed grammar.rules n) row) (sym c.requires.input.tokens) listed)
+    (symbols_listed grammar c.args.partial.production c.requires.input.grammar c.requires.partial.index) in
+    subst (λ n. All (IsListed n (length c.args.costs.now)) sequence) (sym c.requires.input.rules)
+    (subst (λ n. All (IsListed grammar.rules n) sequence) (sym c.requires.input.tokens) listed)
 
 pub walk-requires-clause-taken : goal.walk-requires-clause-taken
 walk-requires-clause-taken g c =

@@ -5,5 +5,5 @@ use Rattle.derivation.specs.CostLists.{rule_cost}
 use Rattle.cfgleast.specs.Inner.Open.{IsCutSum}
 use Rattle.cfgleast.proofs.walk.walk.Given as goal
 
-abbrev pub invariant-loop-place : goal.invariant-loop-place
-invariant-loop-place g l = IsCutSum (slice_index l.costs) (rule_cost l.least) (take l.place (map (sym_of g.S.Storage.number) l.symbols)) l.sum
+abbrev pub invariant-loop-index : goal.invariant-loop-index
+invariant-loop-index g l = IsCutSum (slice_index l.costs) (rule_cost l.least) (take l.index (map (sym_of g.S.Storage.number) l.symbols)) l.sum

@@ -1,7 +1,7 @@
 use Rattle.std.proofs.Common.{◌≡◌, ◌++◌, List, [], nat_cmp, refl, subst, ap, ◌∙◌, append_assoc, rules}
 use Rattle.std.specs.List.Sorted.{IsPermutation, IsStableByKey}
 use Rattle.std.proofs.lemmas.Fn.{always_returns_same}
-use Rattle.cfglint.specs.Shown.{ShownFinding, place_of}
+use Rattle.cfglint.specs.Shown.{ShownFinding, position_of}
 use Rattle.cfglint.proofs.found.findings.Goals as goal
 
 joined : (a0 a1 a2 a3 a4 a5 w s u l r p : List ShownFinding) → a0 ≡ [] → a1 ≡ a0 ++ w → a2 ≡ a1 ++ (s ++ u) → a3 ≡ a2 ++ l → a4 ≡ a3 ++ r → a5 ≡ a4 ++ p
@@ -15,39 +15,39 @@ pub returns : goal.returns
 returns c =
     let (warnings, are_warnings, unused, are_unused, unused_is) = c.in_ok-push_warnings.ensures in
     let (without, useless, are_without, are_useless, sentences_is) = c.in_ok-push_sentences.ensures in
-    let (loops, are_loops, loops_is) = c.in_ok-push_loops.ensures in
+    let (cycles, are_cycles, cycles_is) = c.in_ok-push_cycles.ensures in
     let (repeats, are_repeats, repeats_is) = c.in_ok-push_repeats.ensures in
     let (precedences, are_precedences, precedences_is) = c.in_ok-push_precedences.ensures in
     let before = c.push_precedences.new.all.items in
     let after = c.sort_by_key.new.self.items in
-    let told : List ShownFinding = unused ++ (without ++ (useless ++ (loops ++ (repeats ++ precedences)))) in
-    let is : before ≡ told = joined c.new-all.result.items c.push_warnings.new.all.items c.push_sentences.new.all.items
-    c.push_loops.new.all.items c.push_repeats.new.all.items before unused without useless loops repeats precedences
-    c.new-all.ensures.items unused_is sentences_is loops_is repeats_is precedences_is in
-    let sorted = c.in_ok-sort_by_key.ensures.sorted place_of (always_returns_same _ _ _ (λ a r f called. search rules)) in
-    let stable = c.in_ok-sort_by_key.ensures.stable place_of (always_returns_same _ _ _ (λ a r f called. search rules)) in
+    let reported : List ShownFinding = unused ++ (without ++ (useless ++ (cycles ++ (repeats ++ precedences)))) in
+    let is : before ≡ reported = joined c.new-all.result.items c.push_warnings.new.all.items c.push_sentences.new.all.items
+    c.push_cycles.new.all.items c.push_repeats.new.all.items before unused without useless cycles repeats precedences
+    c.new-all.ensures.items unused_is sentences_is cycles_is repeats_is precedences_is in
+    let sorted = c.in_ok-sort_by_key.ensures.sorted position_of (always_returns_same _ _ _ (λ a r f called. search rules)) in
+    let stable = c.in_ok-sort_by_key.ensures.stable position_of (always_returns_same _ _ _ (λ a r f called. search rules)) in
     record {
-      told = told;
+      reported = reported;
       in_turn = record {
         warnings = warnings;
         unused = unused;
         without = without;
         useless = useless;
-        loops = loops;
+        cycles = cycles;
         repeats = repeats;
         precedences = precedences;
         are_warnings = are_warnings;
         are_unused = are_unused;
         are_without = are_without;
         are_useless = are_useless;
-        are_loops = are_loops;
+        are_cycles = are_cycles;
         are_repeats = are_repeats;
         are_precedences = are_precedences;
         is = refl;
       };
-      by_place = record {
+      by_position = record {
         same = subst (λ (l : List ShownFinding). IsPermutation l after) is c.in_ok-sort_by_key.ensures.permutation;
         sorted = sorted;
-        stable = subst (λ (l : List ShownFinding). IsStableByKey place_of nat_cmp l after) is stable;
+        stable = subst (λ (l : List ShownFinding). IsStableByKey position_of nat_cmp l after) is stable;
       };
     }

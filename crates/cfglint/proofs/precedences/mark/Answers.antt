@@ -17,10 +17,10 @@ returns-in-Some c =
     let entries = c.precs.result.now.entries in
     let Entries = List (List ℕ × (Precedence × Span)) in
     let distinct : IsDistinct bytes_eq (map entry_name s.tables.precedences) = subst (λ (es : Entries). IsDistinct bytes_eq (map entry_name es)) c.precs.ensures (precedences_differ entries c.in-Some.ensures.unique) in
-    let found : position (bytes_eq name) (map entry_name s.tables.precedences) ≡ Some c.in-Some.place =
+    let found : position (bytes_eq name) (map entry_name s.tables.precedences) ≡ Some c.in-Some.index =
     ap (λ (es : Entries). position (bytes_eq name) (map entry_name es)) (sym c.precs.ensures) ∙ precedence_position name entries ∙ sym c.in-Some.ensures.index in
-    let within : c.in-Some.place < length c.args.taking.now = omega (arith, c.requires, c.in-Some.ensures.within, length-map entries precedence_entry, ap length c.precs.ensures) in
-    subst (Marks s (name ∷ []) c.args.taking.now) (sym c.set.ensures.bits) (marks_one s distinct name c.args.taking.now c.in-Some.place within found)
+    let within : c.in-Some.index < length c.args.taking.now = omega (arith, c.requires, c.in-Some.ensures.within, length-map entries precedence_entry, ap length c.precs.ensures) in
+    subst (Marks s (name ∷ []) c.args.taking.now) (sym c.set.ensures.bits) (marks_one s distinct name c.args.taking.now c.in-Some.index within found)
 
 pub returns-in_default : goal.returns-in_default
 returns-in_default c =

@@ -16,9 +16,9 @@ returns-in-Some c =
     let mid = c.mark_symbols.new.taking in
     let new = c.mark.new.taking in
     let held = subst (λ (symbols : List Symbol). Marks s (flat_map symbol_names (map symbol_view symbols)) old mid) c.deref.ensures.value c.mark_symbols.ensures in
-    let asked = subst (λ (o : Option (String Global)). Marks s (option_to_list (option_map string_bytes o)) mid new) (sym c.in-Some.is)
+    let requested = subst (λ (o : Option (String Global)). Marks s (option_to_list (option_map string_bytes o)) mid new) (sym c.in-Some.is)
     (subst (λ name. Marks s (name ∷ []) mid new) c.deref-in-Some.ensures c.mark.ensures) in
-    marks_then s _ _ old mid new held asked
+    marks_then s _ _ old mid new held requested
 
 pub returns-in_default : goal.returns-in_default
 returns-in_default c =
@@ -26,5 +26,5 @@ returns-in_default c =
     let old = c.args.taking.now in
     let new = c.mark_symbols.new.taking in
     let held = subst (λ (symbols : List Symbol). Marks s (flat_map symbol_names (map symbol_view symbols)) old new) c.deref.ensures.value c.mark_symbols.ensures in
-    let asked = subst (λ (o : Option (String Global)). Marks s (option_to_list (option_map string_bytes o)) new new) (sym c.in_default.is) (marks_none s new) in
-    marks_then s _ _ old new new held asked
+    let requested = subst (λ (o : Option (String Global)). Marks s (option_to_list (option_map string_bytes o)) new new) (sym c.in_default.is) (marks_none s new) in
+    marks_then s _ _ old new new held requested

@@ -13,27 +13,27 @@ use Rattle.cfglint.proofs.Marking.{marks_all, marks_more, marks_none}
 use Rattle.cfglint.proofs.precedences.mark_table.Goals as goal
 use Rattle.cfglint.proofs.precedences.mark_table.Goals.{in-Some, in_default}
 
-pub loop-place-init : goal.loop-place-init
-loop-place-init c = marks_none _ _
+pub loop-index-init : goal.loop-index-init
+loop-index-init c = marks_none _ _
 
 pub mark-requires : goal.mark-requires
-mark-requires c = c.loop-place.invariant.shape ∙ c.requires
+mark-requires c = c.loop-index.invariant.shape ∙ c.requires
 
-pub loop-place-preserved : goal.loop-place-preserved
-loop-place-preserved c =
+pub loop-index-preserved : goal.loop-index-preserved
+loop-index-preserved c =
     let s = syntax c.args.ast.now in
     let entries = c.args.table.now.entries in
-    let place = c.loop-place.place in
+    let index = c.loop-index.index in
     let names = λ (entry : String Global × Span). entry_name (span_entry entry) ∷ [] in
-    let within : place < length entries = omega (arith, c.loop-place-test.true, c.len-place-end.ensures.len) in
+    let within : index < length entries = omega (arith, c.loop-index-test.true, c.len-index-end.ensures.len) in
     elim c.match-get_index.branch [
       | in-Some w ↦
           let at = sym w.in-Some.ensures.entry in
-          subst (Marks s (flat_map names (take (place + 1) entries)) c.args.taking.now) (sym w.taking-is)
-          (marks_more s names entries place _ _ _ _ within (sym (get_or_from_slice_get entries place _ _ at)) c.loop-place.invariant
-          (subst (λ name. Marks s (name ∷ []) c.loop-place.taking w.mark.new.taking) w.deref.ensures w.mark.ensures))
+          subst (Marks s (flat_map names (take (index + 1) entries)) c.args.taking.now) (sym w.taking-is)
+          (marks_more s names entries index _ _ _ _ within (sym (get_or_from_slice_get entries index _ _ at)) c.loop-index.invariant
+          (subst (λ name. Marks s (name ∷ []) c.loop-index.taking w.mark.new.taking) w.deref.ensures w.mark.ensures))
       | in_default w ↦
-          let (entry, at) = element_at entries place within in
+          let (entry, at) = element_at entries index within in
           let no : None ≡ Some entry = w.in_default.ensures.entry ∙ at in cc
     ]
 
@@ -41,6 +41,6 @@ pub returns : goal.returns
 returns c =
     let entries = c.args.table.now.entries in
     let names = λ (entry : String Global × Span). entry_name (span_entry entry) ∷ [] in
-    subst (λ all. Marks (syntax c.args.ast.now) all c.args.taking.now c.loop-place.taking)
+    subst (λ all. Marks (syntax c.args.ast.now) all c.args.taking.now c.loop-index.taking)
     (flat_map_single (λ (entry : String Global × Span). entry_name (span_entry entry)) entries ∙ sym (map-map entry_name span_entry entries))
-    (marks_all _ names entries _ _ _ (omega (arith, c.loop-place-test.false, c.len-place-end.ensures.len)) c.loop-place.invariant)
+    (marks_all _ names entries _ _ _ (omega (arith, c.loop-index-test.false, c.len-index-end.ensures.len)) c.loop-index.invariant)

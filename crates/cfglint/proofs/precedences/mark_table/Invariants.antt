@@ -6,5 +6,5 @@ use Rattle.cfgrammar.specs.TreeView.{syntax}
 use Rattle.cfglint.specs.Inner.Taking.{Marks}
 use Rattle.cfglint.proofs.precedences.mark_table.Given as goal
 
-abbrev pub invariant-loop-place : goal.invariant-loop-place
-invariant-loop-place l = Marks (syntax l.ast) (flat_map (λ entry. entry_name (span_entry entry) ∷ []) (take l.place l.table.entries)) l.fn.taking l.taking
+abbrev pub invariant-loop-index : goal.invariant-loop-index
+invariant-loop-index l = Marks (syntax l.ast) (flat_map (λ entry. entry_name (span_entry entry) ∷ []) (take l.index l.table.entries)) l.fn.taking l.taking

@@ -14,8 +14,8 @@ returns-in-Ok c =
 
 pub returns-in-Err-CostTooLarge : goal.returns-in-Err-CostTooLarge
 returns-in-Err-CostTooLarge c =
-    let dear = c.min_sentence_cost.ensures.dear.0 (c.in-Err-CostTooLarge.is ∙ ap Err c.in-Err-CostTooLarge.field-0-is) in
-    subst (λ (g : Grammar). (w : List ℕ) × Sentence (HasProduction g) c.args.rule.0 w) c.requires.same dear.0
+    let too_large = c.min_sentence_cost.ensures.too_large.0 (c.in-Err-CostTooLarge.is ∙ ap Err c.in-Err-CostTooLarge.field-0-is) in
+    subst (λ (g : Grammar). (w : List ℕ) × Sentence (HasProduction g) c.args.rule.0 w) c.requires.same too_large.0
 
 pub returns-in-Err-NoSentence : goal.returns-in-Err-NoSentence
 returns-in-Err-NoSentence c =

@@ -1,5 +1,5 @@
 use Rattle.std.proofs.Common.{◌≡◌, ◌<◌, ◌≤◌, ℕ, false, get_or, length}
-use Rattle.cfglint.specs.Inner.Lacks.{LacksOrHas}
+use Rattle.cfglint.specs.Inner.Unproductive.{UnproductiveOrNot}
 use Rattle.cfglint.proofs.sentences.without_of.Given as goal
 
 -- the indices that are left are those of rules, and for those before them it is known whether they are unproductive
@@ -7,6 +7,6 @@ abbrev pub invariant-loop-rule : goal.invariant-loop-rule
 invariant-loop-rule l = record {
   all : l.rule-iterator.end ≡ length l.grammar.rules;
   within : l.rule-iterator.start ≤ l.rule-iterator.end;
-  long : length l.lacks.items ≡ l.rule-iterator.start;
-  each : (r : ℕ) → r < l.rule-iterator.start → LacksOrHas l.grammar r (get_or l.lacks.items r false);
+  long : length l.misses.items ≡ l.rule-iterator.start;
+  each : (r : ℕ) → r < l.rule-iterator.start → UnproductiveOrNot l.grammar r (get_or l.misses.items r false);
 }

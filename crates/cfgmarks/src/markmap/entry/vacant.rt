@@ -4,7 +4,7 @@ ghost use Rattle.std.specs.Borrow.{sem};
 ghost use Rattle.std.specs.declared.cmp.Ordering.TheVariants.{Equal};
 ghost use Rattle.cfgmarks.specs.Marks.{marks, entry_at, changed, set_required, set_behavior, set_value, ChangesAt};
 ghost use Rattle.cfgmarks.specs.Marks.{IsFaithful};
-ghost use Rattle.cfgmarks.specs.MarkEntry.{occupied_map, occupied_key, vacant_map, vacant_key, IsSamePlace};
+ghost use Rattle.cfgmarks.specs.MarkEntry.{occupied_map, occupied_key, vacant_map, vacant_key, IsSamePosition};
 ghost use Rattle.cfgmarks.specs.MarkLends.{lends_value, rests_if_refused};
 
 use super::{OccupiedEntry, VacantEntry};
@@ -29,13 +29,13 @@ impl<'a, K: Ord + Clone, V: Drop> VacantEntry<'a, K, V> {
         ensures absent { OnErr result (entry_at K.cmp (vacant_map self.entry) (vacant_key self.entry) ≡ None) }
     {
         let VacantEntry { map, key } = self;
-        let place = match ensure_entry(map, key) {
-            Ok(place) => place,
+        let index = match ensure_entry(map, key) {
+            Ok(index) => index,
             Err(key) => return Err((key, value)),
         };
-        match map.put(&place, value) {
+        match map.put(&index, value) {
             Ok(lent) => Ok(lent),
-            Err(value) => Err((place, value)),
+            Err(value) => Err((index, value)),
         }
     }
 
@@ -51,18 +51,18 @@ impl<'a, K: Ord + Clone, V: Drop> VacantEntry<'a, K, V> {
         ensures absent { OnErr result (entry_at K.cmp (vacant_map self.entry) (vacant_key self.entry) ≡ None) }
     {
         let VacantEntry { map, key } = self;
-        let place = match ensure_entry(map, key) {
-            Ok(place) => place,
+        let index = match ensure_entry(map, key) {
+            Ok(index) => index,
             Err(key) => return Err((key, value)),
         };
-        map.replace_value(&place, value);
-        Ok(OccupiedEntry { map, key: place })
+        map.replace_value(&index, value);
+        Ok(OccupiedEntry { map, key: index })
     }
 
     /// Marks the key as required. If it has no entry, it gets one with a clone of the key, and only that allocates.
     pub fn mark_required(&mut self) -> Result<(), AllocError>
         requires { IsFaithful K.cmp K.is_clone }
-        ensures place { IsSamePlace self.old self.new }
+        ensures index { IsSamePosition self.old self.new }
         ensures ok { OnOk result (ChangesAt K.cmp K.is_clone (vacant_key self.old) set_required (vacant_map self.old)
             (vacant_map self.new)) }
         ensures err { OnErr result (vacant_map self.new ≡ vacant_map self.old) }
@@ -75,7 +75,7 @@ impl<'a, K: Ord + Clone, V: Drop> VacantEntry<'a, K, V> {
     /// of the key, and only that allocates.
     pub fn set_merge_behavior(&mut self, behavior: MergeBehavior) -> Result<(), AllocError>
         requires { IsFaithful K.cmp K.is_clone }
-        ensures place { IsSamePlace self.old self.new }
+        ensures index { IsSamePosition self.old self.new }
         ensures ok { OnOk result (ChangesAt K.cmp K.is_clone (vacant_key self.old) (set_behavior behavior)
             (vacant_map self.old) (vacant_map self.new)) }
         ensures err { OnErr result (vacant_map self.new ≡ vacant_map self.old) }
@@ -98,10 +98,10 @@ fn copy_of<K: Ord + Clone>(key: &K) -> Result<K, AllocError>
 
 /// Gives the key an entry if it has none, and returns a key that is equal to it. A refused key is returned.
 fn ensure_entry<K: Ord + Clone, V: Drop>(map: &mut MarkMap<K, V>, key: K) -> Result<K, K>
-    ensures place { IfOk result (λ place. K.cmp key place ≡ Equal) }
-    ensures there { IfOk result (λ place. IsSome (entry_at K.cmp (marks map.new) place)) }
-    ensures map { IfOk result (λ place. (f : _)
-        → changed K.cmp (marks map.new) place f ≡ changed K.cmp (marks map.old) key f) }
+    ensures index { IfOk result (λ index. K.cmp key index ≡ Equal) }
+    ensures there { IfOk result (λ index. IsSome (entry_at K.cmp (marks map.new) index)) }
+    ensures map { IfOk result (λ index. (f : _)
+        → changed K.cmp (marks map.new) index f ≡ changed K.cmp (marks map.old) key f) }
     ensures err { OnErr result (marks map.new ≡ marks map.old) }
     ensures handed_back { IfErr result (λ back. back ≡ key) }
     ensures absent { OnErr result (entry_at K.cmp (marks map.old) key ≡ None) }

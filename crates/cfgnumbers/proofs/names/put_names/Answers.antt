@@ -6,10 +6,10 @@ use Rattle.cfgnumbers.specs.TablesView.{names}
 use Rattle.cfgnumbers.proofs.Lookups.{names-distinct, token_put}
 use Rattle.cfgnumbers.proofs.names.put_names.Goals as goal
 
-pub loop-place-preserved : goal.loop-place-preserved
-loop-place-preserved g c =
+pub loop-index-preserved : goal.loop-index-preserved
+loop-index-preserved g c =
     let entries = c.args.rows.now.entries in
-    let at = slice_get-map (λ e. string_bytes e.0) entries c.loop-place.place
+    let at = slice_get-map (λ e. string_bytes e.0) entries c.loop-index.index
     ∙ ap (option_map (λ e. string_bytes e.0)) (sym c.get_index.ensures.entry ∙ ap (option_map deref_pair) c.unwrap.ensures) ∙ ap Some (sym c.as_str.ensures.value) in
-    token_put (λ (x : TIdx g.row.S.Denot). g.S.Storage.number x.0) c.loop-place.map c.insert.new.self c.as_str.result.now (record { 0 = c.to_storage.result }) c.in_ok-insert.ensures.updates
-    (names entries) c.loop-place.place c.to_storage.ensures (names-distinct entries c.len-place-end.ensures.unique) at c.loop-place.invariant
+    token_put (λ (x : TIdx g.row.S.Denot). g.S.Storage.number x.0) c.loop-index.map c.insert.new.self c.as_str.result.now (record { 0 = c.to_storage.result }) c.in_ok-insert.ensures.updates
+    (names entries) c.loop-index.index c.to_storage.ensures (names-distinct entries c.len-index-end.ensures.unique) at c.loop-index.invariant

@@ -1,5 +1,5 @@
 use Rattle.std.proofs.Common.{sym, ap}
-use Rattle.reading.specs.Read.{stop_of}
+use Rattle.constructs.specs.Read.{stop_of}
 use Rattle.cfgreader.proofs.read.stop_in.Goals as goal
 
 pub returns-in-Ok : goal.returns-in-Ok

@@ -1,6 +1,6 @@
 use Rattle.std.proofs.Common.{rules}
 use Rattle.cfglines.proofs.LineEnds.{line_start-le}
-use Rattle.cfglines.proofs.LineFronts.{line_begins}
+use Rattle.cfglines.proofs.LinePrefixes.{line_begins}
 use Rattle.cfgrender.proofs.ShownLines.{shown_line_ends}
 use Rattle.cfgrender.proofs.excerpt.shown_line.Goals as goal
 

@@ -10,12 +10,12 @@ loop-error-init g c = rw c.new-out.ensures.bytes none
 
 pub loop-error-preserved : goal.loop-error-preserved
 loop-error-preserved g c =
-    let told = c.in_ok-push_error.ensures in
+    let reported = c.in_ok-push_error.ensures in
     let shown = take c.loop-error.error-index c.args.errors.now in
     let next : shown ++ c.error-item.result ∷ [] ≡ take (c.loop-error.error-index + 1) c.args.errors.now = grind (arith, common_steps) in
     let source = c.in_ok-source.ensures in
-    one_more _ _ _ c.args.name.now c.args.text.now shown _ c.error-item.result told.0 (string_bytes c.loop-error.out) _ c.loop-error.invariant told.1 next
-    (rw (sym source.name, sym source.text) told.2)
+    one_more _ _ _ c.args.name.now c.args.text.now shown _ c.error-item.result reported.0 (string_bytes c.loop-error.out) _ c.loop-error.invariant reported.1 next
+    (rw (sym source.name, sym source.text) reported.2)
 
 pub returns : goal.returns
 returns g c = rw (take_all c.loop-error.error-index c.args.errors.now c.loop-error-test.false) at c.loop-error.invariant

@@ -4,7 +4,7 @@ use Rattle.cfgsection.specs.Named.{IsNaming, Names, Naming}
 use Rattle.cfgsection.specs.SectionReads.{entry_view, given}
 use Rattle.cfgsection.proofs.KindIfNamed.{after_section}
 use Rattle.cfgsection.proofs.NamedLemmas.{one_naming, refused, answered}
-use Rattle.cfgsection.proofs.NamedPlaces.{fault_at}
+use Rattle.cfgsection.proofs.NamedOffsets.{fault_at}
 use Rattle.cfgsection.proofs.named.kind_named.Goals as goal
 
 pub returns-in_err-entries-clause-one : goal.returns-in_err-entries-clause-one
@@ -32,8 +32,8 @@ returns-in_err-kind-clause-naming c =
     let p = err_from_is_err_and c.from_residual-in_err-kind.result c.from_residual-in_err-kind.ensures.1 in
     rw (p.1, p.2) (refused_value c)
 
-pub returns-in_err-kind-clause-places : goal.returns-in_err-kind-clause-places
-returns-in_err-kind-clause-places c =
+pub returns-in_err-kind-clause-offsets : goal.returns-in_err-kind-clause-offsets
+returns-in_err-kind-clause-offsets c =
     let p = err_from_is_err_and c.from_residual-in_err-kind.result c.from_residual-in_err-kind.ensures.1 in
     rw (p.1, p.2) (fault_at c.args.text.now c.utf8.text (Err c.in_err-kind.field-0.0) (refused_value c))
 

@@ -5,7 +5,7 @@ use Rattle.cfgsection.specs.SectionReads.{entry_view}
 use Rattle.cfgsection.specs.Inner.Steps.{end_view}
 use Rattle.cfgsection.specs.declared.section.header_fault.HeaderFault.TheVariants as faults
 use Rattle.cfgsection.proofs.Refusals.{read_lists}
-use Rattle.cfgsection.proofs.SectionAnswers.{read_fault}
+use Rattle.cfgsection.proofs.SectionResults.{read_fault}
 use Rattle.cfgsection.proofs.SectionOne.{read_whole, read_stopped, read_repeated}
 use Rattle.cfgsection.proofs.section.section_entries.Goals as goal
 
@@ -28,12 +28,12 @@ returns-clause-answer c =
     let none : c.in_ok-errors.errors.items ≡ [] = first_of (search rules, grind (arith, common_steps)) in
     read_whole c.args.required c.args.text.now read.entries.items read.end c.in_ok-errors.errors read.ensures.entries read.ensures.end found c.in-Ok.rest c.in-Ok.is none
 
-pub returns-in_default-clause-fault_places : goal.returns-in_default-clause-fault_places
-returns-in_default-clause-fault_places c =
+pub returns-in_default-clause-fault_offsets : goal.returns-in_default-clause-fault_offsets
+returns-in_default-clause-fault_offsets c =
     read_fault c.args.text.now c.in_ok-entries.ensures.utf8 c.args.required (Err (faults.Errors c.in_ok-errors.errors)) (returns-in_default-clause-answer c)
 
-pub returns-then-not-is_empty-clause-fault_places : goal.returns-then-not-is_empty-clause-fault_places
-returns-then-not-is_empty-clause-fault_places c =
+pub returns-then-not-is_empty-clause-fault_offsets : goal.returns-then-not-is_empty-clause-fault_offsets
+returns-then-not-is_empty-clause-fault_offsets c =
     read_fault c.args.text.now c.in_ok-entries.ensures.utf8 c.args.required (Err (faults.Errors c.in_ok-errors.errors)) (returns-then-not-is_empty-clause-answer c)
 
 pub returns-in_default-clause-listed : goal.returns-in_default-clause-listed

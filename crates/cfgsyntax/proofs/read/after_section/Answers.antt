@@ -1,5 +1,5 @@
 use Rattle.std.proofs.lemmas.Result.{err_from_is_err_and}
-use Rattle.cfgsyntax.proofs.Behind.{faulty}
+use Rattle.cfgsyntax.proofs.After.{faulty}
 use Rattle.cfgsyntax.proofs.read.after_section.Goals as goal
 
 pub returns : goal.returns

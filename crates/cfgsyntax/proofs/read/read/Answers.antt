@@ -1,6 +1,6 @@
 use Rattle.std.proofs.Common.{refl, ◌∙◌, Err, subst}
 use Rattle.cfgsyntax.specs.Inner.Steps.{IsReadSection}
-use Rattle.cfgsyntax.proofs.Behind.{shorter}
+use Rattle.cfgsyntax.proofs.After.{shorter}
 use Rattle.cfgsyntax.proofs.OneReading.{one_reading, read_by, read_on}
 use Rattle.cfgsyntax.proofs.read.read.Goals as goal
 
@@ -13,15 +13,15 @@ returns-in-Err-Errors-clause-one c = one_reading c.args.kind c.args.text.now
 pub returns-in-Err-OutOfMemory-clause-one : goal.returns-in-Err-OutOfMemory-clause-one
 returns-in-Err-OutOfMemory-clause-one c = one_reading c.args.kind c.args.text.now
 
-pub read_behind-requires : goal.read_behind-requires
-read_behind-requires c =
+pub read_after-requires : goal.read_after-requires
+read_after-requires c =
     let after = subst (IsReadSection c.args.text.now) c.in-Ok.is c.requires in
     shorter c.args.text.now c.utf8.text _ c.in-Ok.rest.now after.1
 
 pub returns-in-Ok-clause-read : goal.returns-in-Ok-clause-read
 returns-in-Ok-clause-read c =
     let after = subst (IsReadSection c.args.text.now) c.in-Ok.is c.requires in
-    read_on c.args.kind c.args.text.now c.in-Ok.rest.now _ refl after.0 after.1 c.read_behind.result c.read_behind.ensures
+    read_on c.args.kind c.args.text.now c.in-Ok.rest.now _ refl after.0 after.1 c.read_after.result c.read_after.ensures
 
 pub returns-in-Err-Errors-clause-read : goal.returns-in-Err-Errors-clause-read
 returns-in-Err-Errors-clause-read c =

@@ -50,8 +50,8 @@ fn duplicate_errors(
         ≡ map duplicate_error (duplicates (map occurrence_view occurrences.now))) }
 {
     let mut errors = Vec::new(alloc);
-    for (what, places) in duplicates(alloc, occurrences)? {
-        errors.push(YaccGrammarError::new(repeated_kind(what.kind), places))?;
+    for (what, offsets) in duplicates(alloc, occurrences)? {
+        errors.push(YaccGrammarError::new(repeated_kind(what.kind), offsets))?;
     }
     Ok(errors)
 }
@@ -109,8 +109,8 @@ pub(super) fn errors_found(
 {
     let mut errors = duplicate_errors(alloc, ast.occurrences())?;
     errors.append(&mut stop_errors(alloc, stop)?)?;
-    if let Err(unfit) = check(ast) {
-        errors.push(unfit.error(alloc)?)?;
+    if let Err(invalid) = check(ast) {
+        errors.push(invalid.error(alloc)?)?;
     }
     Ok(errors)
 }

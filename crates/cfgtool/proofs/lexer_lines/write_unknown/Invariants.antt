@@ -4,6 +4,6 @@ use Rattle.cfgtool.specs.LexerLines.{unknown_line_at}
 use Rattle.cfgtool.proofs.lexer_lines.write_unknown.Given as goal
 
 -- the lines so far are written
-abbrev pub invariant-loop-place : goal.invariant-loop-place
-invariant-loop-place l = string_bytes l.lines
-    ≡ string_bytes l.initial.lines ++ flat_map (unknown_line_at (map (λ name. name.now) l.names)) (take l.place-index l.places)
+abbrev pub invariant-loop-position : goal.invariant-loop-position
+invariant-loop-position l = string_bytes l.lines
+    ≡ string_bytes l.initial.lines ++ flat_map (unknown_line_at (map (λ name. name.now) l.names)) (take l.position-index l.positions)

@@ -1,7 +1,7 @@
 use Rattle.std.proofs.Common.{◌++◌, ◌∙◌, codes, string_bytes, ap}
 use Rattle.std.specs.Fmt.{decimal}
 use Rattle.std.proofs.lemmas.Result.{on_ok_weaker}
-use Rattle.cfgtool.proofs.Told.{line_shown}
+use Rattle.cfgtool.proofs.Reported.{line_shown}
 use Rattle.cfgtool.proofs.lines.write_production.Goals as goal
 
 pub returns : goal.returns

@@ -14,7 +14,7 @@ returns-in-Ok-clause-minimal c =
     let sentences = map (numbers_of (λ (s : ℕ). s)) c.in-Ok.sentences.items in
     subst (λ g. ListsMinimal (HasProduction g) (token_cost x) c.args.ridx.0 sentences) c.requires.same
     (listed (HasProduction x.grammar) (token_cost x) c.args.ridx.0 sentences c.in-Ok.ensures.all c.in-Ok.ensures.order
-    (λ dear. let is = c.in-Ok.is in let refused = c.in-Ok.ensures.dear.1 dear in cc))
+    (λ too_large. let is = c.in-Ok.is in let refused = c.in-Ok.ensures.too_large.1 too_large in cc))
 
 pub returns-in-Ok-clause-tokens : goal.returns-in-Ok-clause-tokens
 returns-in-Ok-clause-tokens c =
@@ -41,9 +41,9 @@ returns-in-Err-CostTooLarge c =
     let x = c.args.generator.now in
     let sentences = map (numbers_of (λ (s : ℕ). s)) c.new-in-Err-CostTooLarge.result.items in
     let empty = ap (map (numbers_of (λ (s : ℕ). s))) c.new-in-Err-CostTooLarge.ensures.items in
-    let dear = c.min_sentences.ensures.dear.0 (c.in-Err-CostTooLarge.is ∙ ap Err c.in-Err-CostTooLarge.field-0-is) in
+    let too_large = c.min_sentences.ensures.too_large.0 (c.in-Err-CostTooLarge.is ∙ ap Err c.in-Err-CostTooLarge.field-0-is) in
     record {
       minimal = subst (λ g. ListsMinimal (HasProduction g) (token_cost x) c.args.ridx.0 sentences) c.requires.same
-          (none_cheap (HasProduction x.grammar) (token_cost x) c.args.ridx.0 sentences empty dear);
+          (none_cheap (HasProduction x.grammar) (token_cost x) c.args.ridx.0 sentences empty too_large);
       tokens = all_of_none (AreNamed c.args.grammar.now) sentences empty;
     }

@@ -2,9 +2,9 @@ use Rattle.std.proofs.Common.{ℕ, ◌++◌, map, string_bytes, refl, subst, ap,
 use Rattle.std.specs.List.{concat}
 use Rattle.std.proofs.lemmas.Result.{on_ok_weaker}
 use Rattle.cfgrammar.specs.Grammar.{Grammar, HasProduction}
-use Rattle.cfgrammar.specs.Generator.{AnswersLeast, token_cost}
-use Rattle.cfgrammar.specs.Sentences.{AnswersGreatest, numbers_of}
-use Rattle.cfgtool.specs.SentenceLines.{TellsRule, cost_line, sentence_line}
+use Rattle.cfgrammar.specs.Generator.{ReturnsLeast, token_cost}
+use Rattle.cfgrammar.specs.Sentences.{ReturnsGreatest, numbers_of}
+use Rattle.cfgtool.specs.SentenceLines.{ReportsRule, cost_line, sentence_line}
 use Rattle.cfgtool.proofs.sentence_lines.write_rule.Goals as goal
 
 pub returns : goal.returns
@@ -17,24 +17,24 @@ returns c =
     let sentences = map (numbers_of (λ (s : ℕ). s)) c.in_ok-sentences.sentences.items in
     let line = cost_line c.rule_name_str.result.now least.result greatest.result in
     let lists = concat (map (sentence_line g) sentences) in
-    let tells_least : AnswersLeast (HasProduction x.grammar) (token_cost x) r least.result =
-    record { least = least.ensures.least; found = least.ensures.found; none = least.ensures.none; dear = least.ensures.dear } in
-    let tells_greatest : AnswersGreatest (HasProduction x.grammar) (token_cost x) r greatest.result =
+    let reports_least : ReturnsLeast (HasProduction x.grammar) (token_cost x) r least.result =
+    record { least = least.ensures.least; found = least.ensures.found; none = least.ensures.none; too_large = least.ensures.too_large } in
+    let reports_greatest : ReturnsGreatest (HasProduction x.grammar) (token_cost x) r greatest.result =
     record { none = greatest.ensures.none; unbounded = greatest.ensures.unbounded; greatest = greatest.ensures.greatest; too_large = greatest.ensures.too_large } in
-    let told : TellsRule g (token_cost x) r (line ++ lists) = record {
+    let reported : ReportsRule g (token_cost x) r (line ++ lists) = record {
       name = c.rule_name_str.result.now;
       least = least.result;
       greatest = greatest.result;
       sentences = sentences;
       named = c.rule_name_str.ensures;
-      tells_least = subst (λ (h : Grammar). AnswersLeast (HasProduction h) (token_cost x) r least.result) c.requires.same tells_least;
-      tells_greatest = subst (λ (h : Grammar). AnswersGreatest (HasProduction h) (token_cost x) r greatest.result) c.requires.same tells_greatest;
-      tells_sentences = c.in_ok-sentences.ensures.minimal;
-      told = refl;
+      reports_least = subst (λ (h : Grammar). ReturnsLeast (HasProduction h) (token_cost x) r least.result) c.requires.same reports_least;
+      reports_greatest = subst (λ (h : Grammar). ReturnsGreatest (HasProduction h) (token_cost x) r greatest.result) c.requires.same reports_greatest;
+      reports_sentences = c.in_ok-sentences.ensures.minimal;
+      reported = refl;
     } in
     on_ok_weaker c.write_sentences.result (λ added. (
       line ++ lists,
-      told,
+      reported,
       added ∙ ap (λ ss. string_bytes c.write_costs.new.lines ++ concat (map (sentence_line g) (map (numbers_of (λ (s : ℕ). s)) ss))) c.deref.ensures.value
           ∙ ap (λ t. t ++ lists) c.in_ok-write_costs.ensures
           ∙ append_assoc (string_bytes c.args.lines.now) line lists,

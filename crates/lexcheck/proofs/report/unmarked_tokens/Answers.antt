@@ -2,12 +2,12 @@ use Rattle.std.proofs.Common.{◌≡◌, ℕ, ◌≤◌, cond, [], ◌∷◌, �
 use Rattle.std.proofs.lemmas.List.{length-map, take_all}
 use Rattle.std.proofs.lemmas.Option.{slice_get-map}
 use Rattle.std.specs.declared.ops.Range.{Range}
-use Rattle.cfgrammar.specs.Lists.{places}
+use Rattle.cfgrammar.specs.Lists.{positions}
 use Rattle.cfgrammar.specs.Numbered.{NumberedToken}
 use Rattle.cfgrammar.specs.TIdx.{TIdx}
 use Rattle.cfgrammar.specs.TokenNames.{token_names}
 use Rattle.lexcheck.specs.LexerNames.{is_missing}
-use Rattle.lexcheck.proofs.Marked.{places_more, pushed_shown, token_has_name}
+use Rattle.lexcheck.proofs.Marked.{positions_more, pushed_shown, token_has_name}
 use Rattle.lexcheck.proofs.report.unmarked_tokens.Goals as goal
 
 pub returns : goal.returns
@@ -15,7 +15,7 @@ returns g c =
     let tokens = token_names c.args.grm.now in
     let past : length tokens ≤ c.loop-tidx.tidx-iterator.start =
     omega (arith, c.in-None.ensures.steps.0, c.loop-tidx.invariant.0, length-map c.args.grm.now.tokens (λ (token : NumberedToken). token.name)) in
-    c.loop-tidx.invariant.2 ∙ ap (places (is_missing (map (λ name. name.now) c.args.names.now))) (take_all c.loop-tidx.tidx-iterator.start tokens past)
+    c.loop-tidx.invariant.2 ∙ ap (positions (is_missing (map (λ name. name.now) c.args.names.now))) (take_all c.loop-tidx.tidx-iterator.start tokens past)
 
 pub is_unmarked-unmarked-requires-clause-named : goal.is_unmarked-unmarked-requires-clause-named
 is_unmarked-unmarked-requires-clause-named g c = token_has_name c.args.grm.now.tokens _ c.token_name.result c.token_name.ensures.value
@@ -34,8 +34,8 @@ loop-tidx-preserved g c =
       omega (arith, start, end, steps.1),
       ap (map number) c.in_ok-push_if.ensures
           ∙ pushed_shown number c.is_unmarked-unmarked.result c.loop-tidx.missing.items _ _ _ c.loop-tidx.invariant.2 steps.0
-          ∙ ap (λ b. cond b (places missing (take c.loop-tidx.tidx-iterator.start tokens) ++ c.loop-tidx.tidx-iterator.start ∷ [])
-          (places missing (take c.loop-tidx.tidx-iterator.start tokens))) c.is_unmarked-unmarked.ensures
-          ∙ sym (places_more missing tokens c.loop-tidx.tidx-iterator.start _ there)
-          ∙ ap (λ k. places missing (take k tokens)) (sym start),
+          ∙ ap (λ b. cond b (positions missing (take c.loop-tidx.tidx-iterator.start tokens) ++ c.loop-tidx.tidx-iterator.start ∷ [])
+          (positions missing (take c.loop-tidx.tidx-iterator.start tokens))) c.is_unmarked-unmarked.ensures
+          ∙ sym (positions_more missing tokens c.loop-tidx.tidx-iterator.start _ there)
+          ∙ ap (λ k. positions missing (take k tokens)) (sym start),
     )

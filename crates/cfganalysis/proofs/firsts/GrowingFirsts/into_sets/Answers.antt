@@ -2,4 +2,4 @@ use Rattle.std.proofs.Common.{ap, ◌∙◌}
 use Rattle.cfganalysis.proofs.firsts.GrowingFirsts.into_sets.Goals as goal
 
 pub returns : goal.returns
-returns g c = ap (λ t. record { firsts = t; epsilons = c.self.inside.epsilons }) c.in_ok-from_words.ensures ∙ c.self.view_is
+returns g c = ap (λ t. record { firsts = t; nullable = c.self.inside.nullable }) c.in_ok-from_words.ensures ∙ c.self.view_is

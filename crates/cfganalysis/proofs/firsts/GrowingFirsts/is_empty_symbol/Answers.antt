@@ -8,5 +8,5 @@ use Rattle.cfganalysis.proofs.firsts.GrowingFirsts.is_empty_symbol.Goals as goal
 
 pub returns-in-Rule : goal.returns-in-Rule
 returns-in-Rule g c = subst (λ s. c.unwrap_or.result ≡ is_empty_symbol c.args.self.now s) (sym (ap (sym_of g.S.Storage.number) c.in-Rule.is))
-    (c.unwrap_or.ensures ∙ ap (λ o. unwrap_or o false) c.get.ensures ∙ unwrap_or-slice_get c.self.inside.epsilons c.from.result false
-    ∙ ap (λ x. get_or x.epsilons c.from.result false) c.self.view_is ∙ ap (epsilon_bit c.args.self.now) c.from.ensures)
+    (c.unwrap_or.ensures ∙ ap (λ o. unwrap_or o false) c.get.ensures ∙ unwrap_or-slice_get c.self.inside.nullable c.from.result false
+    ∙ ap (λ x. get_or x.nullable c.from.result false) c.self.view_is ∙ ap (epsilon_bit c.args.self.now) c.from.ensures)

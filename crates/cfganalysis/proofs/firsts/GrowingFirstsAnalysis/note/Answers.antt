@@ -1,4 +1,4 @@
-use Rattle.cfgtables.proofs.Placed.{all_symbols}
+use Rattle.cfgtables.proofs.Located.{all_symbols}
 use Rattle.cfganalysis.proofs.firsts.GrowingFirstsAnalysis.note.Goals as goal
 
 pub note_rules-requires : goal.note_rules-requires

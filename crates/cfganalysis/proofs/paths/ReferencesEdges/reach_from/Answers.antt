@@ -1,6 +1,6 @@
 use Rattle.std.proofs.Common.{◌<◌, arith, map, sym, subst}
 use Rattle.std.proofs.lemmas.Result.{IfOk-weaker}
-use Rattle.cfgtables.specs.Openings.{ArePlacesOf}
+use Rattle.cfgtables.specs.Openings.{ArePositionsOf}
 use Rattle.cfganalysis.proofs.References.{held_by_rule}
 use Rattle.cfganalysis.proofs.paths.ReferencesEdges.reach_from.Goals as goal
 
@@ -16,6 +16,6 @@ reach_held-requires-clause-productions g c = c.rule_to_prods-productions.ensures
 pub returns : goal.returns
 returns g c =
     let grammar = g.T.Tables.grammar c.args.self.now.tables.now in
-    let places = map (λ p. g.S.Storage.number p.0) c.rule_to_prods-productions.result.now in
-    let are = subst (λ rule. ArePlacesOf grammar rule places) c.to_storage.ensures c.rule_to_prods-productions.ensures in
-    IfOk-weaker c.reach_held.result _ _ (λ _ w. held_by_rule grammar c.args.node places are _ _ w) c.reach_held.ensures
+    let positions = map (λ p. g.S.Storage.number p.0) c.rule_to_prods-productions.result.now in
+    let are = subst (λ rule. ArePositionsOf grammar rule positions) c.to_storage.ensures c.rule_to_prods-productions.ensures in
+    IfOk-weaker c.reach_held.result _ _ (λ _ w. held_by_rule grammar c.args.node positions are _ _ w) c.reach_held.ensures

@@ -1,5 +1,5 @@
-use Rattle.cfganalysis.proofs.Noting.{LetsWaitFront}
+use Rattle.cfganalysis.proofs.Noting.{LetsWaitPrefix}
 use Rattle.cfganalysis.proofs.work.Users.let_wait.Given as goal
 
 abbrev pub invariant-loop-production : goal.invariant-loop-production
-invariant-loop-production l = LetsWaitFront l.production-items l.production-index l.fn.waiting l.waiting
+invariant-loop-production l = LetsWaitPrefix l.production-items l.production-index l.fn.waiting l.waiting

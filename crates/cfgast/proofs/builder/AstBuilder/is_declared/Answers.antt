@@ -1,7 +1,7 @@
 use Rattle.std.proofs.Common.{ℕ, false, ◌==◌, Option, bytes_eq, string_bytes, sym, ap, ◌∙◌}
 use Rattle.std.specs.List.{list_any}
 use Rattle.std.specs.Option.{option_map_or}
-use Rattle.lemmas.proofs.Places.{position-map}
+use Rattle.lemmas.proofs.Positions.{position-map}
 use Rattle.cfgast.specs.Building.{is_declared}
 use Rattle.cfgast.specs.SyntaxView.{syntax_view, syntax_built}
 use Rattle.cfgast.proofs.Found.{none_declared}

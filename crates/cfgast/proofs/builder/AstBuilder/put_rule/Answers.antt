@@ -1,7 +1,7 @@
 use Rattle.std.proofs.Common.{◌≡◌, refl, [], ◌∷◌, ◌++◌, map, sym, ap, ◌∙◌}
 use Rattle.std.specs.List.{position_or_len}
 use Rattle.std.specs.Map.{keys_of}
-use Rattle.lemmas.proofs.Places.{place_found}
+use Rattle.lemmas.proofs.Positions.{position_found}
 use Rattle.cfgast.specs.Syntax.{index_of, typed}
 use Rattle.cfgast.specs.Building.{new_rule}
 use Rattle.cfgast.specs.SyntaxView.{syntax_view, syntax_built, rule_entry, rule_view, head_view}
@@ -21,7 +21,7 @@ unfolding syntax_built syntax_view
 returns-in-Some-clause-index c =
     let name = c.args.head.name.name.now in
     let rules = c.args.self.now.syntax.rules.entries in
-    place_found (is_key name) (keys_of rules) c.in-Some.index c.in-Some.ensures.index ∙ sym (rule_index name rules)
+    position_found (is_key name) (keys_of rules) c.in-Some.index c.in-Some.ensures.index ∙ sym (rule_index name rules)
 
 -- the rules, with the new one at the end
 grown : (c : goal.Joined-branch-4) → map rule_entry c.insert_full.new.self.entries

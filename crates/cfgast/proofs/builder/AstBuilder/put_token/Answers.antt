@@ -1,6 +1,6 @@
 use Rattle.std.proofs.Common.{◌≡◌, false, [], ◌∷◌, ◌++◌, map, string_bytes, sym, ap, ◌∙◌}
 use Rattle.lemmas.specs.Lists.{pushed_unless}
-use Rattle.lemmas.proofs.Places.{place_found}
+use Rattle.lemmas.proofs.Positions.{position_found}
 use Rattle.cfgast.specs.Syntax.{index_of}
 use Rattle.cfgast.specs.Building.{has_name}
 use Rattle.cfgast.specs.SyntaxView.{syntax_view, syntax_built, word_view}
@@ -19,7 +19,7 @@ unfolding syntax_built syntax_view
 returns-in-Some-clause-index c =
     let name = c.args.word.name.now in
     let keys = c.args.self.now.syntax.tokens.keys in
-    place_found (is_key name) keys c.in-Some.index c.in-Some.ensures.index ∙ sym (index_of-keys name keys)
+    position_found (is_key name) keys c.in-Some.index c.in-Some.ensures.index ∙ sym (index_of-keys name keys)
 
 pub returns-clause-added : goal.returns-clause-added
 unfolding syntax_built syntax_view

@@ -1,22 +1,22 @@
 use Rattle.std.proofs.Common.{◌≡◌, ℕ, zero, suc, ◌∷◌, Option, None, map, replicate, refl, ap, ◌∙◌}
 use Rattle.cfgindex.specs.declared.idxnewtype.PIdx.{PIdx}
-use Rattle.cfgchoices.specs.Inner.Kinds.{places_of}
-use Rattle.cfgchoices.specs.Inner.Offers.{offers_of, place_of}
+use Rattle.cfgchoices.specs.Inner.Kinds.{positions_of}
+use Rattle.cfgchoices.specs.Inner.Candidates.{candidates_of, position_of}
 use Rattle.cfgchoices.proofs.Climbed.{climbed_begins}
 use Rattle.cfgchoices.proofs.first.levels.choices_by_cost.Goals as goal
 
-no_places : {S : Type 0} (number : S → ℕ) (n : ℕ) → map (place_of number) (replicate {A = Option (PIdx S)} n None) ≡ replicate n None
-no_places number zero = refl
-no_places number (suc n) = ap (λ l. None ∷ l) (no_places number n)
+no_positions : {S : Type 0} (number : S → ℕ) (n : ℕ) → map (position_of number) (replicate {A = Option (PIdx S)} n None) ≡ replicate n None
+no_positions number zero = refl
+no_positions number (suc n) = ap (λ l. None ∷ l) (no_positions number n)
 
 pub choose_by_cost-requires : goal.choose_by_cost-requires
 choose_by_cost-requires g c =
     let number = g.S.Storage.number in
-    climbed_begins c.args.tight.now
-    (offers_of number (record { alloc = c.args.alloc; choices = c.in_ok-choices.choices; number = 0; cost = 0; ready = c.new.result; level = c.new-2.result; foremost = c.in_ok-foremost.foremost }))
+    climbed_begins c.args.optimal.now
+    (candidates_of number (record { alloc = c.args.alloc; choices = c.in_ok-choices.choices; number = 0; cost = 0; ready = c.new.result; level = c.new-2.result; foremost = c.in_ok-foremost.foremost }))
     (c.in_ok-choices.ensures ∙ ap (λ (n : ℕ). replicate {A = Option (ℕ × ℕ)} n None) c.requires) refl
-    (ap (places_of number) c.new.ensures.items) (ap (places_of number) c.new-2.ensures.items)
-    (ap (map (place_of number)) c.in_ok-foremost.ensures ∙ no_places number _ ∙ ap (λ (n : ℕ). replicate {A = Option ℕ} n None) c.requires)
+    (ap (positions_of number) c.new.ensures.items) (ap (positions_of number) c.new-2.ensures.items)
+    (ap (map (position_of number)) c.in_ok-foremost.ensures ∙ no_positions number _ ∙ ap (λ (n : ℕ). replicate {A = Option ℕ} n None) c.requires)
 
 pub returns : goal.returns
 returns g c = record { walks = c.in_ok-choose_by_cost.ensures.walks; first = c.in_ok-choose_by_cost.ensures.first }

@@ -3,18 +3,18 @@ use Rattle.cfgindex.specs.declared.idxnewtype.PIdx.{PIdx}
 use Rattle.cfgleast.specs.Certificate.{choice_of}
 use Rattle.cfgchoices.specs.Inner.FirstChoices.{AreFirst, Walks}
 use Rattle.cfgleast.specs.Generator.{CostTables}
-use Rattle.cfgchoices.specs.Inner.Offers.{by}
+use Rattle.cfgchoices.specs.Inner.Candidates.{by}
 use Rattle.cfgchoices.proofs.first.levels.first_choices.Goals as goal
 
 pub choices_by_cost-requires : goal.choices_by_cost-requires
-choices_by_cost-requires g c = c.from.ensures ∙ c.rules_len.ensures.value ∙ sym (ap (λ (x : CostTables). x.grammar.rules) c.in_ok-tight.ensures)
+choices_by_cost-requires g c = c.from.ensures ∙ c.rules_len.ensures.value ∙ sym (ap (λ (x : CostTables). x.grammar.rules) c.in_ok-optimal.ensures)
 
-told : {S : Type 0} (number : S → ℕ) {E : Type 0} (x y : CostTables) → x ≡ y → (Is : CostTables → Type 0) (result : Result (Vec (Option (PIdx S × ℕ)) Global) E)
+reported : {S : Type 0} (number : S → ℕ) {E : Type 0} (x y : CostTables) → x ≡ y → (Is : CostTables → Type 0) (result : Result (Vec (Option (PIdx S × ℕ)) Global) E)
     → IfOk result (λ firsts. Is (by x (map (choice_of number) firsts.items))) → IfOk result (λ firsts. Is (by y (map (choice_of number) firsts.items)))
-told number x y same Is result is = subst (λ z. IfOk result (λ firsts. Is (by z (map (choice_of number) firsts.items)))) same is
+reported number x y same Is result is = subst (λ z. IfOk result (λ firsts. Is (by z (map (choice_of number) firsts.items)))) same is
 
 pub returns : goal.returns
 returns g c = record {
-  walks = told g.S.Storage.number _ _ c.in_ok-tight.ensures Walks c.choices_by_cost.result c.choices_by_cost.ensures.walks;
-  first = told g.S.Storage.number _ _ c.in_ok-tight.ensures AreFirst c.choices_by_cost.result c.choices_by_cost.ensures.first;
+  walks = reported g.S.Storage.number _ _ c.in_ok-optimal.ensures Walks c.choices_by_cost.result c.choices_by_cost.ensures.walks;
+  first = reported g.S.Storage.number _ _ c.in_ok-optimal.ensures AreFirst c.choices_by_cost.result c.choices_by_cost.ensures.first;
 }

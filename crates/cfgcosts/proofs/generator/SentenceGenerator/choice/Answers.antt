@@ -24,7 +24,7 @@ pub returns-in-Err-clause-none : goal.returns-in-Err-clause-none
 returns-in-Err-clause-none g c =
     let e = c.in-Err.ensures in (
       (λ _. refused (HasProduction c.args.self.now.grammar) (token_cost c.args.self.now) (g.S.Storage.number c.args.rule.0) c.in-Err.field-0
-          (record { least = tt; found = e.found; none = e.none; dear = e.dear })),
+          (record { least = tt; found = e.found; none = e.none; too_large = e.too_large })),
       (λ _. refl),
     )
 

@@ -13,8 +13,8 @@ returns-in_err-min_sentence_cost-clause-walked g c = unanswered _ _ c.from_resid
 pub returns-in_err-min_sentence_cost-clause-none : goal.returns-in_err-min_sentence_cost-clause-none
 returns-in_err-min_sentence_cost-clause-none g c = refused c.in_err-min_sentence_cost.field-0.0 NoSentence c.from_residual.ensures.1 c.in_err-min_sentence_cost.ensures.none
 
-pub returns-in_err-min_sentence_cost-clause-dear : goal.returns-in_err-min_sentence_cost-clause-dear
-returns-in_err-min_sentence_cost-clause-dear g c = refused c.in_err-min_sentence_cost.field-0.0 CostTooLarge c.from_residual.ensures.1 c.in_err-min_sentence_cost.ensures.dear
+pub returns-in_err-min_sentence_cost-clause-too_large : goal.returns-in_err-min_sentence_cost-clause-too_large
+returns-in_err-min_sentence_cost-clause-too_large g c = refused c.in_err-min_sentence_cost.field-0.0 CostTooLarge c.from_residual.ensures.1 c.in_err-min_sentence_cost.ensures.too_large
 
 pub returns-in_err-min_sentence_cost-clause-refused : goal.returns-in_err-min_sentence_cost-clause-refused
 returns-in_err-min_sentence_cost-clause-refused g c = λ _. refl
@@ -28,8 +28,8 @@ returns-in_err-sentence-clause-stopped g c = λ _. c.in_err-sentence.ensures.sto
 pub returns-in_err-sentence-clause-none : goal.returns-in_err-sentence-clause-none
 returns-in_err-sentence-clause-none g c = known_memory c.in_ok-min_sentence_cost.field-0 NoSentence c.from_residual-in_err-sentence.ensures.1 c.in_ok-min_sentence_cost.ensures.none
 
-pub returns-in_err-sentence-clause-dear : goal.returns-in_err-sentence-clause-dear
-returns-in_err-sentence-clause-dear g c = known_memory c.in_ok-min_sentence_cost.field-0 CostTooLarge c.from_residual-in_err-sentence.ensures.1 c.in_ok-min_sentence_cost.ensures.dear
+pub returns-in_err-sentence-clause-too_large : goal.returns-in_err-sentence-clause-too_large
+returns-in_err-sentence-clause-too_large g c = known_memory c.in_ok-min_sentence_cost.field-0 CostTooLarge c.from_residual-in_err-sentence.ensures.1 c.in_ok-min_sentence_cost.ensures.too_large
 
 pub returns-in_err-sentence-clause-refused : goal.returns-in_err-sentence-clause-refused
 returns-in_err-sentence-clause-refused g c = λ h. absurd (elim h [
@@ -40,8 +40,8 @@ returns-in_err-sentence-clause-refused g c = λ h. absurd (elim h [
 pub returns-clause-none : goal.returns-clause-none
 returns-clause-none g c = known_sentence c.in_ok-sentence.sentence c.in_ok-min_sentence_cost.field-0 NoSentence refl c.in_ok-min_sentence_cost.ensures.none
 
-pub returns-clause-dear : goal.returns-clause-dear
-returns-clause-dear g c = known_sentence c.in_ok-sentence.sentence c.in_ok-min_sentence_cost.field-0 CostTooLarge refl c.in_ok-min_sentence_cost.ensures.dear
+pub returns-clause-too_large : goal.returns-clause-too_large
+returns-clause-too_large g c = known_sentence c.in_ok-sentence.sentence c.in_ok-min_sentence_cost.field-0 CostTooLarge refl c.in_ok-min_sentence_cost.ensures.too_large
 
 pub returns-clause-walked : goal.returns-clause-walked
 returns-clause-walked g c = c.in_ok-sentence.ensures.walked

@@ -2,7 +2,7 @@ use Rattle.std.proofs.Common.{◌≡◌, None, Some, ap, cond, get_or, sym, subs
 use Rattle.std.proofs.lemmas.Bool.{lt-leb}
 use Rattle.derivation.specs.CostLists.{rule_cost}
 use Rattle.cfgleast.specs.Generator.{CostTables, IsGenerator, up_to_limit}
-use Rattle.cfgleast.proofs.Generated.{entry_read, reads_none, reads_cost, reads_dear, some_answered}
+use Rattle.cfgleast.proofs.Generated.{entry_read, reads_none, reads_cost, reads_too_large, some_answered}
 use Rattle.cfgcosts.proofs.generator.SentenceGenerator.min_sentence_cost.Given.{Over}
 use Rattle.cfgcosts.proofs.generator.SentenceGenerator.min_sentence_cost.Goals.{After-index}
 use Rattle.cfgcosts.proofs.generator.SentenceGenerator.min_sentence_cost.Goals as goal
@@ -22,18 +22,18 @@ returns-in-Some g c =
     let at = (goal.at.returns-in-Some g c).After-index in
     let known = read g at ∙ c.in-Some.is in
     let a = reads_cost c.args.self.now c.self.inside.settled.number (is g at) (g.S.Storage.number c.args.rule.0) c.in-Some.cost known (omega (arith, c.if-cost-lt-TOO_LARGE.true)) in
-    record { least = a.least; found = a.found; none = a.none; dear = a.dear; answer = sym (some_answered _ c.in-Some.cost known (omega (arith, c.if-cost-lt-TOO_LARGE.true))) }
+    record { least = a.least; found = a.found; none = a.none; too_large = a.too_large; answer = sym (some_answered _ c.in-Some.cost known (omega (arith, c.if-cost-lt-TOO_LARGE.true))) }
 
 pub returns-in-Some-2 : goal.returns-in-Some-2
 returns-in-Some-2 g c =
     let at = (goal.at.returns-in-Some-2 g c).After-index in
     let known = read g at ∙ c.in-Some.is in
-    let a = reads_dear c.args.self.now c.self.inside.settled.number (is g at) (g.S.Storage.number c.args.rule.0) c.in-Some.cost known (omega (arith, c.if-cost-lt-TOO_LARGE.false)) in
+    let a = reads_too_large c.args.self.now c.self.inside.settled.number (is g at) (g.S.Storage.number c.args.rule.0) c.in-Some.cost known (omega (arith, c.if-cost-lt-TOO_LARGE.false)) in
     record {
       least = a.least;
       found = a.found;
       none = a.none;
-      dear = a.dear;
+      too_large = a.too_large;
       answer = sym (ap up_to_limit known ∙ ap (λ b. cond b (Some c.in-Some.cost) None) (lt-leb c.in-Some.cost 65535 (omega (arith, c.if-cost-lt-TOO_LARGE.false))));
     }
 
@@ -42,4 +42,4 @@ returns-in-None g c =
     let at = (goal.at.returns-in-None g c).After-index in
     let known = read g at ∙ c.in-None.is in
     let a = reads_none c.args.self.now c.self.inside.settled.number (is g at) (g.S.Storage.number c.args.rule.0) known in
-    record { least = a.least; found = a.found; none = a.none; dear = a.dear; answer = sym (ap up_to_limit known) }
+    record { least = a.least; found = a.found; none = a.none; too_large = a.too_large; answer = sym (ap up_to_limit known) }

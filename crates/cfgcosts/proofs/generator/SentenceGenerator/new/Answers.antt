@@ -1,10 +1,10 @@
 use Rattle.std.proofs.Common.{◌≡◌, ◌<◌, List, ℕ, All, length, arith, refl, sym, subst, ◌∙◌}
 use Rattle.std.specs.Prelude.{slice_index}
-use Rattle.cfggreatest.specs.GreatestCosts.{AreTold}
+use Rattle.cfggreatest.specs.GreatestCosts.{AreGreatestCosts}
 use Rattle.cfgleast.specs.Generator.{IsGeneratorOf, tables_of}
 use Rattle.cfgchoices.specs.Inner.FirstChoices.{AreFirst, Walks}
-use Rattle.cfgchoices.specs.Inner.Kinds.{AreKinds, HasRulesAsHeirs}
-use Rattle.cfgcosts.specs.Inner.Heirs.{AreHeirs, rules_of}
+use Rattle.cfgchoices.specs.Inner.Kinds.{AreKinds, HasRulesAsTargets}
+use Rattle.cfgcosts.specs.Inner.Targets.{AreTargets, rules_of}
 use Rattle.cfgcosts.proofs.generator.SentenceGenerator.new.Given.{Over}
 use Rattle.cfgcosts.proofs.generator.SentenceGenerator.new.Goals.{In_ok-settled}
 use Rattle.cfgcosts.proofs.generator.SentenceGenerator.new.Goals as goal
@@ -34,13 +34,13 @@ first_choices-requires-clause-kinds g c =
     subst (AreKinds g.S.Storage.number (tables_of g.S.Storage.number (g.T.Tables.grammar c.args.tables.now) c.as_slice-by_token.result.now settled.least.items settled.choices.items))
     (sym c.as_slice-by_production.ensures.value) c.in_ok-kinds.ensures.kinds
 
-pub last_heirs-requires-clause-kinds : goal.last_heirs-requires-clause-kinds
-last_heirs-requires-clause-kinds g c =
+pub last_targets-requires-clause-kinds : goal.last_targets-requires-clause-kinds
+last_targets-requires-clause-kinds g c =
     subst (λ l. length l ≡ length (g.T.Tables.grammar c.args.tables.now).productions) (sym c.as_slice-by_production.ensures.value) c.in_ok-kinds.ensures.kinds.all
 
-pub last_heirs-requires-clause-heirs : goal.last_heirs-requires-clause-heirs
-last_heirs-requires-clause-heirs g c =
-    subst (HasRulesAsHeirs g.S.Storage.number (g.T.Tables.grammar c.args.tables.now)) (sym c.as_slice-by_production.ensures.value) c.in_ok-kinds.ensures.heirs
+pub last_targets-requires-clause-targets : goal.last_targets-requires-clause-targets
+last_targets-requires-clause-targets g c =
+    subst (HasRulesAsTargets g.S.Storage.number (g.T.Tables.grammar c.args.tables.now)) (sym c.as_slice-by_production.ensures.value) c.in_ok-kinds.ensures.targets
 
 pub greatest_costs-requires-clause-costs : goal.greatest_costs-requires-clause-costs
 greatest_costs-requires-clause-costs g c = (generator g (goal.at.greatest_costs-requires-clause-costs g c).In_ok-settled).tokens
@@ -56,11 +56,11 @@ invariant_of-result g c =
     let least = settled.least.items in
     let firsts = c.in_ok-firsts.firsts.items in (
       subst (λ (costs : List ℕ). IsGeneratorOf number grammar costs settled) c.as_slice-by_token.ensures.value (generator g (goal.at.invariant_of-result g c).In_ok-settled),
-      subst (λ (costs : List ℕ). AreTold grammar (slice_index costs) c.in_ok-greatest.greatest.items) c.as_slice-by_token.ensures.value c.in_ok-greatest.ensures,
+      subst (λ (costs : List ℕ). AreGreatestCosts grammar (slice_index costs) c.in_ok-greatest.greatest.items) c.as_slice-by_token.ensures.value c.in_ok-greatest.ensures,
       subst (λ (costs : List ℕ). AreKinds number (tables_of number grammar costs least settled.choices.items) c.in_ok-kinds.kinds.items) c.as_slice-by_token.ensures.value c.in_ok-kinds.ensures.kinds,
       subst (λ (costs : List ℕ). Walks (tables_of number grammar costs least firsts)) c.as_slice-by_token.ensures.value c.in_ok-firsts.ensures.walks,
       subst (λ (costs : List ℕ). AreFirst (tables_of number grammar costs least firsts)) c.as_slice-by_token.ensures.value c.in_ok-firsts.ensures.first,
-      subst (λ kinds. AreHeirs number grammar kinds (rules_of number c.in_ok-last_heirs.last_heirs.items)) c.as_slice-by_production.ensures.value c.in_ok-last_heirs.ensures,
+      subst (λ kinds. AreTargets number grammar kinds (rules_of number c.in_ok-last_targets.last_targets.items)) c.as_slice-by_production.ensures.value c.in_ok-last_targets.ensures,
     )
 
 pub returns-clause-costs : goal.returns-clause-costs

@@ -76,11 +76,11 @@ loop-symbol-preserved g c =
     let choice = choice_at (tables g at) _ _ _ _ g.S.Storage.number c.self.inside.firsts.items _ c.from.result c.index.result.now None refl c.from.ensures c.index.ensures c.in_default-index.is now in
     record { same = c.loop-symbol.invariant.same; way = after_free (tables g at) _ _ _ _ _ choice now }
 
-pub open_onto-requires-clause-place : goal.open_onto-requires-clause-place
-open_onto-requires-clause-place g c =
-    let at = goal.at.open_onto-requires-clause-place g c in
+pub open_onto-requires-clause-index : goal.open_onto-requires-clause-index
+open_onto-requires-clause-index g c =
+    let at = goal.at.open_onto-requires-clause-index g c in
     subst (λ (h : Grammar). g.S.Storage.number c.in-Some-index.p.0 < length h.productions) (sym c.loop-symbol.invariant.same)
-    (chosen_next (tables g at.In-Rule) _ _ _ _ _ _ _ (choice g at.In-Some-index) (way g at.In-Rule)).opens.place
+    (chosen_next (tables g at.In-Rule) _ _ _ _ _ _ _ (choice g at.In-Some-index) (way g at.In-Rule)).opens.index
 
 pub open_onto-requires-clause-countable : goal.open_onto-requires-clause-countable
 open_onto-requires-clause-countable g c =
@@ -107,7 +107,7 @@ loop-symbol-smaller-in-Continue-branch-3 g c =
     let rest = map (sym_of number) c.pop.new.self.items in
     let many = g.S.Storage.MAX + 1 in
     let o = (chosen_next (tables g at.In-Rule) _ _ _ _ _ _ _ (choice g at.In-Some-index) (way g at.In-Rule)).opens in
-    let fits = All-get_or (λ p. length p.symbols ≤ g.S.Storage.MAX) x.grammar.productions p (record { rule = 0; symbols = [] }) o.place c.invariant_holds.ensures.fits in
+    let fits = All-get_or (λ p. length p.symbols ≤ g.S.Storage.MAX) x.grammar.productions p (record { rule = 0; symbols = [] }) o.index c.invariant_holds.ensures.fits in
     let now = ap (weigh x many) (c.in_ok-open_onto-in-Rule.ensures.symbols ∙ ap (λ (h : Grammar). rest ++ (nth_production h p).symbols) c.loop-symbol.invariant.same) in
     let before = ap (weigh x many) (last_shown number c.loop-symbol.pending.items c.pop.new.self.items _ _ c.in-Some.ensures.items c.in-Rule.is) in
     let less = lighter_opened x many (omega arith) c.self.invariant.3 rest _ p c.in-Some-index.field-0-1 (choice g at.In-Some-index) (omega (arith, fits)) in

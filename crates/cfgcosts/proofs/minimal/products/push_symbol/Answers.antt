@@ -12,7 +12,7 @@ pub returns-in-None : goal.returns-in-None
 returns-in-None g c =
     let number = g.S.Storage.number in
     let sentences = sentences_in number c.args.table.now in
-    let fronts = words_of number c.args.words in
+    let prefixes = words_of number c.args.words in
     let none : sentences (number c.in-Rule.rule.0) ≡ [] = ap (λ o. unwrap_or (option_map (words_of number) o) []) (ap (get nat_cmp c.args.table.now) (sym c.from.ensures) ∙ sym c.in-None.ensures.value) in
-    ap (map (numbers_of number)) c.new.ensures.items ∙ sym (joined_none fronts)
-    ∙ ap (joined fronts) (sym none ∙ ap (λ s. words_of_symbol sentences (sym_of number s)) (sym c.in-Rule.is))
+    ap (map (numbers_of number)) c.new.ensures.items ∙ sym (joined_none prefixes)
+    ∙ ap (joined prefixes) (sym none ∙ ap (λ s. words_of_symbol sentences (sym_of number s)) (sym c.in-Rule.is))

@@ -22,9 +22,9 @@ returns-in-Header-clause-writes g c = λ plain ok.
     has_written_of_eq _ _ _ _ _ (sym (ap (λ kind. error_text (kind_view kind)) c.in-Header.is))
     (has_written_append _ _ _ _ _ _ before kind)
 
-named_is : (before behind shown name : List ℕ) (kind one : YaccGrammarErrorKind) → shown ≡ name → kind ≡ one → before ++ (name ++ behind) ≡ error_text (kind_view one)
-    → before ++ (shown ++ behind) ≡ error_text (kind_view kind)
-named_is before behind shown name kind one is found told = ap (λ n. before ++ (n ++ behind)) is ∙ told ∙ sym (ap (λ k. error_text (kind_view k)) found)
+named_is : (before after shown name : List ℕ) (kind one : YaccGrammarErrorKind) → shown ≡ name → kind ≡ one → before ++ (name ++ after) ≡ error_text (kind_view one)
+    → before ++ (shown ++ after) ≡ error_text (kind_view kind)
+named_is before after shown name kind one is found reported = ap (λ n. before ++ (n ++ after)) is ∙ reported ∙ sym (ap (λ k. error_text (kind_view k)) found)
 
 pub returns-in-InvalidStartRule : goal.returns-in-InvalidStartRule
 unfolding error_text
@@ -72,7 +72,7 @@ returns-in-UnknownEPP g c =
     }
 
 text_is : (text shown : Bor (List ℕ)) (kind one : YaccGrammarErrorKind) → text ≡ shown → kind ≡ one → shown.now ≡ error_text (kind_view one) → text.now ≡ error_text (kind_view kind)
-text_is text shown kind one is found told = ap (λ (t : Bor (List ℕ)). t.now) is ∙ told ∙ sym (ap (λ k. error_text (kind_view k)) found)
+text_is text shown kind one is found reported = ap (λ (t : Bor (List ℕ)). t.now) is ∙ reported ∙ sym (ap (λ k. error_text (kind_view k)) found)
 
 pub returns : goal.returns
 unfolding error_text

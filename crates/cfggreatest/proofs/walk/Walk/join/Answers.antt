@@ -4,9 +4,9 @@ use Rattle.cfggreatest.proofs.walk.Walk.join.Goals as goal
 
 pub loop-self-preserved : goal.loop-self-preserved
 loop-self-preserved c =
-    let h = c.loop-self-test.ensures.behind refl in
-    joins_more c.args.place c.args.self.now c.loop-self.self _ c.loop-self.invariant h.0 h.1 h.2 refl
+    let h = c.loop-self-test.ensures.after refl in
+    joins_more c.args.index c.args.self.now c.loop-self.self _ c.loop-self.invariant h.0 h.1 h.2 refl
     (c.truncate.ensures.items ∙ ap (λ (n : ℕ). take (n - 1) c.loop-self.self.starts.items) (c.len.ensures ∙ c.loop-self.self.starts.ok.0))
 
 pub returns : goal.returns
-returns c = λ g rule walk out e. joined g c.args.place rule c.args.self.now c.loop-self.self walk out e c.loop-self.invariant (c.loop-self-test.ensures.no_more refl)
+returns c = λ g rule walk out e. joined g c.args.index rule c.args.self.now c.loop-self.self walk out e c.loop-self.invariant (c.loop-self-test.ensures.no_more refl)

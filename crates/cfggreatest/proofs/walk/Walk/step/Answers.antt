@@ -8,7 +8,7 @@ use Rattle.cfggreatest.proofs.Walking.{edges_less, led_out, root_out, steps_on}
 use Rattle.cfggreatest.proofs.walk.Walk.step.Goals as goal
 
 pub follow-requires-clause-out : goal.follow-requires-clause-out
-follow-requires-clause-out g c = root_out (g.T.Tables.grammar c.args.grm.now) c.args.self.now c.args.rule c.requires.walk c.in_default.ensures c.requires.rule c.requires.untold
+follow-requires-clause-out g c = root_out (g.T.Tables.grammar c.args.grm.now) c.args.self.now c.args.rule c.requires.walk c.in_default.ensures c.requires.rule c.requires.unsettled
 
 pub returns-in_default : goal.returns-in_default
 returns-in_default g c = IfOk-weaker c.follow.result _ _ (λ _ goes. steps_on (g.T.Tables.grammar c.args.grm.now) (slice_index c.args.costs.now) c.args.self.now c.args.self.now _

@@ -1,6 +1,6 @@
 use Rattle.std.proofs.Common.{[], ◌∷◌, ◌++◌, slice_set, sym, ap, ◌∙◌}
 use Rattle.cfgleast.specs.Inner.Open.{partials_of}
-use Rattle.derivation.proofs.Rows.{item_shown, set_shown}
+use Rattle.derivation.proofs.Sequences.{item_shown, set_shown}
 use Rattle.cfgleast.proofs.waitlists.Waitlists.add.Goals as goal
 
 pub returns : goal.returns

@@ -1,6 +1,6 @@
 use Rattle.std.proofs.Common.{slice_set, ap, ◌∙◌}
 use Rattle.cfgleast.specs.Inner.Open.{partials_of}
-use Rattle.derivation.proofs.Rows.{set_shown}
+use Rattle.derivation.proofs.Sequences.{set_shown}
 use Rattle.cfgleast.proofs.waitlists.Waitlists.take.Goals as goal
 
 pub returns-clause-rest : goal.returns-clause-rest

@@ -5,7 +5,7 @@ use Rattle.cfglines.proofs.newlinecache.NewlineCache.byte_to_line_num.Goals as g
 
 pub returns : goal.returns
 unfolding line_number
-returns c text stands =
+returns c text holds =
     let bytes = ap (λ kept. kept.bytes) c.self.view_is in
-    let len = stands.bytes in
-    (omega arith, ap (λ n. n + 1) (c.newlines_before.ensures.value text stands ∙ length-newlines_of _))
+    let len = holds.bytes in
+    (omega arith, ap (λ n. n + 1) (c.newlines_before.ensures.value text holds ∙ length-newlines_of _))

@@ -7,8 +7,8 @@ pub returns : goal.returns
 unfolding line_number
 returns c =
     let bytes = ap (λ kept. kept.bytes) c.self.view_is in
-    let stands : StandsFor c.args.self.now c.args.src.now = c.requires (omega arith) in
+    let holds : StandsFor c.args.self.now c.args.src.now = c.requires (omega arith) in
     let line : c.newlines_before.result + 1 ≡ line_number c.args.src.now c.args.byte =
-    ap (λ n. n + 1) (c.newlines_before.ensures.value _ stands ∙ length-newlines_of _) in
+    ap (λ n. n + 1) (c.newlines_before.ensures.value _ holds ∙ length-newlines_of _) in
     let column = c.column_of.ensures in
-    ((stands, c.is_char_boundary.ensures.test.0 c.if-not-is_char_boundary.false), cc)
+    ((holds, c.is_char_boundary.ensures.test.0 c.if-not-is_char_boundary.false), cc)

@@ -10,6 +10,6 @@ invariant_of-self-2 c = (
 )
 
 pub returns-clause-ok : goal.returns-clause-ok
-returns-clause-ok c before stands =
-    let inside = subst (λ kept. StandsFor kept before) (sym c.self.view_is) stands in
+returns-clause-ok c before holds =
+    let inside = subst (λ kept. StandsFor kept before) (sym c.self.view_is) holds in
     StandsFor-append _ _ _ _ _ inside c.in-Some.ensures.1 c.in_ok-add_newlines.ensures.ok

@@ -10,13 +10,13 @@ loop-piece-init g c = (c.new-cache.ensures, omega arith)
 
 pub loop-piece-preserved : goal.loop-piece-preserved
 loop-piece-preserved g c =
-    let stands = c.loop-piece.invariant.0 in
-    let bytes = stands.bytes in
+    let holds = c.loop-piece.invariant.0 in
+    let bytes = holds.bytes in
     let fits : length (joined c.loop-piece.yielded) + length c.in-Some.piece.now < 2 ^ 64 =
     ⊎_elim (λ h. absurd (let long = c.in_ok-feed.ensures.too_long.1 h in cc)) (λ h. omega arith)
     (cases_lt 18446744073709551615 (c.loop-piece.cache.bytes + length c.in-Some.piece.now)) in
     rw (joined_push c.loop-piece.yielded c.in-Some.piece)
-    (c.in_ok-feed.ensures.ok _ stands, omega (arith, length-append (joined c.loop-piece.yielded) c.in-Some.piece.now))
+    (c.in_ok-feed.ensures.ok _ holds, omega (arith, length-append (joined c.loop-piece.yielded) c.in-Some.piece.now))
 
 pub returns-in_err-feed-clause-too_long : goal.returns-in_err-feed-clause-too_long
 returns-in_err-feed-clause-too_long g c refused =

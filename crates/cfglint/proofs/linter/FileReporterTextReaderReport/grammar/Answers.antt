@@ -1,6 +1,6 @@
 use Rattle.std.proofs.Common.{◌∙◌, ap, arith, refl}
 use Rattle.cfglint.specs.Shown.{ShownFinding, spanskind_of}
-use Rattle.cfglint.specs.Told.{finding_lines}
+use Rattle.cfglint.specs.Reported.{finding_lines}
 use Rattle.cfglint.proofs.Rendered.{each_rendered}
 use Rattle.cfglint.proofs.linter.FileReporterTextReaderReport.grammar.Goals as goal
 

@@ -3,14 +3,14 @@ use Rattle.std.proofs.lemmas.Result.{err_from_is_err_and}
 use Rattle.cfgmarks.specs.Marks.{marks}
 use Rattle.cfgmarks.specs.Merging.{KeepsStored}
 use Rattle.cfgmarks.proofs.StoredKeys.{stored_step, keeps_stored}
-use Rattle.cfgmarks.proofs.MergeSteps.{reached, one_more, merged_step, stops_at, wanted_callable}
+use Rattle.cfgmarks.proofs.MergeSteps.{reached, one_more, merged_step, stops_at, expected_callable}
 use Rattle.cfgmarks.proofs.markmap.MarkMap.merge_from.Goals as goal
 
 pub merge_entry-requires : goal.merge_entry-requires
 merge_entry-requires g c =
     let at_key = reached g.K.Ord.cmp g.met.K.Ord.total _ {now = marks c.loop-key.self} {theirs = marks c.args.other} c.loop-key.invariant.given c.in-Some.ensures.steps
     c.into_iter-key-iterator.ensures.into_iter_gives.5 c.loop-key.invariant.merged in
-    wanted_callable g.K.Ord.cmp g.met.K.Ord.total _ at_key c.requires
+    expected_callable g.K.Ord.cmp g.met.K.Ord.total _ at_key c.requires
 
 pub loop-key-preserved : goal.loop-key-preserved
 loop-key-preserved g c =

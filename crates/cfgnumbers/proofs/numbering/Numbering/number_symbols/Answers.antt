@@ -12,17 +12,17 @@ pub push_symbol-requires-clause-known : goal.push_symbol-requires-clause-known
 push_symbol-requires-clause-known g c =
     let symbols = c.args.symbols.now in
     let symbol = c.symbol-item.result in
-    let place = c.loop-symbol.symbol-index in
-    let is = get_or-map symbol_view symbols place symbol (symbol_view symbol) c.loop-symbol-test.true ∙ ap symbol_view (sym c.symbol-item.is) in
+    let index = c.loop-symbol.symbol-index in
+    let is = get_or-map symbol_view symbols index symbol (symbol_view symbol) c.loop-symbol-test.true ∙ ap symbol_view (sym c.symbol-item.is) in
     subst (λ (shown : Symbol). symbol_error (file_of c.args.self.now) shown ≡ None) is
-    (c.requires.known place (symbol_view symbol) (omega (arith, c.loop-symbol-test.true, length-map symbols symbol_view)))
+    (c.requires.known index (symbol_view symbol) (omega (arith, c.loop-symbol-test.true, length-map symbols symbol_view)))
 
 pub loop-symbol-preserved : goal.loop-symbol-preserved
 loop-symbol-preserved g c =
     let s = file_of c.args.self.now in
     let implicit = implicit_in c.args.self.now in
     c.in_ok-push_symbol.ensures
-    ∙ ap (λ front. front ++ spaced implicit (file_symbol implicit s (symbol_view c.symbol-item.result))) c.loop-symbol.invariant
+    ∙ ap (λ prefix. prefix ++ spaced implicit (file_symbol implicit s (symbol_view c.symbol-item.result))) c.loop-symbol.invariant
     ∙ more_symbols implicit s c.args.symbols.now c.loop-symbol.symbol-index c.symbol-item.result c.loop-symbol-test.true c.symbol-item.is
 
 pub returns : goal.returns

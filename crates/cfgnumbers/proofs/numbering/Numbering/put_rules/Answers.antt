@@ -6,7 +6,7 @@ use Rattle.cfgast.specs.Syntax.{Rule}
 use Rattle.cfgast.specs.SyntaxView.{rule_view as plain_rule}
 use Rattle.cfgnumbers.specs.Numbered.{added_rules, file_rule}
 use Rattle.cfgnumbers.specs.TablesView.{file_of, implicit_in}
-use Rattle.cfgnumbers.proofs.Places.{listed_within}
+use Rattle.cfgnumbers.proofs.Positions.{listed_within}
 use Rattle.lemmas.proofs.Roads.{item_holds, more_shown, name_is_new}
 use Rattle.cfgnumbers.proofs.RowLemmas.{added_names, rule_names-distinct, rule_names_shown, rule_seen, rules_road}
 use Rattle.cfgnumbers.proofs.numbering.Numbering.put_rules.Goals as goal
@@ -21,12 +21,12 @@ put_rule-requires-clause-new g c =
     ∙ name_is_new road c.loop-name.yielded _ c.loop-name.yielded_by _ _ (c.in-Some.name, c.in-Some.rule) c.in-Some.is c.next.ensures.steps
     (added_names implicit) (λ (rule : List ℕ × Rule). rule.0) (rule_names-distinct implicit s c.requires.sound)
 
-pub put_rule-requires-clause-places : goal.put_rule-requires-clause-places
-put_rule-requires-clause-places g c =
+pub put_rule-requires-clause-positions : goal.put_rule-requires-clause-positions
+put_rule-requires-clause-positions g c =
     let s = file_of c.args.self.now in
     let road = rules_road s c.rules-name-items.result.now.entries c.rules-name-items.ensures c.into_iter-name-iterator.ensures.into_iter_gives.0 in
     let within = item_holds road c.loop-name.yielded _ c.loop-name.yielded_by _ _ (c.in-Some.name, c.in-Some.rule) c.in-Some.is c.next.ensures.steps
-    (λ (rule : List ℕ × Rule). All (λ place. place < length s.productions) rule.1.productions) (listed_within s c.requires.sound.well_formed) in
+    (λ (rule : List ℕ × Rule). All (λ index. index < length s.productions) rule.1.productions) (listed_within s c.requires.sound.well_formed) in
     λ k d there. omega (arith, within k d there, c.requires.room.productions)
 
 pub loop-name-preserved : goal.loop-name-preserved

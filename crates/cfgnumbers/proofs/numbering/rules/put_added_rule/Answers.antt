@@ -8,4 +8,4 @@ returns g c =
     entry_put (rule_view g.S.Storage.number) c.args.rows.now.entries c.insert.new.self.entries c.in_ok-name.name c.args.name.now _
     c.in_ok-name.ensures.ok c.requires.new c.in_ok-insert.ensures.entries
     ∙ (λ i. map (rule_view g.S.Storage.number) c.args.rows.now.entries
-    ++ record { name = c.in_ok-name.ensures.ok i; span = c.new.ensures i; productions = c.in_ok-places_in_order.ensures i; action_type = None } ∷ [])
+    ++ record { name = c.in_ok-name.ensures.ok i; span = c.new.ensures i; productions = c.in_ok-positions_in_order.ensures i; action_type = None } ∷ [])

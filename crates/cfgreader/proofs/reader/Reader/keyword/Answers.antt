@@ -1,5 +1,5 @@
 use Rattle.std.proofs.Common.{refl, ap, ◌∙◌}
-use Rattle.reading.specs.Construct.{computes, ends}
+use Rattle.constructs.specs.Construct.{computes, ends}
 use Rattle.cfgreader.specs.Keywords.{one_of}
 use Rattle.cfgreader.specs.Declarations.{declaration, own_declarations}
 use Rattle.cfgreader.proofs.Declared.{reads, own_found}

@@ -1,8 +1,8 @@
 use Rattle.std.proofs.Common.{ap}
-use Rattle.reading.specs.Construct.{goes_on}
+use Rattle.constructs.specs.Construct.{goes_on}
 use Rattle.cfgreader.specs.Inner.Lists.{turn_in}
 use Rattle.cfgreader.specs.Inner.Builds.{file_reader}
-use Rattle.reading.proofs.Steps.{gathers_start, gathers_on, repeat_refused, repeat_done, turn_shorter}
+use Rattle.constructs.proofs.Steps.{gathers_start, gathers_on, repeat_refused, repeat_done, turn_shorter}
 use Rattle.cfgreader.proofs.reader.Reader.line_tokens.Goals as goal
 
 pub loop-init : goal.loop-init

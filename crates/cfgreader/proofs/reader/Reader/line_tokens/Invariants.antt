@@ -1,6 +1,6 @@
 use Rattle.std.proofs.Common.{length}
 use Rattle.cfgreader.specs.Inner.Lists.{turn_in}
-use Rattle.reading.proofs.Steps.{Gathers}
+use Rattle.constructs.proofs.Steps.{Gathers}
 use Rattle.cfgreader.specs.Inner.Builds.{file_reader}
 use Rattle.cfgreader.proofs.reader.Reader.line_tokens.Given as goal
 

@@ -1,8 +1,8 @@
 use Rattle.std.proofs.Common.{length}
-use Rattle.reading.specs.Construct.{while_test}
+use Rattle.constructs.specs.Construct.{while_test}
 use Rattle.cfgreader.specs.Declarations.{is_listed}
 use Rattle.cfgreader.specs.Inner.Lists.{listed_in}
-use Rattle.reading.proofs.Steps.{Gathers}
+use Rattle.constructs.proofs.Steps.{Gathers}
 use Rattle.cfgreader.specs.Inner.Builds.{file_reader}
 use Rattle.cfgreader.proofs.reader.Reader.list.Given as goal
 

@@ -5,7 +5,7 @@ use Rattle.cfgreader.proofs.Parts.{InParts}
 use Rattle.cfgreader.proofs.reader.Reader.more_parts.Given as goal
 
 abbrev pub invariant-loop-parts : goal.invariant-loop-parts
-invariant-loop-parts l = InParts part (parts_view l.fn.front) l.fn.self l.self l.parts
+invariant-loop-parts l = InParts part (parts_view l.fn.prefix) l.fn.self l.self l.parts
 
 abbrev pub decreases-loop-parts : goal.decreases-loop-parts
 decreases-loop-parts l = length l.self.rest.now

@@ -1,7 +1,7 @@
 use Rattle.std.proofs.Common.{length}
 use Rattle.cfgast.specs.SyntaxView.{head_view}
 use Rattle.cfgreader.specs.Rules.{production}
-use Rattle.reading.proofs.Steps.{Gathers}
+use Rattle.constructs.proofs.Steps.{Gathers}
 use Rattle.cfgreader.specs.Inner.Builds.{file_reader}
 use Rattle.cfgreader.proofs.reader.Reader.productions.Given as goal
 

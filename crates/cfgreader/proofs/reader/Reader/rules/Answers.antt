@@ -1,8 +1,8 @@
 use Rattle.std.proofs.Common.{arith, sym, ◌∙◌, refl, Ok, Err, Some, None}
-use Rattle.reading.proofs.Agree.{leaves}
+use Rattle.constructs.proofs.Agree.{leaves}
 use Rattle.cfgreader.specs.Rules.{is_rule_next, rule}
 use Rattle.cfgreader.specs.Inner.Builds.{file_reader}
-use Rattle.reading.proofs.Steps.{gathers_start, gathers_on, repeat_refused, repeat_done, while_builds, while_done}
+use Rattle.constructs.proofs.Steps.{gathers_start, gathers_on, repeat_refused, repeat_done, while_builds, while_done}
 use Rattle.cfgreader.proofs.reader.Reader.rules.Goals as goal
 
 pub loop-kind-init : goal.loop-kind-init

@@ -1,7 +1,7 @@
 use Rattle.std.proofs.Common.{length}
-use Rattle.reading.specs.Construct.{while_test}
+use Rattle.constructs.specs.Construct.{while_test}
 use Rattle.cfgreader.specs.Rules.{is_rule_next, rule}
-use Rattle.reading.proofs.Steps.{Gathers}
+use Rattle.constructs.proofs.Steps.{Gathers}
 use Rattle.cfgreader.specs.Inner.Builds.{file_reader}
 use Rattle.cfgreader.proofs.reader.Reader.rules.Given as goal
 

@@ -11,8 +11,8 @@ loop-entry-init c = none_found c.args.entries.now c.args.key.now
 pub loop-entry-preserved : goal.loop-entry-preserved
 loop-entry-preserved c =
     let more = entries_more c.args.entries.now c.loop-entry.entry-index c.entry-item.result c.loop-entry-test.true c.entry-item.is in
-    let told = ap (λ text. bytes_eq text c.args.key.now) (sym c.as_str.ensures.value) ∙ sym c.eq.ensures in
+    let reported = ap (λ text. bytes_eq text c.args.key.now) (sym c.as_str.ensures.value) ∙ sym c.eq.ensures in
     elim c.if-eq.branch [
-      | then-eq w ↦ one_more_found c.args.entries.now c.loop-entry.entry-index c.entry-item.result c.args.key.now more c.loop-entry.found _ _ c.loop-entry.invariant (told ∙ w.if-eq.true) (ap gives w.found-is)
-      | else-eq w ↦ one_more_found c.args.entries.now c.loop-entry.entry-index c.entry-item.result c.args.key.now more c.loop-entry.found _ _ c.loop-entry.invariant (told ∙ w.if-eq.false) (ap gives w.found-is)
+      | then-eq w ↦ one_more_found c.args.entries.now c.loop-entry.entry-index c.entry-item.result c.args.key.now more c.loop-entry.found _ _ c.loop-entry.invariant (reported ∙ w.if-eq.true) (ap gives w.found-is)
+      | else-eq w ↦ one_more_found c.args.entries.now c.loop-entry.entry-index c.entry-item.result c.args.key.now more c.loop-entry.found _ _ c.loop-entry.invariant (reported ∙ w.if-eq.false) (ap gives w.found-is)
     ]

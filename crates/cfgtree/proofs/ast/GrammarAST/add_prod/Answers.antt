@@ -3,7 +3,7 @@ use Rattle.std.specs.Map.{keys_of, lookup}
 use Rattle.std.specs.Str.{bytes_eq}
 use Rattle.std.proofs.lemmas.List.{map-append}
 use Rattle.lemmas.proofs.Lookups.{found-lookup}
-use Rattle.lemmas.proofs.Places.{place_found}
+use Rattle.lemmas.proofs.Positions.{position_found}
 use Rattle.cfgast.specs.Syntax.{Syntax, index_of}
 use Rattle.cfgast.specs.Building.{listed}
 use Rattle.cfgast.specs.SyntaxView.{syntax_view, rule_entry, rule_view, production_view}
@@ -28,7 +28,7 @@ returns-clause-added c =
     let named = c.as_str-name.ensures.value in
     let made : Production = record { symbols = c.args.symbols; precedence = c.args.precedence; action = c.args.action; prod_span = c.args.prod_span } in
     let index : c.in-Some.index ≡ index_of name (map (λ rule. rule.0) (map rule_entry old.rules.entries)) =
-    place_found (is_key name) (keys_of old.rules.entries) c.in-Some.index (c.in-Some.ensures.index ∙ ap (λ n. position (is_key n) (keys_of old.rules.entries)) named) ∙ sym (rule_index name old.rules.entries) in
+    position_found (is_key name) (keys_of old.rules.entries) c.in-Some.index (c.in-Some.ensures.index ∙ ap (λ n. position (is_key n) (keys_of old.rules.entries)) named) ∙ sym (rule_index name old.rules.entries) in
     let next = c.in_ok-list_next.ensures.listed in
     let rules : map rule_entry c.list_next.new.self.syntax.rules.entries ≡ map (listed name (length (map production_view old.prods.items))) (map rule_entry old.rules.entries) =
     ap (λ (s : Syntax). s.rules) next ∙ ap (λ n. map (listed n (length (map production_view old.prods.items))) (map rule_entry old.rules.entries)) named in

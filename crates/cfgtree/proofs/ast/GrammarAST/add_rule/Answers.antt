@@ -23,7 +23,7 @@ returns-in-Some-clause-added c =
     added-known (syntax c.args.self.now) head _ (has_entry-entries rule_view name rules ∙ ap is_some found)
     (ap (map rule_entry) (c.get_mut.follows.holds new).0 ∙ ap (λ n. map rule_entry (set_value (is_key n) rules new)) c.as_str.ensures.value
     ∙ changed-set_value name (λ _. (new_rule head).1) rules _ new c.in-Some.ensures.unique found
-    (ap (λ places. record (new_rule head).1 { productions = places }) c.new-pidxs.ensures.items))
+    (ap (λ offsets. record (new_rule head).1 { productions = offsets }) c.new-pidxs.ensures.items))
 
 -- no rule has the name
 absent : (name text : List ℕ) (rules : List (String Global × Rule)) → text ≡ name → lookup (is_key text) rules ≡ None → has_rule name (map rule_entry rules) ≡ false
@@ -49,7 +49,7 @@ returns-clause-added c =
     added-new (syntax c.args.self.now) head _ new_name
     (ap (map rule_entry) c.in_ok-insert.ensures.entries
     ∙ ap (λ m. map rule_entry (insert_entry string_eq m.entries c.in_ok-key.key new)) c.get_mut.follows.holds-at-none ∙ entries-new rule_view name old c.in_ok-key.key new c.in_ok-key.ensures.cases new_name
-    ∙ ap (λ places. map rule_entry old.entries ++ (name, record (new_rule head).1 { productions = places }) ∷ []) c.new-pidxs.ensures.items)
+    ∙ ap (λ offsets. map rule_entry old.entries ++ (name, record (new_rule head).1 { productions = offsets }) ∷ []) c.new-pidxs.ensures.items)
 
 pub returns-in-Some-clause-there : goal.returns-in-Some-clause-there
 returns-in-Some-clause-there c =

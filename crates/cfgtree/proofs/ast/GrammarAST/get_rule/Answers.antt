@@ -7,12 +7,12 @@ use Rattle.cfgtree.specs.TreeView.{syntax}
 use Rattle.cfgast.specs.declared.rule.Rule.{Rule}
 use Rattle.cfgtree.proofs.ast.GrammarAST.get_rule.Goals as goal
 
-behind : (found : Option (Bor Rule)) → option_map (λ (rule : Bor Rule). rule_view rule.now) found ≡ option_map rule_view (option_copied found)
-behind None = refl
-behind (Some rule) = refl
+after : (found : Option (Bor Rule)) → option_map (λ (rule : Bor Rule). rule_view rule.now) found ≡ option_map rule_view (option_copied found)
+after None = refl
+after (Some rule) = refl
 
 pub returns : goal.returns
 unfolding syntax syntax_view
 returns c =
-    behind c.get.result ∙ ap (option_map rule_view) c.get.ensures.value
+    after c.get.result ∙ ap (option_map rule_view) c.get.ensures.value
     ∙ sym (lookup-map (bytes_eq c.args.name.now) string_bytes rule_view c.args.self.now.syntax.rules.entries)

@@ -19,11 +19,11 @@ unfolding syntax syntax_view
 returns-in_err-span c =
     let s = syntax c.args.self.now in
     let entries = c.args.self.now.syntax.rules.entries in
-    let place : c.args.node - c.len.result ≡ c.args.node - length s.rules = ap (λ n. c.args.node - n) (c.len.ensures.len ∙ sym (length-map entries rule_entry)) in
+    let index : c.args.node - c.len.result ≡ c.args.node - length s.rules = ap (λ n. c.args.node - n) (c.len.ensures.len ∙ sym (length-map entries rule_entry)) in
     let past : slice_get s.spans (c.args.node - c.len.result) ≡ None =
     subst (λ l. slice_get l (c.args.node - c.len.result) ≡ None) c.deref.ensures.value (slice_get_past c.deref.result.now _ c.in_err-span.ensures.lookup.3) in
     ap (option_map (λ found. warning_at found.0 found.1)) c.from_residual.ensures
-    ∙ ap (option_map (λ span. warning_at UnusedToken span)) (sym past ∙ ap (slice_get s.spans) place)
+    ∙ ap (option_map (λ span. warning_at UnusedToken span)) (sym past ∙ ap (slice_get s.spans) index)
     ∙ token_there s c.args.node c.requires (slice_get-map rule_entry entries c.args.node ∙ ap (option_map rule_entry) (sym c.in_default.ensures.entry))
 
 pub returns : goal.returns
@@ -31,9 +31,9 @@ unfolding syntax syntax_view
 returns c =
     let s = syntax c.args.self.now in
     let entries = c.args.self.now.syntax.rules.entries in
-    let place : c.args.node - c.len.result ≡ c.args.node - length s.rules = ap (λ n. c.args.node - n) (c.len.ensures.len ∙ sym (length-map entries rule_entry)) in
+    let index : c.args.node - c.len.result ≡ c.args.node - length s.rules = ap (λ n. c.args.node - n) (c.len.ensures.len ∙ sym (length-map entries rule_entry)) in
     let there : slice_get s.spans (c.args.node - c.len.result) ≡ Some c.in_ok-span.span.now =
     subst (λ l. slice_get l (c.args.node - c.len.result) ≡ Some c.in_ok-span.span.now) c.deref.ensures.value
     (slice_get_read c.deref.result.now _ _ _ refl c.in_ok-span.ensures.lookup.3.0 c.in_ok-span.ensures.lookup.1) in
-    ap (option_map (λ span. warning_at UnusedToken span)) (sym there ∙ ap (slice_get s.spans) place)
+    ap (option_map (λ span. warning_at UnusedToken span)) (sym there ∙ ap (slice_get s.spans) index)
     ∙ token_there s c.args.node c.requires (slice_get-map rule_entry entries c.args.node ∙ ap (option_map rule_entry) (sym c.in_default.ensures.entry))

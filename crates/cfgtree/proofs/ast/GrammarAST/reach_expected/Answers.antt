@@ -1,6 +1,6 @@
 use Rattle.std.proofs.Common.{map, option_map, ap, subst}
 use Rattle.std.proofs.lemmas.Result.{IfOk-weaker}
-use Rattle.search.specs.Reached.{FoundBy, Reaches}
+use Rattle.search.specs.Reachable.{FoundBy, Reaches}
 use Rattle.cfgtree.specs.Inner.Nodes.{IsNodeOf}
 use Rattle.cfgtree.specs.Unused.{name_of}
 use Rattle.cfgast.specs.SyntaxView.{syntax_view, symbol_view, span_entry}

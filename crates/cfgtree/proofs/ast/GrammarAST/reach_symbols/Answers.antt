@@ -1,5 +1,5 @@
 use Rattle.std.proofs.Common.{◌≡◌, ◌<◌, Some, IfSome, arith, map, sym, subst, ◌∙◌}
-use Rattle.search.specs.Reached.{Reaches}
+use Rattle.search.specs.Reachable.{Reaches}
 use Rattle.search.proofs.Each.{each_none, each_more, each_all, found_mapped}
 use Rattle.cfgtree.specs.Inner.Nodes.{IsNodeOf}
 use Rattle.cfgtree.specs.Unused.{name_of}

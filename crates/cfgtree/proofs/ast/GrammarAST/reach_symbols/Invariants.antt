@@ -1,5 +1,5 @@
 use Rattle.std.proofs.Common.{take}
-use Rattle.search.specs.Reached.{FoundBy, Reaches}
+use Rattle.search.specs.Reachable.{FoundBy, Reaches}
 use Rattle.cfgtree.specs.Inner.Nodes.{IsNodeOf}
 use Rattle.cfgtree.specs.Unused.{name_of}
 use Rattle.cfgast.specs.SyntaxView.{symbol_view}

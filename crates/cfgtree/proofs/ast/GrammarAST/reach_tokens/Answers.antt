@@ -1,7 +1,7 @@
 use Rattle.std.proofs.Common.{◌≡◌, ◌<◌, ◌+◌, Some, None, IfSome, arith, length, map, take, String, Global, sym, ap, subst, ◌∙◌}
 use Rattle.std.proofs.lemmas.Option.{get_or_from_slice_get}
 use Rattle.lemmas.proofs.Elements.{element_at}
-use Rattle.search.specs.Reached.{FoundBy, Reaches}
+use Rattle.search.specs.Reachable.{FoundBy, Reaches}
 use Rattle.search.proofs.Each.{each_none, each_more, each_all, found_mapped}
 use Rattle.cfgbase.specs.declared.span.Span.{Span}
 use Rattle.cfgtree.specs.Inner.Nodes.{IsNodeOf, node_of}
@@ -11,28 +11,28 @@ use Rattle.cfgtree.specs.TreeView.{syntax}
 use Rattle.cfgtree.proofs.ast.GrammarAST.reach_tokens.Goals as goal
 use Rattle.cfgtree.proofs.ast.GrammarAST.reach_tokens.Goals.{in-Some+in_ok-reach_one, in_default}
 
-pub loop-place-init : goal.loop-place-init
-loop-place-init c = each_none _ _
+pub loop-index-init : goal.loop-index-init
+loop-index-init c = each_none _ _
 
 pub reach_one-requires : goal.reach_one-requires
-reach_one-requires c = subst (λ m. IfSome c.token_node.result (λ n. n < m)) (sym (c.loop-place.invariant.shape ∙ c.requires)) c.token_node.ensures.within
+reach_one-requires c = subst (λ m. IfSome c.token_node.result (λ n. n < m)) (sym (c.loop-index.invariant.shape ∙ c.requires)) c.token_node.ensures.within
 
-pub loop-place-preserved : goal.loop-place-preserved
-loop-place-preserved c =
+pub loop-index-preserved : goal.loop-index-preserved
+loop-index-preserved c =
     let s = syntax c.args.self.now in
     let entries = c.args.table.now.entries in
-    let place = c.loop-place.place in
+    let index = c.loop-index.index in
     let Finds = λ (entry : String Global × Span). IsNodeOf s (entry_token (span_entry entry)) in
-    let within : place < length entries = omega (arith, c.loop-place-test.true, c.len-place-end.ensures.len) in
+    let within : index < length entries = omega (arith, c.loop-index-test.true, c.len-index-end.ensures.len) in
     elim c.match-get_index.branch [
       | in-Some+in_ok-reach_one w ↦
           let at = sym w.in-Some.ensures.entry in
           let found = w.token_node.ensures.node ∙ ap (λ n. node_of s (TokenName n)) w.deref.ensures in
-          subst (Reaches (FoundBy Finds (take (place + 1) entries)) c.args.search.now) (sym w.search-is)
-          (each_more Finds entries place _ _ _ _ within (sym (get_or_from_slice_get entries place _ _ at)) c.loop-place.invariant
-          (subst (λ o. Reaches (λ n. o ≡ Some n) c.loop-place.search w.reach_one.new.search) found w.in_ok-reach_one.ensures))
+          subst (Reaches (FoundBy Finds (take (index + 1) entries)) c.args.search.now) (sym w.search-is)
+          (each_more Finds entries index _ _ _ _ within (sym (get_or_from_slice_get entries index _ _ at)) c.loop-index.invariant
+          (subst (λ o. Reaches (λ n. o ≡ Some n) c.loop-index.search w.reach_one.new.search) found w.in_ok-reach_one.ensures))
       | in_default w ↦
-          let (entry, at) = element_at entries place within in
+          let (entry, at) = element_at entries index within in
           let no : None ≡ Some entry = w.in_default.ensures.entry ∙ at in cc
     ]
 
@@ -41,4 +41,4 @@ returns c =
     let Finds = IsNodeOf (syntax c.args.self.now) in
     let entries = c.args.table.now.entries in
     found_mapped entry_token Finds (map span_entry entries) _ _ (found_mapped span_entry (λ entry. Finds (entry_token entry)) entries _ _
-    (each_all _ _ _ _ _ (omega (arith, c.loop-place-test.false, c.len-place-end.ensures.len)) c.loop-place.invariant))
+    (each_all _ _ _ _ _ (omega (arith, c.loop-index-test.false, c.len-index-end.ensures.len)) c.loop-index.invariant))

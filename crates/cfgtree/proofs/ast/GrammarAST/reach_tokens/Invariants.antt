@@ -1,10 +1,10 @@
 use Rattle.std.proofs.Common.{take}
-use Rattle.search.specs.Reached.{FoundBy, Reaches}
+use Rattle.search.specs.Reachable.{FoundBy, Reaches}
 use Rattle.cfgtree.specs.Inner.Nodes.{IsNodeOf}
 use Rattle.cfgtree.specs.Unused.{entry_token}
 use Rattle.cfgast.specs.SyntaxView.{span_entry}
 use Rattle.cfgtree.specs.TreeView.{syntax}
 use Rattle.cfgtree.proofs.ast.GrammarAST.reach_tokens.Given as goal
 
-abbrev pub invariant-loop-place : goal.invariant-loop-place
-invariant-loop-place l = Reaches (FoundBy (λ entry. IsNodeOf (syntax l.self) (entry_token (span_entry entry))) (take l.place l.table.entries)) l.fn.search l.search
+abbrev pub invariant-loop-index : goal.invariant-loop-index
+invariant-loop-index l = Reaches (FoundBy (λ entry. IsNodeOf (syntax l.self) (entry_token (span_entry entry))) (take l.index l.table.entries)) l.fn.search l.search

@@ -4,7 +4,7 @@ use Rattle.cfgtree.specs.Unused.{Warned, none, possible_warnings}
 use Rattle.cfgtree.specs.TreeView.{syntax}
 use Rattle.cfgtree.proofs.Warning.{unused, warned_more, warned_known, warned_past, warned_all}
 use Rattle.cfgtree.proofs.ast.GrammarAST.warnings.Goals as goal
-use Rattle.cfgtree.proofs.ast.GrammarAST.warnings.Goals.{then-not-is_reached+in-Some+in_ok-warning_at+in_ok-push, then-not-is_reached+in_default, else-not-is_reached}
+use Rattle.cfgtree.proofs.ast.GrammarAST.warnings.Goals.{then-not-is_reachable+in-Some+in_ok-warning_at+in_ok-push, then-not-is_reachable+in_default, else-not-is_reachable}
 
 pub loop-node-init : goal.loop-node-init
 loop-node-init c = subst (Warned (syntax c.args.self.now) []) (sym c.new-warnings.ensures.items) none
@@ -16,16 +16,16 @@ pub loop-node-preserved : goal.loop-node-preserved
 loop-node-preserved c =
     let s = syntax c.args.self.now in
     let i = c.loop-node.node in
-    let told = c.loop-node.warnings.items in
-    let Front = λ (l : List GrammarWarning). Warned s (take (i + 1) (possible_warnings s)) l in
-    elim c.if-not-is_reached.branch [
-      | then-not-is_reached+in-Some+in_ok-warning_at+in_ok-push w ↦ subst (λ l. Front l.items) (sym w.warnings-is)
-          (warned_more s i told c.loop-node.invariant _ _ _ w.in-Some.ensures
-          (unused s c.in_ok-known.known c.in_ok-known.ensures i (sym w.if-not-is_reached.ensures))
+    let reported = c.loop-node.warnings.items in
+    let Prefix = λ (l : List GrammarWarning). Warned s (take (i + 1) (possible_warnings s)) l in
+    elim c.if-not-is_reachable.branch [
+      | then-not-is_reachable+in-Some+in_ok-warning_at+in_ok-push w ↦ subst (λ l. Prefix l.items) (sym w.warnings-is)
+          (warned_more s i reported c.loop-node.invariant _ _ _ w.in-Some.ensures
+          (unused s c.in_ok-known.known c.in_ok-known.ensures i (sym w.if-not-is_reachable.ensures))
           w.in_ok-warning_at.ensures w.in_ok-push.ensures.items)
-      | then-not-is_reached+in_default w ↦ subst (λ l. Front l.items) (sym w.warnings-is) (warned_past s i told c.loop-node.invariant w.in_default.ensures)
-      | else-not-is_reached w ↦ subst (λ l. Front l.items) (sym w.warnings-is)
-          (warned_known s i told c.loop-node.invariant c.in_ok-known.known c.in_ok-known.ensures (sym w.if-not-is_reached.ensures))
+      | then-not-is_reachable+in_default w ↦ subst (λ l. Prefix l.items) (sym w.warnings-is) (warned_past s i reported c.loop-node.invariant w.in_default.ensures)
+      | else-not-is_reachable w ↦ subst (λ l. Prefix l.items) (sym w.warnings-is)
+          (warned_known s i reported c.loop-node.invariant c.in_ok-known.known c.in_ok-known.ensures (sym w.if-not-is_reachable.ensures))
     ]
 
 pub returns : goal.returns

@@ -2,7 +2,7 @@ use Rattle.std.proofs.Common.{string_bytes, option_map, bytes_eq, sym, ap, subst
 use Rattle.std.proofs.lemmas.Option.{slice_get-map}
 use Rattle.std.proofs.lemmas.Result.{IfOk-weaker}
 use Rattle.lemmas.proofs.Lookups.{lookup-map}
-use Rattle.search.specs.Reached.{FoundBy, Reaches}
+use Rattle.search.specs.Reachable.{FoundBy, Reaches}
 use Rattle.cfgtree.specs.Inner.Nodes.{HeldAt}
 use Rattle.cfgast.specs.SyntaxView.{syntax_view, rule_entry, rule_view}
 use Rattle.cfgtree.specs.TreeView.{syntax}

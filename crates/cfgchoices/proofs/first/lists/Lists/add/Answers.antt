@@ -1,11 +1,11 @@
 use Rattle.std.proofs.Common.{◌≡◌, ◌<◌, ℕ, length, Some, refl, sym, subst, ◌∙◌, arith}
 use Rattle.std.proofs.lemmas.List.{length-set}
 use Rattle.cfgleast.specs.Generator.{tables_of}
-use Rattle.cfgchoices.specs.Inner.Kinds.{IsHeir, IsKind}
-use Rattle.cfgchoices.specs.Inner.Lists.{IsOwnAt}
-use Rattle.cfgchoices.specs.Inner.Offers.{owner}
-use Rattle.cfgchoices.proofs.Listed.{listed_elsewhere, listed_first, listed_nowhere, own_cost_told}
-use Rattle.cfgchoices.proofs.Tight.{answered_within, one_cost, one_heir}
+use Rattle.cfgchoices.specs.Inner.Kinds.{IsTarget, IsKind}
+use Rattle.cfgchoices.specs.Inner.Lists.{IsBaseAt}
+use Rattle.cfgchoices.specs.Inner.Candidates.{owner}
+use Rattle.cfgchoices.proofs.Listed.{listed_elsewhere, listed_first, listed_nowhere, base_cost_reported}
+use Rattle.cfgchoices.proofs.Optimal.{answered_within, one_cost, one_target}
 use Rattle.cfgchoices.proofs.first.lists.Lists.add.Goals as goal
 
 pub returns-in-Slack : goal.returns-in-Slack
@@ -16,11 +16,11 @@ returns-in-Slack g c =
     let lists = c.args.self.now in
     let l = c.requires.lists in
     let slack = subst (IsKind number x p) c.in-Slack.is c.requires.kind in record {
-      own = listed_nowhere number (IsOwnAt x) p lists.own.items lists.next.items l.own (λ k i. slack i.0.tight);
-      handing = listed_nowhere number (λ r q. IsHeir x q r) p lists.handing.items lists.next.items l.handing (λ k i. slack i.tight);
+      base = listed_nowhere number (IsBaseAt x) p lists.base.items lists.next.items l.base (λ k i. slack i.0.optimal);
+      chaining = listed_nowhere number (λ r q. IsTarget x q r) p lists.chaining.items lists.next.items l.chaining (λ k i. slack i.optimal);
       costs = l.costs;
       rules = l.rules;
-      places = l.places;
+      positions = l.positions;
     }
 
 pub returns-in-Some : goal.returns-in-Some
@@ -31,36 +31,36 @@ returns-in-Some g c =
     let p = number c.args.p.0 in
     let lists = c.args.self.now in
     let l = c.requires.lists in
-    let own = subst (IsKind number x p) c.in-Own.is c.requires.kind in
-    let cost = own_cost_told x n c.requires.generator p c.from.result c.in-Some.cost own c.index.result.now (c.from.ensures ∙ c.prod_to_rule.ensures) c.index.ensures c.in-Some.is in
-    let only = λ (k : ℕ) (i : IsOwnAt x k p). let one = one_cost x (owner x p) i.0.tight.cost own.tight.cost i.0.tight.rule own.tight.rule in
+    let base = subst (IsKind number x p) c.in-Base.is c.requires.kind in
+    let cost = base_cost_reported x n c.requires.generator p c.from.result c.in-Some.cost base c.index.result.now (c.from.ensures ∙ c.prod_to_rule.ensures) c.index.ensures c.in-Some.is in
+    let only = λ (k : ℕ) (i : IsBaseAt x k p). let one = one_cost x (owner x p) i.0.optimal.cost base.optimal.cost i.0.optimal.rule base.optimal.rule in
     let same : k ≡ c.in-Some.cost = omega (arith, one, i.1, cost) in same in
-    let within = subst (λ m. m < length lists.own.items) cost (l.costs (owner x p) own.tight.cost own.tight.rule) in
-    let there = subst (λ m. p < m) (sym l.places) c.requires.place in record {
-      own = listed_first number (IsOwnAt x) p lists.own.items lists.next.items l.own c.from-in-Some.result c.from-in-Some.ensures c.index-in-Some.result.now
-          c.in-Some.cost c.in-Some.cost c.in-Some.cost c.args.p refl (own, cost) only within there refl refl c.index-in-Some.ensures;
-      handing = listed_elsewhere number (λ r q. IsHeir x q r) p lists.handing.items lists.next.items l.handing c.from-in-Some.result c.from-in-Some.ensures c.index-in-Some.result.now own.none;
-      costs = λ r d e. subst (λ m. d < m) (sym (length-set lists.own.items c.in-Some.cost (Some c.args.p))) (l.costs r d e);
+    let within = subst (λ m. m < length lists.base.items) cost (l.costs (owner x p) base.optimal.cost base.optimal.rule) in
+    let there = subst (λ m. p < m) (sym l.positions) c.requires.index in record {
+      base = listed_first number (IsBaseAt x) p lists.base.items lists.next.items l.base c.from-in-Some.result c.from-in-Some.ensures c.index-in-Some.result.now
+          c.in-Some.cost c.in-Some.cost c.in-Some.cost c.args.p refl (base, cost) only within there refl refl c.index-in-Some.ensures;
+      chaining = listed_elsewhere number (λ r q. IsTarget x q r) p lists.chaining.items lists.next.items l.chaining c.from-in-Some.result c.from-in-Some.ensures c.index-in-Some.result.now base.none;
+      costs = λ r d e. subst (λ m. d < m) (sym (length-set lists.base.items c.in-Some.cost (Some c.args.p))) (l.costs r d e);
       rules = l.rules;
-      places = length-set lists.next.items c.from-in-Some.result c.index-in-Some.result.now ∙ l.places;
+      positions = length-set lists.next.items c.from-in-Some.result c.index-in-Some.result.now ∙ l.positions;
     }
 
-pub returns-in-HandsOn : goal.returns-in-HandsOn
-returns-in-HandsOn g c =
+pub returns-in-ChainsTo : goal.returns-in-ChainsTo
+returns-in-ChainsTo g c =
     let number = g.S.Storage.number in
     let x = tables_of number (g.T.Tables.grammar c.args.tables.now) c.args.costs.now c.args.settled.now.least.items c.args.settled.now.choices.items in
     let n = c.args.settled.now.number in
     let p = number c.args.p.0 in
-    let r = number c.in-HandsOn.rule.0 in
+    let r = number c.in-ChainsTo.rule.0 in
     let lists = c.args.self.now in
     let l = c.requires.lists in
-    let heir = subst (IsKind number x p) c.in-HandsOn.is c.requires.kind in
-    let within = subst (λ m. r < m) (sym l.rules) (answered_within x n c.requires.generator r heir.tight.cost heir.same) in
-    let there = subst (λ m. p < m) (sym l.places) c.requires.place in record {
-      own = listed_elsewhere number (IsOwnAt x) p lists.own.items lists.next.items l.own c.from-in-HandsOn-2.result c.from-in-HandsOn-2.ensures c.index-in-HandsOn.result.now (λ k i. i.0.none r heir);
-      handing = listed_first number (λ r q. IsHeir x q r) p lists.handing.items lists.next.items l.handing c.from-in-HandsOn-2.result c.from-in-HandsOn-2.ensures c.index-in-HandsOn.result.now
-          r c.from-in-HandsOn.result c.from-in-HandsOn-3.result c.args.p refl heir (λ k i. one_heir x p k r i heir) within there c.from-in-HandsOn.ensures c.from-in-HandsOn-3.ensures c.index-in-HandsOn.ensures;
+    let target = subst (IsKind number x p) c.in-ChainsTo.is c.requires.kind in
+    let within = subst (λ m. r < m) (sym l.rules) (answered_within x n c.requires.generator r target.optimal.cost target.same) in
+    let there = subst (λ m. p < m) (sym l.positions) c.requires.index in record {
+      base = listed_elsewhere number (IsBaseAt x) p lists.base.items lists.next.items l.base c.from-in-ChainsTo-2.result c.from-in-ChainsTo-2.ensures c.index-in-ChainsTo.result.now (λ k i. i.0.none r target);
+      chaining = listed_first number (λ r q. IsTarget x q r) p lists.chaining.items lists.next.items l.chaining c.from-in-ChainsTo-2.result c.from-in-ChainsTo-2.ensures c.index-in-ChainsTo.result.now
+          r c.from-in-ChainsTo.result c.from-in-ChainsTo-3.result c.args.p refl target (λ k i. one_target x p k r i target) within there c.from-in-ChainsTo.ensures c.from-in-ChainsTo-3.ensures c.index-in-ChainsTo.ensures;
       costs = l.costs;
-      rules = length-set lists.handing.items c.from-in-HandsOn-3.result (Some c.args.p) ∙ l.rules;
-      places = length-set lists.next.items c.from-in-HandsOn-2.result c.index-in-HandsOn.result.now ∙ l.places;
+      rules = length-set lists.chaining.items c.from-in-ChainsTo-3.result (Some c.args.p) ∙ l.rules;
+      positions = length-set lists.next.items c.from-in-ChainsTo-2.result c.index-in-ChainsTo.result.now ∙ l.positions;
     }

@@ -6,7 +6,7 @@ use Rattle.cfgmarks.proofs.markmap.entry.VacantEntry.insert_entry.Goals as goal
 pub invariant_of-result : goal.invariant_of-result
 invariant_of-result g c = record {
   held =
-      held_after g.K.Ord.cmp g.met.K.Ord.total (marks c.ensure_entry.new.map) (marks c.replace_value.new.self) c.in-Ok.place c.args.value c.replace_value.ensures.map;
+      held_after g.K.Ord.cmp g.met.K.Ord.total (marks c.ensure_entry.new.map) (marks c.replace_value.new.self) c.in-Ok.index c.args.value c.replace_value.ensures.map;
 }
 
 pub returns : goal.returns
@@ -15,7 +15,7 @@ returns g c = (
   record {
     rests = tt;
     map = c.replace_value.ensures.map ∙ c.in-Ok.ensures.map (set_value c.args.value);
-    key = c.in-Ok.ensures.place;
+    key = c.in-Ok.ensures.index;
     handed_back = tt;
     absent = tt;
   },

@@ -1,8 +1,8 @@
 use Rattle.std.proofs.Common.{ap}
-use Rattle.reading.specs.Construct.{goes_on}
+use Rattle.constructs.specs.Construct.{goes_on}
 use Rattle.cfgsection.specs.SectionGrammar.{entry_turn, entries}
 use Rattle.cfgsection.specs.Inner.Steps.{section_reader}
-use Rattle.reading.proofs.Steps.{gathers_start, gathers_on, repeat_refused, repeat_done, turn_shorter}
+use Rattle.constructs.proofs.Steps.{gathers_start, gathers_on, repeat_refused, repeat_done, turn_shorter}
 use Rattle.cfgsection.proofs.section.reader.Reader.entries.Goals as goal
 
 pub loop-init : goal.loop-init

@@ -1,6 +1,6 @@
 use Rattle.std.proofs.Common.{length}
 use Rattle.cfgsection.specs.SectionGrammar.{entry_turn}
-use Rattle.reading.proofs.Steps.{Gathers}
+use Rattle.constructs.proofs.Steps.{Gathers}
 use Rattle.cfgsection.specs.Inner.Steps.{section_reader}
 use Rattle.cfgsection.proofs.section.reader.Reader.entries.Given as goal
 

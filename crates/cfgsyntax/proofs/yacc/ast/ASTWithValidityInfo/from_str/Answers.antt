@@ -5,8 +5,8 @@ pub returns-in-Err-clause-answer : goal.returns-in-Err-clause-answer
 returns-in-Err-clause-answer c = λ naming names.
     refusal c.args.text.now naming c.in-Err.fault c.fault_of.result (c.in-Err.ensures.naming naming names) c.fault_of.ensures
 
-pub returns-in-Err-clause-fault_places : goal.returns-in-Err-clause-fault_places
-returns-in-Err-clause-fault_places c = refused_at c.args.text.now c.in-Err.fault c.fault_of.result c.in-Err.ensures.places c.fault_of.ensures
+pub returns-in-Err-clause-fault_offsets : goal.returns-in-Err-clause-fault_offsets
+returns-in-Err-clause-fault_offsets c = refused_at c.args.text.now c.in-Err.fault c.fault_of.result c.in-Err.ensures.offsets c.fault_of.ensures
 
 pub returns-in-Err-clause-listed : goal.returns-in-Err-clause-listed
 returns-in-Err-clause-listed c = refused_listed c.in-Err.fault c.fault_of.result c.in-Err.ensures.listed c.fault_of.ensures

@@ -9,8 +9,8 @@ returns-in-Err-clause-one c = one_naming c.args.text.now
 pub returns-in-Err-clause-answer : goal.returns-in-Err-clause-answer
 returns-in-Err-clause-answer c = refusal_or c.args.text.now c.args.default c.in-Err.fault c.fault_of.result c.in-Err.ensures.naming c.fault_of.ensures
 
-pub returns-in-Err-clause-fault_places : goal.returns-in-Err-clause-fault_places
-returns-in-Err-clause-fault_places c = refused_at c.args.text.now c.in-Err.fault c.fault_of.result c.in-Err.ensures.places c.fault_of.ensures
+pub returns-in-Err-clause-fault_offsets : goal.returns-in-Err-clause-fault_offsets
+returns-in-Err-clause-fault_offsets c = refused_at c.args.text.now c.in-Err.fault c.fault_of.result c.in-Err.ensures.offsets c.fault_of.ensures
 
 pub returns-in-Err-clause-listed : goal.returns-in-Err-clause-listed
 returns-in-Err-clause-listed c = refused_listed c.in-Err.fault c.fault_of.result c.in-Err.ensures.listed c.fault_of.ensures

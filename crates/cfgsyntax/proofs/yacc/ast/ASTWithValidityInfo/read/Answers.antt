@@ -8,10 +8,10 @@ use Rattle.cfgtree.specs.TreeView.{syntax}
 use Rattle.cfgtree.specs.WellFormed.{IsWellFormed}
 use Rattle.cfgtree.proofs.WellFormedLemmas.{syntax_of-IsWellFormed}
 use Rattle.cfgwords.proofs.NameStarts.{begins_as_name}
-use Rattle.cfgwords.specs.Places.{IsPiece, IsWithin}
+use Rattle.cfgwords.specs.TextSpans.{IsPiece, IsWithin}
 use Rattle.cfgast.specs.Items.{Item}
 use Rattle.cfgast.specs.Syntax.{EachSpan, syntax_of}
-use Rattle.cfgsyntax.proofs.ErrorPlaces.{IsErrorAt, read_syntax_at, read_names, read_errors_at}
+use Rattle.cfgsyntax.proofs.ErrorOffsets.{IsErrorAt, read_syntax_at, read_names, read_errors_at}
 use Rattle.cfgsyntax.proofs.SoundLemmas.{of_reading, checked, errors_read}
 use Rattle.cfgsyntax.proofs.yacc.ast.ASTWithValidityInfo.read.Goals as goal
 
@@ -36,8 +36,8 @@ errors_are c items stop reads =
 pub returns-clause-parsed : goal.returns-clause-parsed
 returns-clause-parsed c = record { one = c.in_ok-ast.ensures.one; kind_is = refl; syntax = syntax_is c; errors = errors_are c }
 
-pub returns-clause-places : goal.returns-clause-places
-returns-clause-places c =
+pub returns-clause-offsets : goal.returns-clause-offsets
+returns-clause-offsets c =
     let one = c.in_ok-ast.ensures.one in
     let errors = errors_are c one.items one.stop one.reads in
     record {

@@ -1,5 +1,5 @@
 use Rattle.std.proofs.Common.{◌++◌, [], length, map, option_map, sym, subst, ◌∙◌}
-use Rattle.lending.proofs.Given.{given, given_match}
+use Rattle.scoped.proofs.Given.{given, given_match}
 use Rattle.std.specs.List.{zip}
 use Rattle.cfgast.specs.SyntaxView.{production_view}
 use Rattle.cfgtree.specs.TreeView.{syntax}
@@ -10,7 +10,7 @@ use Rattle.cfgnumbers.specs.Numbered.{added_productions, added_rules, file_produ
 use Rattle.cfgnumbers.specs.Inner.Resolved.{AreTokens, IsResolved}
 use Rattle.cfgnumbers.specs.WellNumbered.{IsWellNumbered}
 use Rattle.cfgyacc.proofs.Built.{built, of_both, well_numbered}
-use Rattle.cfgnumbers.proofs.Places.{implicit_there}
+use Rattle.cfgnumbers.proofs.Positions.{implicit_there}
 use Rattle.cfgnumbers.proofs.Turns.{as_long}
 use Rattle.cfgnumbers.proofs.Valid.{resolved}
 use Rattle.cfgyacc.proofs.grammar.tables.YaccGrammar.from_valid.Goals as goal

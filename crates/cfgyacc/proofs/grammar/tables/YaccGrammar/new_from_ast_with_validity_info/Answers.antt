@@ -1,5 +1,5 @@
 use Rattle.std.proofs.Common.{List, Option, ℕ, rules, sym, subst, ◌∙◌, true≢false}
-use Rattle.cfgwords.specs.Places.{IsPiece, IsWithin}
+use Rattle.cfgwords.specs.TextSpans.{IsPiece, IsWithin}
 use Rattle.cfgast.specs.Syntax.{Syntax}
 use Rattle.cfgtree.specs.TreeView.{syntax}
 use Rattle.cfgnumbers.specs.Fits.{LeavesRoom}
@@ -7,7 +7,7 @@ use Rattle.cfgnumbers.specs.Numbered.{implicit_of, numbered}
 use Rattle.cfgyacc.specs.GrammarSpans.{EachGrammarSpan}
 use Rattle.cfgyacc.proofs.Built.{too_large, answered, of_both}
 use Rattle.cfgyacc.proofs.Refusals.{errors_list, too_small_lists}
-use Rattle.cfgyacc.proofs.Spans.{grammar_spans, nowhere_placed, too_small_spans}
+use Rattle.cfgyacc.proofs.Spans.{grammar_spans, nowhere_located, too_small_spans}
 use Rattle.cfgyacc.proofs.grammar.tables.YaccGrammar.new_from_ast_with_validity_info.Goals as goal
 
 pub returns-then-not-fits-clause-answer : goal.returns-then-not-fits-clause-answer
@@ -20,9 +20,9 @@ returns-then-not-fits-clause-answer g c =
     (λ room. true≢false (sym (c.fits.ensures.1 (of_both HasRoom _ _ _ _ file implicit room)) ∙ c.if-not-fits.true))
     c.in_ok-storage_too_small.ensures
 
-pub returns-then-not-fits-clause-places : goal.returns-then-not-fits-clause-places
-returns-then-not-fits-clause-places g c = λ text utf8 each.
-    too_small_spans (IsPiece text) (IsWithin text) (nowhere_placed text utf8) c.in_ok-storage_too_small.field-0 c.in_ok-storage_too_small.ensures
+pub returns-then-not-fits-clause-offsets : goal.returns-then-not-fits-clause-offsets
+returns-then-not-fits-clause-offsets g c = λ text utf8 each.
+    too_small_spans (IsPiece text) (IsWithin text) (nowhere_located text utf8) c.in_ok-storage_too_small.field-0 c.in_ok-storage_too_small.ensures
 
 pub returns-then-not-fits-clause-listed : goal.returns-then-not-fits-clause-listed
 returns-then-not-fits-clause-listed g c = too_small_lists c.in_ok-storage_too_small.field-0 c.in_ok-storage_too_small.ensures
@@ -47,8 +47,8 @@ returns-clause-answer g c =
     (of_both HasRoom _ _ _ _ (sym file) (sym implicit) (c.fits.ensures.0 c.if-not-fits.false))
     (c.in_ok-from_valid.ensures ∙ (λ i. numbered (c.yacc_kind-kind.ensures i) (c.ast-ast.ensures.value i)))
 
-pub returns-clause-places : goal.returns-clause-places
-returns-clause-places g c = λ text utf8 each.
+pub returns-clause-offsets : goal.returns-clause-offsets
+returns-clause-offsets g c = λ text utf8 each.
     let parsed = c.args.parsed.now in
     subst (EachGrammarSpan (IsPiece text) (IsWithin text)) (sym (c.in_ok-from_valid.ensures ∙ (λ i. numbered (c.yacc_kind-kind.ensures i) (c.ast-ast.ensures.value i))))
-    (grammar_spans (IsPiece text) (IsWithin text) (nowhere_placed text utf8) parsed.kind parsed.syntax each.syntax)
+    (grammar_spans (IsPiece text) (IsWithin text) (nowhere_located text utf8) parsed.kind parsed.syntax each.syntax)

@@ -1,0 +1,78 @@
+use Rattle.std.proofs.Common.{◌≡◌, ◌+◌, ◌-◌, ◌<◌, map, length, arith, sym, ◌∙◌, subst, inl}
+use Rattle.std.proofs.lemmas.List.{length-map}
+use Rattle.derivation.specs.Grammar.{IsSymbolOf}
+use Rattle.cfganalysis.specs.Firsts.{FitsGrammar}
+use Rattle.cfganalysis.specs.Inner.GrowingFollows.{After, PrefixGives}
+use Rattle.cfgtables.specs.NumberedSymbols.{sym_of}
+use Rattle.cfgtables.proofs.Located.{owner, all_symbols}
+use Rattle.cfgtables.proofs.Slices.{mapped_all, mapped_drop, mapped_rest}
+use Rattle.cfganalysis.proofs.FollowVisits.{Flowing, flowing_none, flowing_one, flowing_all}
+use Rattle.cfganalysis.proofs.Gathering.{Fronting, fronting_none, fronting_one}
+use Rattle.cfganalysis.proofs.follows.GrowingFollows.add_production.Goals as goal
+
+pub loop-index-init : goal.loop-index-init
+loop-index-init g c = record {
+  flowing = flowing_none _ _ _ _ _ (simp length-map (omega arith));
+  fronting = fronting_none _ _ _ _ _ _ (simp length-map (omega arith));
+}
+
+pub put_after-requires : goal.put_after-requires
+put_after-requires g c =
+    let lt : c.loop-index.index - 1 < length c.args.symbols.now = omega (arith, c.loop-index-test.true, c.loop-index.auto.index) in
+    let all = all_symbols c.requires.0 _ c.requires.1 c.requires.6 in
+    let say = c.loop-index.invariant.flowing.sound c.requires.0 c.requires.1 c.requires.6 c.requires.2 in (
+      c.requires.0,
+      record { firsts = say.firsts.fits; follows = say.fits },
+      c.loop-index.invariant.flowing.rules ∙ c.requires.4,
+      owner _ _ c.requires.1 c.requires.6,
+      mapped_all (sym_of g.S.Storage.number) _ _ _ c.index-symbols-index.is lt (IsSymbolOf c.requires.0) all,
+      c.loop-index.invariant.fronting.fits c.requires.0 all,
+      c.loop-index.invariant.fronting.long ∙ c.requires.5,
+    )
+
+pub prefix_before-prefix-requires : goal.prefix_before-prefix-requires
+prefix_before-prefix-requires g c =
+    let lt : c.loop-index.index - 1 < length c.args.symbols.now = omega (arith, c.loop-index-test.true, c.loop-index.auto.index) in
+    let all = all_symbols c.requires.0 _ c.requires.1 c.requires.6 in
+    let say = c.loop-index.invariant.flowing.sound c.requires.0 c.requires.1 c.requires.6 c.requires.2 in (
+      c.requires.0,
+      record {
+        firsts = subst (FitsGrammar c.requires.0) (sym c.put_after.ensures.firsts) say.firsts.fits;
+        follows = c.put_after.ensures.shape _ _ say.fits;
+      },
+      owner _ _ c.requires.1 c.requires.6,
+      mapped_all (sym_of g.S.Storage.number) _ _ _ c.index-symbols-index.is lt (IsSymbolOf c.requires.0) all,
+      c.loop-index.invariant.fronting.fits c.requires.0 all,
+      c.loop-index.invariant.fronting.long ∙ c.requires.5,
+    )
+
+pub loop-index-preserved : goal.loop-index-preserved
+loop-index-preserved g c =
+    let number = g.S.Storage.number in
+    let rule = number c.args.rule.0 in
+    let symbols = map (sym_of number) c.args.symbols.now in
+    let lt : c.loop-index.index - 1 < length c.args.symbols.now = omega (arith, c.loop-index-test.true, c.loop-index.auto.index) in
+    let back : c.loop-index.index ≡ c.loop-index.index - 1 + 1 = omega (arith, c.loop-index-test.true) in
+    let at = mapped_drop (sym_of number) c.args.symbols.now (c.loop-index.index - 1) _ c.index-symbols-index.is lt in
+    let after = mapped_rest (sym_of number) c.args.symbols.now (c.loop-index.index - 1) _ c.index-symbols-index.is lt in
+    let flowing = subst (λ n. Flowing rule symbols n c.args.self.now c.loop-index.self c.args.gained.now c.loop-index.gained)
+    back c.loop-index.invariant.flowing in
+    let fronting = subst (λ n. Fronting number rule symbols n (length c.args.gathered.now) c.args.self.now c.loop-index.self
+    c.loop-index.prefix c.loop-index.gathered) back c.loop-index.invariant.fronting in
+    record {
+      flowing = flowing_one _ _ _ _ _ (PrefixGives number c.loop-index.self rule c.loop-index.gathered c.loop-index.prefix) _ _ _ _ _ _ at after flowing
+          (λ t h. fronting.below c.loop-index.self flowing.firsts (λ r u i. i) t (subst (λ l. After c.args.self.now rule l t) after h))
+          (λ t h. subst (λ l. After c.loop-index.self rule l t) (sym after) (fronting.above c.loop-index.self flowing.firsts (λ r u i. i) t h))
+          c.put_after.ensures;
+      fronting = fronting_one number rule symbols _ _ _ _ _ _ _ _ _ _ _ at after
+          (λ grm all. mapped_all (sym_of number) _ _ _ c.index-symbols-index.is lt (IsSymbolOf grm) all) fronting
+          (c.put_after.ensures.firsts ∙ flowing.firsts) (λ r t h. (c.put_after.ensures.bits r t).1 (inl h)) c.prefix_before-prefix.ensures;
+    }
+
+pub returns-clause-takes : goal.returns-clause-takes
+returns-clause-takes g c = flowing_all _ _ _ _ _ _ _ (omega (arith, c.loop-index-test.false)) c.requires.3 c.loop-index.invariant.flowing
+
+pub returns-clause-columns : goal.returns-clause-columns
+returns-clause-columns g c =
+    let say = c.loop-index.invariant.flowing.sound c.requires.0 c.requires.1 c.requires.6 c.requires.2 in
+    say.fits.width ∙ sym c.requires.2.fits.width

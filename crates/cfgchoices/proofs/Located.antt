@@ -1,0 +1,242 @@
+-- The index of a production among others in descending order, and what waits after it was inserted.
+use Rattle.std.proofs.Common.{◌≡◌, ◌↔◌, ℕ, ◌+◌, ◌<◌, ◌≤◌, ◌⊎◌, inl, inr, true, false, List, [], ◌∷◌, ◌++◌, get_or, length, map, take, drop, slice_set, Option, Some, None, Contains, arith, refl, sym, ap, subst, ◌∙◌, true≢false}
+use Rattle.std.proofs.lemmas.Option.{same_Some}
+use Rattle.std.specs.List.{insert}
+use Rattle.std.specs.Ordering.{is_lt, ordering_reverse}
+use Rattle.std.specs.declared.cmp.Ordering.{Ordering}
+use Rattle.std.proofs.lemmas.Bool.{cases_lt}
+use Rattle.std.proofs.lemmas.Cmp.{nat_list_cmp_total}
+use Rattle.cfgindex.specs.declared.idxnewtype.PIdx.{PIdx}
+use Rattle.std.proofs.lemmas.List.{get_or-map, take-append-drop, take-map, drop-map, map-append, map-set, length_push, length-set}
+use Rattle.lemmas.proofs.Elements.{get_or-set}
+use Rattle.std.proofs.lemmas.List.Edits.{length-insert}
+use Rattle.std.proofs.lemmas.List.Elements.{Contains-append_left, Contains-append_right, Contains-append_cases, Contains-get_or, Contains-push, Contains-push_cases}
+use Rattle.cfgchoices.specs.Inner.Choices.{ChoicesGive}
+use Rattle.cfgleast.specs.Generator.{CostTables}
+use Rattle.cfgchoices.specs.FirstSentence.{lexicographic}
+use Rattle.cfgchoices.specs.Inner.Kinds.{positions_of}
+use Rattle.cfgchoices.specs.Inner.Candidates.{Adds, Handles, HasChoice, IsHandled, IsCandidate, Known, Level, NotAfter, Nominating, Candidates, StandsFor, Waits, by, is_sole, owner, position_of, sequence}
+use Rattle.lemmas.proofs.Contained.{contains_cases, contains_first, contains_later}
+use Rattle.cfgchoices.proofs.Nominated.{IsGiven, handled_wider, not_after_both, nominated_given, holds_itself}
+use Rattle.cfgchoices.proofs.SequencesInOrder.{insert_in_order}
+
+module _ {X : Type 0} (xs : List X) (at : ℕ) (y : X) where
+  pub insert_has : (z : X) → Contains (insert xs at y) z ↔ (Contains xs z ⊎ (z ≡ y))
+  insert_has z = (
+    (λ h. elim (Contains-append_cases (take at xs) (y ∷ drop at xs) z h) [
+      | inl prefix ↦ inl (subst (λ l. Contains l z) (take-append-drop at xs) (Contains-append_left (take at xs) (drop at xs) z prefix))
+      | inr back ↦ elim (contains_cases y z (drop at xs) back) [
+        | inl same ↦ inr (sym same)
+        | inr rest ↦ inl (subst (λ l. Contains l z) (take-append-drop at xs) (Contains-append_right (take at xs) (drop at xs) z rest))
+      ]
+    ]),
+    (λ h. elim h [
+      | inl old ↦ elim (Contains-append_cases (take at xs) (drop at xs) z (subst (λ l. Contains l z) (sym (take-append-drop at xs)) old)) [
+        | inl prefix ↦ Contains-append_left (take at xs) (y ∷ drop at xs) z prefix
+        | inr back ↦ Contains-append_right (take at xs) (y ∷ drop at xs) z (contains_later y z (drop at xs) back)
+      ]
+      | inr is ↦ subst (Contains (insert xs at y)) (sym is) (Contains-append_right (take at xs) (y ∷ drop at xs) y (contains_first y (drop at xs)))
+    ]),
+  )
+
+pub insert_shown : {A B : Type 0} (f : A → B) (xs : List A) (at : ℕ) (y : A) → map f (insert xs at y) ≡ insert (map f xs) at (f y)
+insert_shown f xs at y = map-append f (take at xs) (y ∷ drop at xs) ∙ ap (λ l. l ++ f y ∷ map f (drop at xs)) (sym (take-map f at xs))
+    ∙ ap (λ l. take at (map f xs) ++ f y ∷ l) (sym (drop-map f at xs))
+
+-- a sorted list, where nothing below `low` comes before the production, and nothing from `high` on comes after it
+pub record Between (k : Known) (f : Candidates) (p low high : ℕ) : Type 0 where
+  pub within : high ≤ length f.level
+  pub ordered : low ≤ high
+  pub before : (i : ℕ) → i < low → NotAfter k.tables f.choices (sequence k.tables p) (sequence k.tables (get_or f.level i 0))
+  pub after : (i : ℕ) → high ≤ i → i < length f.level → NotAfter k.tables f.choices (sequence k.tables (get_or f.level i 0)) (sequence k.tables p)
+
+module _ (k : Known) (f : Candidates) (level : Level k f) (p : ℕ) (given : IsGiven k.tables f.choices (sequence k.tables p)) where
+  abbrev x : CostTables
+  x = k.tables
+
+  abbrev nth : ℕ → ℕ
+  nth i = get_or f.level i 0
+
+  nth_given : (i : ℕ) → i < length f.level → IsGiven x f.choices (sequence x (nth i))
+  nth_given i h = nominated_given k f.choices f.number level.choosing f.cost (nth i) (level.nominated (nth i) (inr (Contains-get_or f.level i 0 h)))
+
+  module _ (low high middle : ℕ) (b : Between k f p low high) (from : low ≤ middle) (to : middle < high) where
+    inside : middle < length f.level
+    inside = omega (arith, to, b.within)
+
+    pub prefix_half : NotAfter x f.choices (sequence x (nth middle)) (sequence x p) → Between k f p low middle
+    prefix_half here = record {
+      within = let lt = inside in omega (arith, lt);
+      ordered = from;
+      before = b.before;
+      after = λ i le lt. elim (cases_lt middle i) [
+        | inl later ↦ not_after_both x f.choices (sequence x (nth i)) (sequence x (nth middle)) (sequence x p) (nth_given middle inside) (level.order middle i later lt) here
+        | inr not ↦ let same : middle ≡ i = omega (arith, le, not) in subst (λ j. NotAfter x f.choices (sequence x (nth j)) (sequence x p)) same here
+      ];
+    }
+
+    pub back_half : NotAfter x f.choices (sequence x p) (sequence x (nth middle)) → Between k f p (middle + 1) high
+    back_half here = record {
+      within = b.within;
+      ordered = omega (arith, to);
+      before = λ i lt. elim (cases_lt i middle) [
+        | inl sooner ↦ not_after_both x f.choices (sequence x p) (sequence x (nth middle)) (sequence x (nth i)) (nth_given middle inside) here (level.order i middle sooner inside)
+        | inr not ↦ let same : middle ≡ i = omega (arith, lt, not) in subst (λ j. NotAfter x f.choices (sequence x p) (sequence x (nth j))) same here
+      ];
+      after = b.after;
+    }
+
+-- an element of the code's list, in numbers
+pub nth_shown : {S : Type 0} (number : S → ℕ) (items : List (PIdx S)) (i : ℕ) (p : PIdx S) → i < length items → p ≡ get_or items i p → get_or (positions_of number items) i 0 ≡ number p.0
+nth_shown number items i p lt is = get_or-map (λ (p : PIdx _). number p.0) items i p 0 lt ∙ ap (λ (q : PIdx _). number q.0) (sym is)
+
+-- a production in the middle is compared
+module _ (k : Known) (f : Candidates) (level : Level k f) (p : ℕ) (nominated : IsCandidate k f.choices f.number f.cost p) (low high middle q : ℕ) (b : Between k f p low high)
+    (from : low ≤ middle) (to : middle < high) (at : get_or f.level middle 0 ≡ q) where
+  pub middle_nominated : IsCandidate k f.choices f.number f.cost q
+  middle_nominated = subst (IsCandidate k f.choices f.number f.cost) at
+      (level.nominated (get_or f.level middle 0) (inr (Contains-get_or f.level middle 0 (omega (arith, to, b.within)))))
+
+  module _ (o : Ordering) (reported : (u v : List ℕ) → ChoicesGive (by k.tables f.choices) (sequence k.tables q) u → ChoicesGive (by k.tables f.choices) (sequence k.tables p) v → o ≡ lexicographic u v) where
+    mine : IsGiven k.tables f.choices (sequence k.tables p)
+    mine = nominated_given k f.choices f.number level.choosing f.cost p nominated
+
+    pub to_prefix : is_lt o ≡ true → Between k f p low middle
+    to_prefix e = prefix_half k f level p mine low high middle b from to
+        (subst (λ i. NotAfter k.tables f.choices (sequence k.tables i) (sequence k.tables p)) (sym at) (λ u v h k greater. true≢false (sym e ∙ ap is_lt (reported u v h k ∙ greater))))
+
+    pub to_back : is_lt o ≡ false → Between k f p (middle + 1) high
+    to_back e = back_half k f level p mine low high middle b from to
+        (subst (λ i. NotAfter k.tables f.choices (sequence k.tables p) (sequence k.tables i)) (sym at) (λ u v h k greater. true≢false (sym (ap is_lt (reported v u k h ∙ nat_list_cmp_total.antisymm v u ∙ ap ordering_reverse greater)) ∙ e)))
+
+-- one more waits, or one that gives nothing greater does
+module _ (k : Known) (f : Candidates) (o : Nominating k f) (p : ℕ) (nominated : IsCandidate k f.choices f.number f.cost p) where
+  abbrev level : Level k f
+  level = o.level
+
+  itself : StandsFor k.tables f.choices p p
+  itself = holds_itself k.tables f.choices p (nominated_given k f.choices f.number level.choosing f.cost p nominated)
+
+  one_more : (f' : Candidates) → f'.choices ≡ f.choices → ((q : ℕ) → Waits f q → Waits f' q) → Waits f' p → Handles k.tables (λ q. q ≡ p) f f'
+  one_more f' same wider now q (inl old) = handled_wider k.tables f f' same wider q old
+  one_more f' same wider now q (inr is) = subst (IsHandled k.tables f') (sym is) (inr (p, now, subst (λ l. StandsFor k.tables l p p) (sym same) itself))
+
+  pub covered_adds : IsHandled k.tables f p → Adds k.tables (λ q. q ≡ p) 1 f f
+  covered_adds handled = record {
+    choices = refl;
+    number = refl;
+    cost = refl;
+    handles = λ q h. elim h [ inl old ↦ old | inr is ↦ subst (IsHandled k.tables f) (sym is) handled ];
+    together = omega arith;
+  }
+
+  module _ (q : ℕ) (e : get_or f.foremost (owner k.tables p) None ≡ Some q) (not : HasChoice f.choices (owner k.tables p) → ⊥) where
+    it_waits : Waits f q
+    it_waits = elim (o.foremost (owner k.tables p) q e).1 [ inl waits ↦ waits | inr has ↦ absurd (not has) ]
+
+    pub foremost_nominated : IsCandidate k f.choices f.number f.cost q
+    foremost_nominated = level.nominated q it_waits
+
+    pub foremost_handled : NotAfter k.tables f.choices (sequence k.tables q) (sequence k.tables p) → IsHandled k.tables f p
+    foremost_handled before = inr (q, it_waits, record { same = (o.foremost (owner k.tables p) q e).0; given = itself.given; before = before })
+
+  abbrev with_ready : List ℕ → Candidates
+  with_ready ready = record { choices = f.choices; number = f.number; cost = f.cost; ready = ready; level = f.level; foremost = f.foremost }
+
+  module _ (ready : List ℕ) (e : ready ≡ f.ready ++ p ∷ []) where
+    ready_more : (q : ℕ) → Contains ready q → Contains f.ready q ⊎ (p ≡ q)
+    ready_more q h = Contains-push_cases f.ready p q (subst (λ l. Contains l q) e h)
+
+    ready_wider : (q : ℕ) → Waits f q → Waits (with_ready ready) q
+    ready_wider q (inl old) = inl (subst (λ l. Contains l q) (sym e) (Contains-append_left f.ready (p ∷ []) q old))
+    ready_wider q (inr other) = inr other
+
+    pub ready_nominating : is_sole k (owner k.tables p) ≡ true → Nominating k (with_ready ready)
+    ready_nominating sole = record {
+      level = record {
+        choosing = level.choosing;
+        costs = level.costs;
+        nominated = λ q h. elim h [
+          | inl now ↦ elim (ready_more q now) [ inl old ↦ level.nominated q (inl old) | inr is ↦ subst (IsCandidate k f.choices f.number f.cost) is nominated ]
+          | inr other ↦ level.nominated q (inr other)
+        ];
+        sole = λ q h. elim (ready_more q h) [ inl old ↦ level.sole q old | inr is ↦ subst (λ i. is_sole k (owner k.tables i) ≡ true) is sole ];
+        several = level.several;
+        order = level.order;
+      };
+      listed = o.listed;
+      foremost = λ r q at. let (owned, where_is) = o.foremost r q at in (owned, elim where_is [ inl waits ↦ inl (ready_wider q waits) | inr has ↦ inr has ]);
+    }
+
+    pub ready_adds : Adds k.tables (λ q. q ≡ p) 1 f (with_ready ready)
+    ready_adds = record {
+      choices = refl;
+      number = refl;
+      cost = refl;
+      handles = one_more (with_ready ready) refl ready_wider (inl (subst (λ l. Contains l p) (sym e) (Contains-push f.ready p)));
+      together = let long = length_push f.ready p in let len = ap length e in omega (arith, long, len);
+    }
+
+  abbrev with_level : List ℕ → Candidates
+  with_level list = record f {
+    level = list;
+    foremost = slice_set f.foremost (owner k.tables p) (Some p);
+  }
+
+  module _ (at : ℕ) (within : at ≤ length f.level)
+      (before : (i : ℕ) → i < at → NotAfter k.tables f.choices (sequence k.tables p) (sequence k.tables (get_or f.level i 0)))
+      (after : (i : ℕ) → at ≤ i → i < length f.level → NotAfter k.tables f.choices (sequence k.tables (get_or f.level i 0)) (sequence k.tables p)) where
+    abbrev put : List ℕ
+    put = insert f.level at p
+
+    put_wider : (q : ℕ) → Waits f q → Waits (with_level put) q
+    put_wider q (inl ready) = inl ready
+    put_wider q (inr other) = inr ((insert_has f.level at p q).1 (inl other))
+
+    put_now : Waits (with_level put) p
+    put_now = inr ((insert_has f.level at p p).1 (inr refl))
+
+    pub put_nominating : is_sole k (owner k.tables p) ≡ false → Nominating k (with_level put)
+    put_nominating several = record {
+      level = record {
+        choosing = level.choosing;
+        costs = level.costs;
+        nominated = λ q h. elim h [
+          | inl ready ↦ level.nominated q (inl ready)
+          | inr other ↦ elim ((insert_has f.level at p q).0 other) [ inl old ↦ level.nominated q (inr old) | inr is ↦ subst (IsCandidate k f.choices f.number f.cost) (sym is) nominated ]
+        ];
+        sole = level.sole;
+        several = λ q h. elim ((insert_has f.level at p q).0 h) [ inl old ↦ level.several q old | inr is ↦ subst (λ i. is_sole k (owner k.tables i) ≡ false) (sym is) several ];
+        order = λ i j lt short. insert_in_order (λ a b. NotAfter k.tables f.choices (sequence k.tables b) (sequence k.tables a)) 0 f.level at p within level.order before after i j lt
+            (subst (λ m. j < m) (length-insert f.level at p within) short);
+      };
+      listed = length-set f.foremost (owner k.tables p) (Some p) ∙ o.listed;
+      foremost = λ r q e. elim (get_or-set f.foremost (owner k.tables p) r (Some p) None) [
+        | inl same ↦
+            let (owned, where_is) = o.foremost r q (sym same ∙ e) in
+            (owned, elim where_is [ inl waits ↦ inl (put_wider q waits) | inr has ↦ inr has ])
+        | inr new ↦
+            let is : p ≡ q = same_Some _ _ (sym new.1 ∙ e) in
+            (ap (owner k.tables) (sym is) ∙ sym new.0, inl (subst (Waits (with_level put)) is put_now))
+      ];
+    }
+
+    pub put_adds : Adds k.tables (λ q. q ≡ p) 1 f (with_level put)
+    put_adds = record {
+      choices = refl;
+      number = refl;
+      cost = refl;
+      handles = one_more (with_level put) refl put_wider put_now;
+      together = let long = length-insert f.level at p within in omega (arith, long);
+    }
+
+-- the code's lists as numbers, after a production was inserted
+pub put_shown : {S : Type 0} (number : S → ℕ) (level : List (PIdx S)) (foremost : List (Option (PIdx S))) (f : Candidates) (at i r : ℕ) (p : PIdx S) → i ≡ r
+    → (level' : List (PIdx S)) → level' ≡ insert level at p
+    → ◌≡◌ {A = Candidates} (record { choices = f.choices; number = f.number; cost = f.cost; ready = f.ready; level = insert (positions_of number level) at (number p.0); foremost = slice_set (map (position_of number) foremost) r (Some (number p.0)) })
+    (record { choices = f.choices; number = f.number; cost = f.cost; ready = f.ready; level = positions_of number level'; foremost = map (position_of number) (slice_set foremost i (Some p)) })
+put_shown number level foremost f at i r p same level' e =
+    let levels = sym (ap (positions_of number) e ∙ insert_shown (λ p. number p.0) level at p) in
+    let entries = sym (map-set (position_of number) foremost i (Some p) ∙ ap (λ j. slice_set (map (position_of number) foremost) j (Some (number p.0))) same) in
+    ap (λ (l : List ℕ). record { choices = f.choices; number = f.number; cost = f.cost; ready = f.ready; level = l; foremost = slice_set (map (position_of number) foremost) r (Some (number p.0)) }) levels
+    ∙ ap (λ (l : List (Option ℕ)). record { choices = f.choices; number = f.number; cost = f.cost; ready = f.ready; level = positions_of number level'; foremost = l }) entries

@@ -1,0 +1,383 @@
+-- What the cost tables say of optimal productions, and what derivations say of them.
+use Rattle.std.proofs.Common.{◌≡◌, ℕ, ◌<◌, ◌≤◌, ◌⊎◌, inl, inr, List, [], ◌∷◌, ◌++◌, length, get_or, Option, Some, None, Result, Ok, Err, All, Contains, arith, refl, sym, ap, subst, ◌∙◌}
+use Rattle.std.proofs.lemmas.Option.{none-some, same_Some}
+use Rattle.std.proofs.lemmas.Bool.{cases_lt}
+use Rattle.std.proofs.lemmas.List.{get_or_default, get_or_past}
+use Rattle.lemmas.proofs.Elements.{within_from_get_or}
+use Rattle.std.proofs.lemmas.List.Elements.{All-nil, All-cons, All-contains}
+use Rattle.std.proofs.lemmas.List.Sums.{sum_by-append}
+use Rattle.derivation.specs.Grammar.{Sym, Rule, Token, Production, IsGrammar, HasProduction}
+use Rattle.derivation.specs.Sentence.{cost_of}
+use Rattle.derivation.specs.Costs.{Least, Minimal}
+use Rattle.derivation.proofs.Costs.{minimal_costs_least, least_is_one}
+use Rattle.cfgtables.specs.Openings.{nth_production}
+use Rattle.cfgtables.proofs.Located.{at_position}
+use Rattle.derivation.specs.declared.errors.CostError.{CostError}
+use Rattle.derivation.specs.declared.errors.CostError.TheVariants.{NoSentence, CostTooLarge}
+use Rattle.derivation.specs.Sums.{sum_of, symbol_cost}
+use Rattle.derivation.specs.CostLists.{rule_cost}
+use Rattle.derivation.proofs.Sums.{plus_parts, plus_both}
+use Rattle.derivation.proofs.Made.{cost_of-token}
+use Rattle.cfgleast.specs.Generator.{CostTables, IsGenerator, cost_answer, token_cost}
+use Rattle.cfgchoices.specs.Levels.{Along, here, next, CostsAsItsRule, ChainsTo, IsBase}
+use Rattle.cfgchoices.specs.Inner.Kinds.{AreKinds, HasTarget, HasNoTarget, HasRulesAsTargets, IsTarget, IsKind, IsSequenceKind, IsOptimal, IsMinimal, IsBaseBelow}
+use Rattle.cfgleast.specs.Inner.Open.{StopsAt}
+use Rattle.cfgchoices.specs.Splits.{Split, done, itself, part}
+use Rattle.cfgchoices.specs.declared.kinds.Kind.{Kind}
+use Rattle.cfgchoices.specs.declared.kinds.Kind.TheVariants as kinds
+use Rattle.cfgleast.specs.declared.partial.Partial.{Partial}
+use Rattle.lemmas.proofs.Contained.{contains_cases, contains_none}
+use Rattle.cfgleast.proofs.Gains.{part_at}
+use Rattle.cfgleast.proofs.Generated.{answered_some, some_answered, reads_cost, reads_too_large, reads_none}
+use Rattle.cfgchoices.proofs.Lengths.{IsPaid, productions_paid}
+use Rattle.cfgchoices.proofs.Levels.{at_least, chained_down_minimal, minimal_chained_down, rule_nothing}
+
+-- if a rule has no cost, the list has none
+pub stops_none : (cost : ℕ → ℕ) (settled : ℕ → Option ℕ) (symbols : List Sym) (r n : ℕ) (x : Partial) → StopsAt cost settled symbols r x → sum_of (symbol_cost cost settled) symbols ≡ Some n → ⊥
+stops_none cost settled symbols r n x stop e =
+    let part = part_at (symbol_cost cost settled) symbols x.taken (Rule r) n stop.taken stop.symbol e in none-some _ (sym stop.unset ∙ part.is)
+
+-- a rule and its production have one cost, whichever table gives it
+pub one_cost : (x : CostTables) (r c d : ℕ) → cost_answer x r ≡ Some c → cost_answer x r ≡ Some d → c ≡ d
+one_cost x r c d e f = same_Some _ _ (sym e ∙ f)
+
+-- If a rule in a list costs as much as the list, nothing else in it costs anything.
+module _ (x : CostTables) where
+  abbrev costs : Sym → Option ℕ
+  costs = symbol_cost (token_cost x) (rule_cost x.least)
+
+  abbrev pub CostsNothing : Sym → Type 0
+  CostsNothing s = costs s ≡ Some 0
+
+  pub data LinksTo (q : ℕ) : List Sym → Type 0 where
+    in_prefix : {a : List Sym} → All CostsNothing a → LinksTo q (Rule q ∷ a)
+    further : {s : Sym} {a : List Sym} → CostsNothing s → LinksTo q a → LinksTo q (s ∷ a)
+
+  none_costs : (a : List Sym) (m : ℕ) → sum_of costs a ≡ Some m → m ≤ 0 → All CostsNothing a
+  none_costs [] m e none = All-nil CostsNothing
+  none_costs (s ∷ a) m e none =
+      let p = plus_parts (costs s) (sum_of costs a) m e in
+      All-cons CostsNothing s a (p.first_is ∙ ap Some (omega (arith, p.whole, none))) (none_costs a p.second p.second_is (omega (arith, p.whole, none)))
+
+  chains_sequence : (a : List Sym) (q c m : ℕ) → sum_of costs a ≡ Some m → m ≤ c → Contains a (Rule q) → rule_cost x.least q ≡ Some c → LinksTo q a
+  chains_sequence [] q c m e small h k = absurd (contains_none (Rule q) h)
+  chains_sequence (s ∷ a) q c m e small h k =
+      let p = plus_parts (costs s) (sum_of costs a) m e in
+      elim (contains_cases s (Rule q) a h) [
+        | inl same ↦
+            let first : c ≡ p.first = same_Some _ _ (sym k ∙ ap costs (sym same) ∙ p.first_is) in
+            subst (λ t. LinksTo q (t ∷ a)) (sym same) (in_prefix (none_costs a p.second p.second_is (omega (arith, p.whole, small, first))))
+        | inr after ↦
+            let part = part_at costs a after.0 (Rule q) p.second after.1 after.2 p.second_is in
+            let value : c ≡ part.value = same_Some _ _ (sym k ∙ part.is) in
+            further (p.first_is ∙ ap Some (omega (arith, p.whole, small, value, part.within))) (chains_sequence a q c p.second p.second_is (omega (arith, p.whole, small)) after k)
+      ]
+
+  pub chains_target : (p q : ℕ) → IsTarget x p q → LinksTo q (nth_production x.grammar p).symbols
+  chains_target p q target =
+      let c = target.optimal.cost in
+      chains_sequence (nth_production x.grammar p).symbols q c c target.optimal.sum (omega arith) target.among (answered_some (rule_cost x.least q) c target.same).0
+
+  pub others_free : {q : ℕ} {a : List Sym} → LinksTo q a → (s : ℕ) → Contains a (Rule s) → (q ≡ s) ⊎ CostsNothing (Rule s)
+  others_free {q} (in_prefix {a = a} free) s h = elim (contains_cases (Rule q) (Rule s) a h) [
+    | inl same ↦ inl (cc)
+    | inr after ↦ inr (All-contains CostsNothing a (Rule s) free after)
+  ]
+  others_free (further {s = y} {a = a} free chains) s h = elim (contains_cases y (Rule s) a h) [
+    | inl same ↦ inr (ap costs (sym same) ∙ free)
+    | inr after ↦ others_free chains s after
+  ]
+
+-- a production is optimal whatever is chosen
+pub optimal_whatever : (x : CostTables) (choices : List (Option (ℕ × ℕ))) (p : ℕ) → IsOptimal x p
+    → IsOptimal (record { grammar = x.grammar; costs = x.costs; least = x.least; choices = choices }) p
+optimal_whatever x choices p t = record { index = t.index; cost = t.cost; positive = t.positive; rule = t.rule; sum = t.sum }
+
+-- the symbols of a production determine its kind, if its rule has a cost to return that isn't 0
+module _ (x : CostTables) (p c : ℕ) (index : p < length x.grammar.productions) (rule : rule_cost x.least (nth_production x.grammar p).rule ≡ Some c) where
+  cost_is : (optimal : IsOptimal x p) → optimal.cost ≡ c
+  cost_is optimal = same_Some _ _ (sym (answered_some (rule_cost x.least (nth_production x.grammar p).rule) optimal.cost optimal.rule).0 ∙ rule)
+
+  module _ (some : 0 < c) (small : c < 65536) where
+    optimal_now : sum_of (symbol_cost (token_cost x) (rule_cost x.least)) (nth_production x.grammar p).symbols ≡ Some c → IsOptimal x p
+    optimal_now e = record {
+      index = index;
+      cost = c;
+      positive = some;
+      rule = some_answered (rule_cost x.least (nth_production x.grammar p).rule) c rule (omega (arith, small));
+      sum = e;
+    }
+
+    pub kind_reported : {S : Type 0} (number : S → ℕ) (kind : Kind S)
+        → IsSequenceKind number (token_cost x) (rule_cost x.least) c (nth_production x.grammar p).symbols kind → IsKind number x p kind
+    kind_reported number kinds.Slack h = λ optimal. h (optimal.sum ∙ ap Some (cost_is optimal))
+    kind_reported number kinds.Base h = record {
+      optimal = optimal_now h.0;
+      none = λ q target. h.1 q target.among ((answered_some (rule_cost x.least q) target.optimal.cost target.same).0 ∙ ap Some (cost_is target.optimal));
+    }
+    kind_reported number (kinds.ChainsTo r) h = record {
+      optimal = optimal_now h.0;
+      among = h.1;
+      same = some_answered (rule_cost x.least (number r.0)) c h.2 (omega (arith, small)) ∙ ap Some (sym (cost_is (optimal_now h.0)));
+    }
+
+-- the kind that is read for a production
+module _ {S : Type 0} (number : S → ℕ) (x : CostTables) where
+  pub kind_read : (listed : List (Kind S)) (p i : ℕ) (kind : Kind S) → AreKinds number x listed → i ≡ p → p < length x.grammar.productions → kind ≡ get_or listed i kind → IsKind number x p kind
+  kind_read listed p i kind are at within is =
+      let there : p < length listed = subst (λ n. p < n) (sym are.all) within in
+      subst (IsKind number x p) (get_or_default listed p kinds.Slack kind there ∙ sym (subst (λ n. kind ≡ get_or listed n kind) at is)) (are.each p there)
+
+-- what has a cost is a rule of the grammar
+pub answered_within : (x : CostTables) (n : ℕ) → IsGenerator x n → (q c : ℕ) → cost_answer x q ≡ Some c → q < x.grammar.rules
+answered_within x n is q c e =
+    let known = (answered_some (rule_cost x.least q) c e).0 in
+    subst (λ m. q < m) is.settled.chosen.costs (within_from_get_or x.least q None (λ none. let never : None ≡ Some c = sym none ∙ known in cc))
+
+-- a production leads to at most one rule
+pub one_target : (x : CostTables) (p q r : ℕ) → IsTarget x p q → IsTarget x p r → q ≡ r
+one_target x p q r h k = elim (others_free x (chains_target x p q h) r k.among) [
+  | inl same ↦ same
+  | inr free ↦
+      let none : 0 ≡ k.optimal.cost = same_Some _ _ (sym free ∙ (answered_some (rule_cost x.least r) k.optimal.cost k.same).0) in
+      absurd (omega (arith, none, k.optimal.positive))
+]
+
+module _ (x : CostTables) (n : ℕ) (is : IsGenerator x n) (grammar : IsGrammar x.grammar) where
+  abbrev P : ℕ → List Sym → Type 0
+  P = HasProduction x.grammar
+
+  abbrev cost : ℕ → ℕ
+  cost = token_cost x
+
+  abbrev sums : Sym → Option ℕ
+  sums = symbol_cost (token_cost x) (rule_cost x.least)
+
+  abbrev Cut : List Sym → List ℕ → Type 0
+  Cut = Split (Minimal P cost)
+
+  pub paid : (r : ℕ) (symbols : List Sym) → P r symbols → All (IsPaid cost) symbols
+  paid = productions_paid x.grammar x.costs grammar is.tokens is.positive
+
+  pub least_of : (r c : ℕ) → cost_answer x r ≡ Some c → Least P cost r c
+  least_of r c e = let k = answered_some (rule_cost x.least r) c e in (reads_cost x n is r c k.0 k.1).least
+
+  pub answer_of : (r c : ℕ) → Least P cost r c → c ≤ 65535 → cost_answer x r ≡ Some c
+  answer_of r c l small = go (rule_cost x.least r) refl
+    where
+      go : (o : Option ℕ) → rule_cost x.least r ≡ o → cost_answer x r ≡ Some c
+      go None e = let no : ◌≡◌ {A = Result ℕ CostError} (Err NoSentence) (Ok c) = (reads_none x n is r e).found c l small in absurd (cc)
+      go (Some d) e = elim (cases_lt 65535 d) [
+        | inl too_large ↦ let no : ◌≡◌ {A = Result ℕ CostError} (Err CostTooLarge) (Ok c) = (reads_too_large x n is r d e too_large).found c l small in absurd (cc)
+        | inr within ↦
+            let same : ◌≡◌ {A = Result ℕ CostError} (Ok d) (Ok c) = (reads_cost x n is r d e within).found c l small in
+            let one : d ≡ c = cc in
+            some_answered (rule_cost x.least r) c (e ∙ ap Some one) small
+      ]
+
+  -- a list that has a cost has minimal sentences of that cost
+  pub cut_of_sum : (a : List Sym) (m : ℕ) → sum_of sums a ≡ Some m → m ≤ 65535 → (w : List ℕ) × Cut a w × (cost_of cost w ≡ m)
+  cut_of_sum [] m e small = let is : 0 ≡ m = cc in ([], done, is)
+  cut_of_sum (Token t ∷ a) m e small =
+      let p = plus_parts (Some (cost t)) (sum_of sums a) m e in
+      let first : cost t ≡ p.first = same_Some _ _ p.first_is in
+      let (w, cut, costs) = cut_of_sum a p.second p.second_is (omega (arith, p.whole, small)) in
+      let both = cost_of-token cost t w in
+      (t ∷ w, itself cut, omega (arith, both, costs, first, p.whole))
+  cut_of_sum (Rule r ∷ a) m e small =
+      let p = plus_parts (rule_cost x.least r) (sum_of sums a) m e in
+      let least = (reads_cost x n is r p.first p.first_is (omega (arith, p.whole, small))).least in
+      let (u, s, costs) = least.0 in
+      let (w, cut, rest) = cut_of_sum a p.second p.second_is (omega (arith, p.whole, small)) in
+      let both = sum_by-append cost u w in
+      (u ++ w, part (s, λ v t. subst (λ k. k ≤ cost_of cost v) (sym costs) (least.1 v t)) cut refl, omega (arith, both, costs, rest, p.whole))
+
+  pub sum_of_cut : {a : List Sym} {w : List ℕ} → Cut a w → cost_of cost w ≤ 65535 → sum_of sums a ≡ Some (cost_of cost w)
+  sum_of_cut done small = refl
+  sum_of_cut (itself {t = t} {a = a} {w = w} s) small =
+      let both = cost_of-token cost t w in
+      plus_both (Some (cost t)) (sum_of sums a) (cost t) (cost_of cost w) refl (sum_of_cut s (omega (arith, both, small))) ∙ ap Some (sym both)
+  sum_of_cut (part {r = r} {a = a} {u = u} {w = w} m s e) small =
+      let both = ap (cost_of cost) e ∙ sum_by-append cost u w in
+      let known = answer_of r (cost_of cost u) (minimal_costs_least P cost r u m) (omega (arith, both, small)) in
+      plus_both (rule_cost x.least r) (sum_of sums a) (cost_of cost u) (cost_of cost w) (answered_some (rule_cost x.least r) (cost_of cost u) known).0
+      (sum_of_cut s (omega (arith, both, small))) ∙ ap Some (sym both)
+
+  optimal_reported : (p : ℕ) (optimal : IsOptimal x p) → CostsAsItsRule P cost (nth_production x.grammar p).rule (nth_production x.grammar p).symbols optimal.cost
+  optimal_reported p optimal =
+      let known = answered_some (rule_cost x.least (nth_production x.grammar p).rule) optimal.cost optimal.rule in
+      let (w, cut, costs) = cut_of_sum (nth_production x.grammar p).symbols optimal.cost optimal.sum known.1 in record {
+        has = at_position x.grammar p _ optimal.index refl refl;
+        least = least_of (nth_production x.grammar p).rule optimal.cost optimal.rule;
+        word = w;
+        parts = cut;
+        is = costs;
+      }
+
+  -- an optimal production, with its number
+  pub record Located (r : ℕ) (symbols : List Sym) (c : ℕ) : Type 0 where
+    pub index : ℕ
+    pub production : nth_production x.grammar index ≡ record { rule = r; symbols = symbols }
+    pub optimal : IsOptimal x index
+    pub costs : optimal.cost ≡ c
+
+  pub optimal_located : (r : ℕ) (symbols : List Sym) (c : ℕ) → CostsAsItsRule P cost r symbols c → 0 < c → c ≤ 65535 → Located r symbols c
+  optimal_located r symbols c optimal some small =
+      let has = optimal.has in
+      let costs = optimal.is in
+      let same = get_or_default x.grammar.productions has.0 (record { rule = 0; symbols = [] }) (record { rule = r; symbols = symbols }) has.1 ∙ has.2 in
+      record {
+        index = has.0;
+        production = same;
+        optimal = record {
+          index = has.1;
+          cost = c;
+          positive = some;
+          rule = ap (λ (p : Production). cost_answer x p.rule) same ∙ answer_of r c optimal.least small;
+          sum = ap (λ (p : Production). sum_of sums p.symbols) same ∙ sum_of_cut optimal.parts (omega (arith, costs, small)) ∙ ap Some costs;
+        };
+        costs = refl;
+      }
+
+  target_reported : (a b : ℕ) → HasTarget x a b → ChainsTo P cost a b
+  target_reported a b h =
+      let p = h.index in
+      let optimal = h.target.optimal in
+      subst (λ r. ChainsTo P cost r b) h.owner (record {
+        symbols = (nth_production x.grammar p).symbols;
+        level = optimal.cost;
+        optimal = optimal_reported p optimal;
+        among = h.target.among;
+        same = least_of b optimal.cost h.target.same;
+      })
+
+  base_reported : (p : ℕ) → HasNoTarget x p → IsBase P cost (nth_production x.grammar p).rule (nth_production x.grammar p).symbols
+  base_reported p base =
+      let optimal = base.optimal in
+      let reported = optimal_reported p optimal in
+      let known = answered_some (rule_cost x.least (nth_production x.grammar p).rule) optimal.cost optimal.rule in
+      record {
+        level = optimal.cost;
+        optimal = reported;
+        less = λ q d h l.
+            let low = at_least P cost q d reported.parts h l in
+            elim (cases_lt d optimal.cost) [
+              | inl lt ↦ lt
+              | inr ge ↦
+                  let same : d ≡ optimal.cost = omega (arith, ge, low, reported.is) in
+                  absurd (base.none q (record { optimal = optimal; among = h; same = answer_of q optimal.cost (subst (Least P cost q) same l) known.1 }))
+            ];
+      }
+
+  along_reported : {a b : ℕ} → Along (HasTarget x) a b → Along (ChainsTo P cost) a b
+  along_reported here = here
+  along_reported (next {a = a} {b = b} h k) = next (target_reported a b h) (along_reported k)
+
+  -- what a base production below the rule makes of minimal sentences is a minimal sentence of the rule
+  pub base_makes : (r p : ℕ) (w : List ℕ) → IsBaseBelow x r p → Cut (nth_production x.grammar p).symbols w → IsMinimal x r w
+  base_makes r p w below cut = chained_down_minimal P cost paid r w (record {
+    owner = (nth_production x.grammar p).rule;
+    symbols = (nth_production x.grammar p).symbols;
+    leads = along_reported below.leads;
+    base = base_reported p below.base;
+    parts = cut;
+  })
+
+  -- each rule in such a production costs less
+  pub base_less : (r p c s d : ℕ) → IsBaseBelow x r p → cost_answer x r ≡ Some c → Contains (nth_production x.grammar p).symbols (Rule s) → cost_answer x s ≡ Some d → d < c
+  base_less r p c s d below e h k =
+      let base = base_reported p below.base in
+      let less = base.less s d h (least_of s d k) in
+      let same = level (along_reported below.leads) base.level base.optimal.least in
+      let one = least_is_one P cost r c base.level (least_of r c e) same in
+      omega (arith, less, one)
+    where
+      level : {a b : ℕ} → Along (ChainsTo P cost) a b → (c : ℕ) → Least P cost b c → Least P cost a c
+      level here c l = l
+      level (next {a = a} {b = b} h k) c l =
+          let same = least_is_one P cost b c h.level (level k c l) h.same in
+          subst (Least P cost a) (sym same) h.optimal.least
+
+  -- a rule in such a production has a cost
+  pub base_costs : (p s : ℕ) → HasNoTarget x p → Contains (nth_production x.grammar p).symbols (Rule s) → (d : ℕ) × (cost_answer x s ≡ Some d)
+  base_costs p s base h =
+      let optimal = base.optimal in
+      let known = answered_some (rule_cost x.least (nth_production x.grammar p).rule) optimal.cost optimal.rule in
+      let part = part_at sums (nth_production x.grammar p).symbols h.0 (Rule s) optimal.cost h.1 h.2 optimal.sum in
+      (part.value, some_answered (rule_cost x.least s) part.value part.is (omega (arith, part.within, known.1)))
+
+  -- a minimal sentence of a rule that costs something is made by a base production below the rule
+  pub record IsMade (r : ℕ) (w : List ℕ) : Type 0 where
+    pub index : ℕ
+    pub below : IsBaseBelow x r index
+    pub parts : Cut (nth_production x.grammar index).symbols w
+
+  target_located : (a b c : ℕ) → ChainsTo P cost a b → Least P cost a c → 0 < c → c ≤ 65535 → HasTarget x a b
+  target_located a b c h l some small =
+      let one = least_is_one P cost a h.level c h.optimal.least l in
+      let t = optimal_located a h.symbols h.level h.optimal (omega (arith, one, some)) (omega (arith, one, small)) in
+      record {
+        index = t.index;
+        owner = ap (λ (p : Production). p.rule) t.production;
+        target = record {
+          optimal = t.optimal;
+          among = subst (λ (p : Production). Contains p.symbols (Rule b)) (sym t.production) h.among;
+          same = answer_of b t.optimal.cost (subst (Least P cost b) (sym t.costs) h.same) (omega (arith, t.costs, one, small));
+        };
+      }
+
+  along_located : {a b : ℕ} (c : ℕ) → Along (ChainsTo P cost) a b → Least P cost a c → 0 < c → c ≤ 65535 → Along (HasTarget x) a b × Least P cost b c
+  along_located c here l some small = (here, l)
+  along_located c (next {a = a} {b = b} h k) l some small =
+      let one = least_is_one P cost a h.level c h.optimal.least l in
+      let rest = along_located c k (subst (Least P cost b) one h.same) some small in
+      (next (target_located a b c h l some small) rest.0, rest.1)
+
+  base_located : (r : ℕ) (symbols : List Sym) (c : ℕ) (base : IsBase P cost r symbols) → Least P cost r c → 0 < c → c ≤ 65535
+      → (p : ℕ) × (nth_production x.grammar p ≡ record { rule = r; symbols = symbols }) × HasNoTarget x p
+  base_located r symbols c base l some small =
+      let one = least_is_one P cost r base.level c base.optimal.least l in
+      let t = optimal_located r symbols base.level base.optimal (omega (arith, one, some)) (omega (arith, one, small)) in (
+        t.index,
+        t.production,
+        record {
+          optimal = t.optimal;
+          none = λ q target.
+              let same = one_cost x (nth_production x.grammar t.index).rule target.optimal.cost t.optimal.cost target.optimal.rule t.optimal.rule in
+              let less = base.less q target.optimal.cost (subst (λ (p : Production). Contains p.symbols (Rule q)) t.production target.among) (least_of q target.optimal.cost target.same) in
+              omega (arith, less, same, t.costs);
+        },
+      )
+
+  pub minimal_made : (r c : ℕ) (w : List ℕ) → cost_answer x r ≡ Some c → 0 < c → IsMinimal x r w → IsMade r w
+  minimal_made r c w e some m =
+      let small = (answered_some (rule_cost x.least r) c e).1 in
+      let down = minimal_chained_down P cost paid r w m in
+      let (along, least) = along_located c down.leads (least_of r c e) some small in
+      let (p, same, base) = base_located down.owner down.symbols c down.base least some small in
+      record {
+        index = p;
+        below = record { leads = subst (λ (q : Production). Along (HasTarget x) r q.rule) (sym same) along; base = base };
+        parts = subst (λ (q : Production). Cut q.symbols w) (sym same) down.parts;
+      }
+
+  -- the only minimal sentence of a rule that costs nothing is the empty one
+  pub minimal_free : (r : ℕ) (w : List ℕ) → cost_answer x r ≡ Some 0 → IsMinimal x r w → w ≡ []
+  minimal_free r w e m =
+      let least = least_is_one P cost r 0 (cost_of cost w) (least_of r 0 e) (minimal_costs_least P cost r w m) in
+      rule_nothing P cost paid r w m.0 (omega (arith, least))
+
+  pub free_minimal : (r : ℕ) → cost_answer x r ≡ Some 0 → IsMinimal x r []
+  free_minimal r e =
+      let least = least_of r 0 e in
+      let (w, s, costs) = least.0 in
+      let none = rule_nothing P cost paid r w s (omega (arith, costs)) in
+      subst (IsMinimal x r) none (s, λ v t. subst (λ k. k ≤ cost_of cost v) (sym costs) (least.1 v t))
+
+-- the rule that a chain production leads to is a rule of the grammar
+pub targets_are_rules : {S : Type 0} (number : S → ℕ) (x : CostTables) (list : List (Kind S)) (n : ℕ) → IsGenerator x n
+    → ((p : ℕ) → p < length list → IsKind number x p (get_or list p kinds.Slack)) → HasRulesAsTargets number x.grammar list
+targets_are_rules number x list n is each p target e = elim (cases_lt p (length list)) [
+  | inl lt ↦ let h = subst (IsKind number x p) e (each p lt) in answered_within x n is (number target.0) h.optimal.cost h.same
+  | inr past ↦ let no : kinds.Slack ≡ kinds.ChainsTo target = sym (get_or_past list p kinds.Slack past) ∙ e in absurd (cc)
+]

@@ -1,6 +1,0 @@
-use Rattle.std.proofs.Common.{subst}
-use Rattle.cfgchoices.specs.Inner.Offers.{IsKnown, Known}
-use Rattle.cfgchoices.proofs.first.tight.TightTables.invariant_holds.Goals as goal
-
-pub returns : goal.returns
-returns g c = (c.self.inside.settled.now.number, subst (λ (k : Known). IsKnown k c.self.inside.settled.now.number) c.self.view_is c.self.invariant.0)

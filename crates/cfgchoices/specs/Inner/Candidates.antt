@@ -1,0 +1,241 @@
+-- Candidates, which are optimal productions, and the choices that are made among them.
+use Rattle.std.specs.Prelude.{◌≡◌, ℕ, zero, suc, ◌+◌, ◌-◌, ◌*◌, ◌<◌, ◌≤◌, ◌⊎◌, Bool, true, false, List, [], ◌∷◌, Option, Some, None, Contains, IsSomeAnd, count_by, is_some, length, map, reverse, slice_index_or, sum_by}
+use Rattle.std.specs.Ordering.{nat_cmp}
+use Rattle.std.specs.declared.cmp.Ordering.{Ordering}
+use Rattle.std.specs.declared.cmp.Ordering.TheVariants.{Greater}
+use Rattle.cfgindex.specs.declared.idxnewtype.PIdx.{PIdx}
+use Rattle.derivation.specs.Grammar.{Sym, Rule, Token, Grammar, IsGrammar}
+use Rattle.cfgtables.specs.Openings.{nth_production}
+use Rattle.cfgleast.specs.Certificate.{choice_of, rule_choice}
+use Rattle.cfgchoices.specs.Inner.Choices.{ChoicesGive}
+use Rattle.cfgleast.specs.Generator.{CostTables, IsGenerator, cost_answer}
+use Rattle.cfgchoices.specs.Inner.Kinds.{HasNoTarget, IsTarget, IsOptimal, positions_of}
+use Rattle.cfgchoices.specs.FirstSentence.{lexicographic}
+use Rattle.cfgchoices.specs.declared.kinds.Kind.{Kind}
+use Rattle.cfgchoices.specs.declared.kinds.Kind.TheVariants.{Slack}
+use Rattle.cfgchoices.specs.declared.first.lists.Listed.{Listed}
+use Rattle.cfgchoices.specs.declared.first.lists.Listed.TheVariants.{Base, ChainingTo}
+use Rattle.cfgchoices.specs.declared.first.candidates.Firsts.{Firsts}
+
+abbrev pub Choices : Type 0
+Choices = List (Option (ℕ × ℕ))
+
+-- the tables with other choices
+abbrev pub by : CostTables → Choices → CostTables
+by x l = record { grammar = x.grammar; costs = x.costs; least = x.least; choices = l }
+
+-- a rule costs nothing, or has a choice with a number less than n
+abbrev pub IsReady : CostTables → Choices → ℕ → ℕ → Type 0
+IsReady x l n q = (cost_answer x q ≡ Some 0) ⊎ IsSomeAnd (rule_choice l q) (λ choice. choice.1 < n)
+
+-- the choice of a rule: an optimal production of the rule, whose rules are ready
+pub record IsChoice (x : CostTables) (l : Choices) (r p m : ℕ) : Type 0 where
+  pub optimal : IsOptimal x p
+  pub owner : (nth_production x.grammar p).rule ≡ r
+  pub ready : (q : ℕ) → Contains (nth_production x.grammar p).symbols (Rule q) → IsReady x l m q
+
+-- n rules have choices so far
+pub record Choosing (x : CostTables) (l : Choices) (n : ℕ) : Type 0 where
+  pub listed : length l ≡ x.grammar.rules
+  pub count : count_by is_some l ≡ n
+  pub each : (r p m : ℕ) → rule_choice l r ≡ Some (p, m) → IsChoice x l r p m × (m < n)
+
+abbrev pub steps_of : Grammar → ℕ → (Sym → ℕ) → Option (ℕ × ℕ) → ℕ
+steps_of g each f None = each
+steps_of g each f (Some choice) = sum_by f (nth_production g choice.0).symbols + each
+
+-- 1 for a token; for a rule `each`, and the steps of the symbols that replace it, by choices nested at most n deep
+unfoldable pub steps : Grammar → Choices → ℕ → ℕ → Sym → ℕ
+steps g choices each zero (Token t) = 1
+steps g choices each zero (Rule r) = each
+steps g choices each (suc n) (Token t) = 1
+steps g choices each (suc n) (Rule r) = steps_of g each (steps g choices each n) (rule_choice choices r)
+
+-- each element is before those after it
+abbrev pub IsInOrder : {X : Type 0} → (X → X → Type 0) → X → List X → Type 0
+IsInOrder R d xs = (i j : ℕ) → i < j → j < length xs → R (slice_index_or xs i d) (slice_index_or xs j d)
+
+abbrev pub sequence : CostTables → ℕ → List Sym
+sequence x p = (nth_production x.grammar p).symbols
+
+abbrev pub owner : CostTables → ℕ → ℕ
+owner x p = (nth_production x.grammar p).rule
+
+-- what the choices give for symbols
+abbrev pub Gives : CostTables → Choices → List Sym → List ℕ → Type 0
+Gives x l = ChoicesGive (by x l)
+
+-- what the choices give for the pending symbols, the last of which comes first
+abbrev pub Pends : CostTables → Choices → List Sym → List ℕ → Type 0
+Pends x l pending w = ChoicesGive (by x l) (reverse pending) w
+
+-- both lists of symbols begin with tokens, which compare like this
+pub record FirstTokensAre (a b : List Sym) (ordering : Ordering) : Type 0 where
+  pub one : ℕ
+  pub other : ℕ
+  pub ones : List Sym
+  pub others : List Sym
+  pub first : a ≡ Token one ∷ ones
+  pub second : b ≡ Token other ∷ others
+  pub is : ordering ≡ nat_cmp one other
+
+-- how many steps are left until no symbol is pending
+abbrev pub left_to_open : CostTables → Choices → List Sym → ℕ
+left_to_open x l pending = sum_by (steps x.grammar l 1 x.grammar.rules) pending
+
+-- what the choices give for a isn't greater than what they give for b
+abbrev pub NotAfter : CostTables → Choices → List Sym → List Sym → Type 0
+NotAfter x l a b = (u v : List ℕ) → ChoicesGive (by x l) a u → ChoicesGive (by x l) b v → lexicographic u v ≡ Greater → ⊥
+
+abbrev pub HasChoice : Choices → ℕ → Type 0
+HasChoice l r = (choice : ℕ × ℕ) × (rule_choice l r ≡ Some choice)
+
+-- the rule of a production has a choice, which gives nothing greater than the production
+pub record IsDone (x : CostTables) (l : Choices) (p : ℕ) : Type 0 where
+  pub chosen : HasChoice l (owner x p)
+  pub given : (w : List ℕ) × ChoicesGive (by x l) (sequence x p) w
+  pub first : NotAfter x l (Rule (owner x p) ∷ []) (sequence x p)
+
+-- two productions of one rule, the first of which gives nothing greater than the second
+pub record StandsFor (x : CostTables) (l : Choices) (p q : ℕ) : Type 0 where
+  pub same : owner x p ≡ owner x q
+  pub given : (w : List ℕ) × ChoicesGive (by x l) (sequence x q) w
+  pub before : NotAfter x l (sequence x p) (sequence x q)
+
+-- what is known of optimal productions: which rules have only one; and a number above all costs
+pub record Known : Type 0 where
+  pub tables : CostTables
+  pub sole : List Bool
+  pub limit : ℕ
+
+-- the list exists
+abbrev pub HasList : {S : Type 0} → (S → ℕ) → Known → Listed S → Type 0
+HasList number k (Base c) = c < k.limit
+HasList number k (ChainingTo r) = number r.0 < k.tables.grammar.rules
+
+abbrev pub is_sole : Known → ℕ → Bool
+is_sole k r = slice_index_or k.sole r false
+
+abbrev pub IsSole : CostTables → ℕ → Type 0
+IsSole x r = (p q : ℕ) → IsOptimal x p → IsOptimal x q → owner x p ≡ r → owner x q ≡ r → p ≡ q
+
+pub record IsKnown (k : Known) (n : ℕ) : Type 0 where
+  pub generator : IsGenerator k.tables n
+  pub grammar : IsGrammar k.tables.grammar
+  pub flags : length k.sole ≡ k.tables.grammar.rules
+  pub sole : (r : ℕ) → is_sole k r ≡ true → IsSole k.tables r
+  pub kinds : (p : ℕ) → IsOptimal k.tables p → HasNoTarget k.tables p ⊎ ((q : ℕ) × IsTarget k.tables p q)
+  pub costs : (r c : ℕ) → cost_answer k.tables r ≡ Some c → c < k.limit
+
+-- an optimal production, as its kind says
+abbrev pub IsCounted : {S : Type 0} → List (Kind S) → ℕ → Type 0
+IsCounted kinds p = (p < length kinds) × (slice_index_or kinds p Slack ≡ Slack → ⊥)
+
+-- the production's number
+abbrev pub position_of : {S : Type 0} → (S → ℕ) → Option (PIdx S) → Option ℕ
+position_of number None = None
+position_of number (Some p) = Some (number p.0)
+
+-- the choices made so far; the cost of the current candidates; those that are their rule's only optimal production, and the others; and for
+-- each rule the candidate that gives the lexicographically first sentence
+pub record Candidates : Type 0 where
+  pub choices : Choices
+  pub number : ℕ
+  pub cost : ℕ
+  pub ready : List ℕ
+  pub level : List ℕ
+  pub foremost : List (Option ℕ)
+
+abbrev pub candidates_of : {S : Type 0} → (S → ℕ) → Firsts S → Candidates
+candidates_of number f = record {
+  choices = map (choice_of number) f.choices.items;
+  number = f.number;
+  cost = f.cost;
+  ready = positions_of number f.ready.items;
+  level = positions_of number f.level.items;
+  foremost = map (position_of number) f.foremost.items;
+}
+
+-- the tables with these choices
+abbrev pub chosen_tables : CostTables → Candidates → CostTables
+chosen_tables x f = by x f.choices
+
+abbrev pub Waits : Candidates → ℕ → Type 0
+Waits f p = Contains f.ready p ⊎ Contains f.level p
+
+abbrev pub waiting : Candidates → ℕ
+waiting f = length f.ready + length f.level
+
+-- a production is done, or a candidate of its rule that gives nothing greater waits
+abbrev pub IsHandled : CostTables → Candidates → ℕ → Type 0
+IsHandled x f q = IsDone x f.choices q ⊎ ((p : ℕ) × Waits f p × StandsFor x f.choices p q)
+
+-- no choice of this cost gives anything greater, for rules with more than one optimal production
+abbrev pub IsFloor : Known → Choices → ℕ → ℕ → Type 0
+IsFloor k l c p = (r : ℕ) → HasChoice l r → cost_answer k.tables r ≡ Some c → is_sole k r ≡ false → NotAfter k.tables l (Rule r ∷ []) (sequence k.tables p)
+
+-- a candidate: an optimal production of this cost, whose rules have choices or cost nothing
+pub record IsCandidate (k : Known) (l : Choices) (n c p : ℕ) : Type 0 where
+  pub optimal : IsOptimal k.tables p
+  pub cost : optimal.cost ≡ c
+  pub ready : (q : ℕ) → Contains (sequence k.tables p) (Rule q) → IsReady k.tables l n q
+  pub floor : IsFloor k l c p
+
+pub record Level (k : Known) (f : Candidates) : Type 0 where
+  pub choosing : Choosing k.tables f.choices f.number
+  pub costs : (r : ℕ) → HasChoice f.choices r → (d : ℕ) × (cost_answer k.tables r ≡ Some d) × (d ≤ f.cost)
+  pub nominated : (p : ℕ) → Waits f p → IsCandidate k f.choices f.number f.cost p
+  pub sole : (p : ℕ) → Contains f.ready p → is_sole k (owner k.tables p) ≡ true
+  pub several : (p : ℕ) → Contains f.level p → is_sole k (owner k.tables p) ≡ false
+  pub order : IsInOrder (λ p q. NotAfter k.tables f.choices (sequence k.tables q) (sequence k.tables p)) 0 f.level
+
+-- a rule's foremost candidate waits, unless the rule has a choice
+pub record Nominating (k : Known) (f : Candidates) : Type 0 where
+  pub level : Level k f
+  pub listed : length f.foremost ≡ k.tables.grammar.rules
+  pub foremost : (r p : ℕ) → slice_index_or f.foremost r None ≡ Some p → (owner k.tables p ≡ r) × (Waits f p ⊎ HasChoice f.choices r)
+
+-- the chain productions that lead to a rule with a choice are handled
+pub record Going (k : Known) (f : Candidates) : Type 0 where
+  pub nominating : Nominating k f
+  pub chains : (p q : ℕ) → IsTarget k.tables p q → HasChoice f.choices q → IsHandled k.tables f p
+
+-- a production that can be chosen now
+pub record IsNext (k : Known) (f : Candidates) (p : ℕ) : Type 0 where
+  pub nominated : IsCandidate k f.choices f.number f.cost p
+  pub least : (is_sole k (owner k.tables p) ≡ true) ⊎ ((q : ℕ) → Waits f q → NotAfter k.tables f.choices (sequence k.tables p) (sequence k.tables q))
+
+-- it was removed
+pub record Takes (k : Known) (p : ℕ) (f f' : Candidates) : Type 0 where
+  pub others : f' ≡ record { choices = f.choices; number = f.number; cost = f.cost; ready = f'.ready; level = f'.level; foremost = f.foremost }
+  pub level : Level k f'
+  pub next : IsNext k f' p
+  pub waits : (q : ℕ) → Waits f q → Waits f' q ⊎ (q ≡ p)
+  pub together : waiting f ≡ waiting f' + 1
+
+-- nothing waits, and nothing changed
+abbrev pub IsDrained : Candidates → Candidates → Type 0
+IsDrained f f' = (waiting f ≡ 0) × (f' ≡ f)
+
+-- what was handled is still handled, and so are these
+abbrev pub Handles : CostTables → (ℕ → Type 0) → Candidates → Candidates → Type 0
+Handles x Is f f' = (q : ℕ) → IsHandled x f q ⊎ Is q → IsHandled x f' q
+
+-- these are handled now too, and at most n more wait
+pub record Adds (x : CostTables) (Is : ℕ → Type 0) (n : ℕ) (f f' : Candidates) : Type 0 where
+  pub choices : f'.choices ≡ f.choices
+  pub number : f'.number ≡ f.number
+  pub cost : f'.cost ≡ f.cost
+  pub handles : Handles x Is f f'
+  pub together : waiting f' ≤ waiting f + n
+
+-- how many steps are left until there are no candidates
+abbrev pub left_to_choose : Known → Candidates → ℕ
+left_to_choose k f = (k.tables.grammar.rules - f.number) * (length k.tables.grammar.productions + 1) + waiting f
+
+-- All rules that cost less than c have choices that give their first sentences, and no other rule has a choice.
+pub record Climbed (k : Known) (f : Candidates) (c : ℕ) : Type 0 where
+  pub going : Going k f
+  pub none : waiting f ≡ 0
+  pub base : (p : ℕ) (base : HasNoTarget k.tables p) → base.optimal.cost < c → IsDone k.tables f.choices p
+  pub younger : (r d : ℕ) → HasChoice f.choices r → cost_answer k.tables r ≡ Some d → d < c

@@ -1,4 +1,0 @@
-use Rattle.cfgcosts.proofs.heirs.last_heirs.Goals as goal
-
-pub go_on-requires : goal.go_on-requires
-go_on-requires g c = (g.T.Tables.grammar c.args.tables.now, c.args.kinds.now, c.loop-turn.invariant)

@@ -1,5 +1,0 @@
-use Rattle.cfgkinds.proofs.ValueKinds.{refusal_somewhere}
-use Rattle.cfgkinds.proofs.laws.refusals_have_places.Goals as goal
-
-pub returns : goal.returns
-returns g c = refusal_somewhere

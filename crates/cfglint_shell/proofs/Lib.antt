@@ -1,0 +1,2 @@
+pub mod RequestedArguments
+pub mod FilesInTurn

@@ -1,0 +1,42 @@
+-- A run through files: what a source returns for each, and what is reported about it. `Reports` says what may be reported about a text, and
+-- `Fetches` what a source may return for a file, and what the source then is.
+use Rattle.std.specs.Prelude.{◌≡◌, ℕ, List, [], ◌∷◌, ◌++◌, Option}
+use Rattle.std.specs.Str.{IsUtf8}
+use Rattle.cfgprogram.specs.declared.source.Input.{Input}
+use Rattle.cfgprogram.specs.declared.source.Input.TheVariants as input
+use Rattle.cfgprogram.specs.declared.kinds.KindArg.{KindArg}
+use Rattle.cfglint_shell.specs.Tally.{FileOutcome, Linted, NoText, Tally, Printed, Unread, with_file}
+
+module _ (Reports : Option KindArg → List ℕ → List ℕ → Printed → Type 0) (kind : Option KindArg) where
+  -- what becomes of the bytes of a file
+  abbrev pub IsPrinted : List ℕ → List ℕ → FileOutcome → Type 0
+  IsPrinted file bytes Unread = ⊥
+  IsPrinted file bytes NoText = IsUtf8 bytes → ⊥
+  IsPrinted file bytes (Linted printed) = IsUtf8 bytes × Reports kind file bytes printed
+
+  -- what becomes of a file for which a source returns this
+  abbrev pub IsFileOutcome : List ℕ → Input → FileOutcome → Type 0
+  IsFileOutcome file input.Unreadable outcome = outcome ≡ Unread
+  IsFileOutcome file input.OutOfMemory outcome = ⊥
+  IsFileOutcome file (input.Bytes bytes) outcome = IsPrinted file bytes.items outcome
+
+  -- From a source and a tally, files lead one by one to a source and a tally.
+  pub data Lints {S : Type 0} (Fetches : S → List ℕ → Input → S → Type 0) : S → Tally → List (List ℕ) → S → Tally → Type 0 where
+    none : {source : S} {tally : Tally} → Lints Fetches source tally [] source tally
+    next : {source between after : S} {tally last : Tally} {file : List ℕ} {files : List (List ℕ)} {answer : Input} (outcome : FileOutcome)
+        → Fetches source file answer between → IsFileOutcome file answer outcome
+        → Lints Fetches between (with_file file outcome tally) files after last
+        → Lints Fetches source tally (file ∷ files) after last
+
+-- A source is asked for files one by one.
+pub data IsRequested {S : Type 0} (Fetches : S → List ℕ → Input → S → Type 0) : S → List (List ℕ) → S → Type 0 where
+  none : {source : S} → IsRequested Fetches source [] source
+  next : {source between after : S} {file : List ℕ} {files : List (List ℕ)} {answer : Input}
+      → Fetches source file answer between → IsRequested Fetches between files after → IsRequested Fetches source (file ∷ files) after
+
+-- the source was asked for a prefix of the files, and for nothing else
+pub record AsksFirst {S : Type 0} (Fetches : S → List ℕ → Input → S → Type 0) (before after : S) (files : List (List ℕ)) : Type 0 where
+  pub prefix : List (List ℕ)
+  pub back : List (List ℕ)
+  pub are : files ≡ prefix ++ back
+  pub fetched : IsRequested Fetches before prefix after

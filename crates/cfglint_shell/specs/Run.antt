@@ -1,0 +1,74 @@
+-- How a run of the program ends, and what becomes of its source and its two outputs.
+use Rattle.std.specs.Prelude.{◌≡◌, ℕ, Bool, List, [], ◌++◌, Option, codes}
+use Rattle.std.specs.Io.KnownBytes.{Appends, Keeps}
+use Rattle.cfgsink.specs.Sinks.{AppendsPrefix}
+use Rattle.cfgprogram.specs.declared.arguments.ArgumentsFault.{ArgumentsFault}
+use Rattle.cfgprogram.specs.declared.arguments.ArgumentsFault.TheVariants as arguments
+use Rattle.cfgprogram.specs.declared.source.Input.{Input}
+use Rattle.cfgprogram.specs.declared.kinds.KindArg.{KindArg}
+use Rattle.cfglint_shell.specs.Files.{AsksFirst, Lints}
+use Rattle.cfglint_shell.specs.Tally.{Tally, Printed, no_files, status_of, summary}
+use Rattle.cfglint_shell.specs.Requests.{Requested, Help, Lint, Version, Wrong, requested, files_requested, help, usage, version}
+
+-- what a run has to write to its output and to its errors, and the status that it then ends with
+pub record Answer : Type 0 where
+  pub output : List ℕ
+  pub errors : List ℕ
+  pub status : ℕ
+
+-- how a run ends: with its result, with one that the output didn't accept completely, or out of memory
+pub data Ending : Type 0 where
+  Answered : Answer → Ending
+  Unwritten : Answer → Ending
+  NoMemory : Ending
+
+abbrev pub ending_status : Ending → ℕ
+ending_status (Answered answer) = answer.status
+ending_status (Unwritten answer) = 2
+ending_status NoMemory = 3
+
+-- what is written to the errors
+abbrev pub ending_errors : Ending → List ℕ
+ending_errors (Answered answer) = answer.errors
+ending_errors (Unwritten answer) = answer.errors ++ codes "cfglint: cannot write\n"
+ending_errors NoMemory = codes "cfglint: out of memory\n"
+
+-- how many faults of its output a run with this ending met
+abbrev pub ending_faults : Ending → ℕ
+ending_faults (Answered answer) = 0
+ending_faults (Unwritten answer) = 1
+ending_faults NoMemory = 0
+
+-- the result of a run through files
+abbrev pub answer_of : Bool → Tally → Answer
+answer_of denies tally = record { output = tally.lines ++ summary tally; errors = tally.faults; status = status_of denies tally }
+
+-- the result of arguments that ask for a text
+abbrev pub written : List ℕ → Answer
+written text = record { output = text; errors = []; status = 0 }
+
+abbrev pub refused : Answer
+refused = record { output = []; errors = usage; status = 2 }
+
+-- how a run ends that has no arguments, for this reason: arguments that are not text are wrong usage
+abbrev pub ending_without : ArgumentsFault → Ending
+ending_without arguments.NotUtf8 = Answered refused
+ending_without arguments.OutOfMemory = NoMemory
+
+-- `Reports` says what may be reported about a text, and `Fetches` what a source may return for a file, and what the source then is: it was
+-- `before`, and is `after`.
+module _ (Reports : Option KindArg → List ℕ → List ℕ → Printed → Type 0) {S : Type 0} (Fetches : S → List ℕ → Input → S → Type 0) (before after : S) where
+  -- the result of what is asked
+  abbrev pub Answers : Requested → Answer → Type 0
+  Answers Help answer = (after ≡ before) × (answer ≡ written help)
+  Answers Version answer = (after ≡ before) × (answer ≡ written version)
+  Answers Wrong answer = (after ≡ before) × (answer ≡ refused)
+  Answers (Lint options) answer = (tally : Tally) × Lints Reports options.kind Fetches before no_files options.files after tally
+      × (answer ≡ answer_of options.denies tally)
+
+  -- what a run does with its arguments, and its output's known bytes: if it runs out of memory, the source was asked for a prefix of the
+  -- files that the arguments name, and for nothing else
+  abbrev pub Handles : List (List ℕ) → Option (List ℕ) → Option (List ℕ) → Ending → Type 0
+  Handles arguments old new (Answered answer) = Answers (requested arguments) answer × Appends old new answer.output
+  Handles arguments old new (Unwritten answer) = Answers (requested arguments) answer × AppendsPrefix old new answer.output
+  Handles arguments old new NoMemory = AsksFirst Fetches before after (files_requested (requested arguments)) × Keeps old new

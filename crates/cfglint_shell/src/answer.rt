@@ -1,0 +1,110 @@
+//! The result of a run, and how it is printed.
+
+ghost use Rattle.std.specs.Prelude.{◌≡◌, ◌-◌, ◌^◌, ◌<◌, ◌≤◌, ◌++◌, IfOk};
+ghost use Rattle.cfgsink.specs.Runs.{EndsWith};
+ghost use Rattle.cfgsink.specs.Sinks.{AppendsOrFaults};
+ghost use Rattle.cfglint_shell.specs.Inner.{IsEnding};
+ghost use Rattle.cfglint_shell.specs.Run.{answer_of, ending_errors, ending_faults, ending_status, refused, written};
+
+use crate::arguments::USAGE;
+use crate::summary::summary;
+use crate::tally::Tally;
+use cfgsink::sink::{Sink, SinkFault, write_whole};
+use std::alloc::{AllocError, Global};
+use std::marker::Model;
+
+/// What a run has to write to its output and to its errors, and the status that it then ends with.
+#[derive(Drop)]
+pub(crate) struct Answer {
+    output: String,
+    errors: String,
+    status: u8,
+}
+
+impl Model for Answer {
+    ghost use Rattle.std.specs.Prelude.{◌≤◌, string_bytes};
+    ghost use Rattle.cfglint_shell.specs.Run as run;
+
+    ghost Value = { run.Answer };
+
+    ghost view = { λ x. record {
+      output = string_bytes x.output;
+      errors = string_bytes x.errors;
+      status = x.status;
+    } };
+
+    ghost invariant = { λ x. x.status ≤ 2 };
+}
+
+impl Answer {
+    /// The result whose output is this text.
+    pub(crate) fn written(alloc: Global, text: &str) -> Result<Self, AllocError>
+        ensures { IfOk result (λ answer. answer ≡ written text.now) }
+    {
+        Ok(Answer {
+            output: String::from_str(alloc, text)?,
+            errors: String::new(alloc),
+            status: 0,
+        })
+    }
+
+    /// The result of wrong arguments.
+    pub(crate) fn refused(alloc: Global) -> Result<Self, AllocError>
+        ensures { IfOk result (λ answer. answer ≡ refused) }
+    {
+        Ok(Answer {
+            output: String::new(alloc),
+            errors: String::from_str(alloc, USAGE)?,
+            status: 2,
+        })
+    }
+
+    /// The result for what was reported about files, with warnings denied or not.
+    pub(crate) fn of_files(alloc: Global, tally: Tally, denies: bool) -> Result<Self, AllocError>
+        ensures { IfOk result (λ answer. answer ≡ answer_of denies tally) }
+    {
+        let status = tally.status(denies);
+        let last = summary(alloc, &tally)?;
+        let Tally {
+            lines: mut output,
+            faults: errors,
+            ..
+        } = tally;
+        output.push_str(&last)?;
+        Ok(Answer {
+            output,
+            errors,
+            status,
+        })
+    }
+}
+
+/// Writes the result, and returns the status that the run ends with.
+pub(crate) fn print<O: Sink, E: Sink>(answer: &Answer, out: &mut O, err: &mut E) -> u8
+    requires out_counts { O.faults_counted out.old < 2 ^ 64 - 1 }
+    requires err_counts { E.faults_counted err.old < 2 ^ 64 - 1 }
+    ensures small { result ≤ 3 }
+    ensures ends { EndsWith ending_status ending_faults ending_errors (IsEnding answer.now)
+        O.written O.faults_counted out.old out.new E.written E.faults_counted err.old err.new result }
+{
+    match write_whole(out, answer.output.as_bytes()) {
+        Ok(()) => {
+            let _ = write_whole(err, answer.errors.as_bytes());
+            answer.status
+        }
+        Err(SinkFault) => {
+            let _ = write_both(err, answer.errors.as_bytes(), b"cfglint: cannot write\n");
+            2
+        }
+    }
+}
+
+/// Writes the first bytes, and then the others.
+fn write_both<E: Sink>(err: &mut E, first: &[u8], more: &[u8]) -> Result<(), SinkFault>
+    requires { E.faults_counted err.old < 2 ^ 64 - 1 }
+    ensures { AppendsOrFaults (E.written err.old) (E.written err.new)
+        (E.faults_counted err.old) (E.faults_counted err.new) (first.now ++ more.now) }
+{
+    write_whole(err, first)?;
+    write_whole(err, more)
+}

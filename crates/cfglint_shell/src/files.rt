@@ -1,0 +1,75 @@
+//! Linting of files, one by one.
+
+ghost use Rattle.std.specs.Prelude.{◌≡◌, ◌-◌, ◌^◌, ◌<◌, IfOk, OnErr, OnOk, map};
+ghost use Rattle.cfgprogram.specs.declared.source.Input.{Input};
+ghost use Rattle.cfglint_shell.specs.Files.{AsksFirst, IsFileOutcome, IsPrinted, Lints};
+ghost use Rattle.cfglint_shell.specs.Tally.{FileOutcome, no_files, with_file};
+
+use crate::linter::Linter;
+use crate::tally::Tally;
+use cfgprogram::KindArg;
+use cfgprogram::source::{Input, Source};
+use std::alloc::{AllocError, Global};
+
+/// What is reported about files, one by one, as files of the kind; without one, each as the kind that it names.
+///
+/// # Errors
+///
+/// Running out of memory; `source` was then asked only for a prefix of the files.
+pub(crate) fn lint_files<L: Linter, S: Source>(
+    alloc: Global,
+    linter: &L,
+    kind: Option<KindArg>,
+    files: &[&str],
+    source: &mut S,
+) -> Result<Tally, AllocError>
+    ensures ok { IfOk result (λ tally. Lints L.reports kind S.fetches source.old no_files
+        (map (λ file. file.now) files.now) source.new tally) }
+    ensures err { OnErr result (AsksFirst S.fetches source.old source.new (map (λ file. file.now) files.now)) }
+{
+    let mut tally = Tally::new(alloc);
+    for file in files {
+        lint_file(alloc, linter, kind, file, source, &mut tally)?;
+    }
+    Ok(tally)
+}
+
+/// Adds what is reported about a file.
+fn lint_file<L: Linter, S: Source>(
+    alloc: Global,
+    linter: &L,
+    kind: Option<KindArg>,
+    file: &str,
+    source: &mut S,
+    tally: &mut Tally,
+) -> Result<(), AllocError>
+    requires { tally.old.texts < 2 ^ 64 - 1 }
+    ensures ok { OnOk result ((answer : Input) × (outcome : FileOutcome) × S.fetches source.old file.now answer source.new
+        × IsFileOutcome L.reports kind file.now answer outcome × (tally.new ≡ with_file file.now outcome tally.old)) }
+    ensures err { OnErr result ((answer : Input) × S.fetches source.old file.now answer source.new) }
+{
+    match source.fetch(file) {
+        Input::Bytes(bytes) => lint_bytes(alloc, linter, kind, file, &bytes, tally),
+        Input::Unreadable => tally.add_unread(file),
+        Input::OutOfMemory => Err(AllocError),
+    }
+}
+
+/// Adds what is reported about the bytes of a file.
+fn lint_bytes<L: Linter>(
+    alloc: Global,
+    linter: &L,
+    kind: Option<KindArg>,
+    file: &str,
+    bytes: &[u8],
+    tally: &mut Tally,
+) -> Result<(), AllocError>
+    requires { tally.old.texts < 2 ^ 64 - 1 }
+    ensures { OnOk result ((outcome : FileOutcome) × IsPrinted L.reports kind file.now bytes.now outcome
+        × (tally.new ≡ with_file file.now outcome tally.old)) }
+{
+    match std::str::from_utf8(bytes) {
+        Ok(text) => tally.add_report(&linter.lint(alloc, kind, file, text)?),
+        Err(_) => tally.add_no_text(file),
+    }
+}

@@ -1,0 +1,104 @@
+//! What is reported about files, one by one.
+
+ghost use Rattle.std.specs.Prelude.{◌≡◌, ◌-◌, ◌^◌, ◌<◌, ℕ, List, OnOk};
+ghost use Rattle.cfglint_shell.specs.Tally.{Linted, NoText, Unread, fails, no_files, status_of, with_file};
+
+use crate::linter::Report;
+use std::alloc::{AllocError, Global};
+use std::marker::Model;
+
+/// What was reported about files.
+#[derive(Drop)]
+pub(crate) struct Tally {
+    pub(crate) lines: String,
+    pub(crate) faults: String,
+    pub(crate) texts: u64,
+    pub(crate) taken: u64,
+    /// A sum of list lengths, one per text.
+    pub(crate) errors: u128,
+    pub(crate) warnings: u128,
+    pub(crate) is_short: bool,
+}
+
+impl Model for Tally {
+    ghost use Rattle.std.specs.Prelude.{◌*◌, ◌^◌, ◌≤◌, string_bytes};
+    ghost use Rattle.cfglint_shell.specs.Tally as printed;
+
+    ghost Value = { printed.Tally };
+
+    ghost view = { λ x. record {
+      lines = string_bytes x.lines;
+      faults = string_bytes x.faults;
+      texts = x.texts;
+      taken = x.taken;
+      errors = x.errors;
+      warnings = x.warnings;
+      is_short = x.is_short;
+    } };
+
+    ghost invariant = { λ x. (x.taken ≤ x.texts) × (x.errors ≤ x.texts * 2 ^ 64) × (x.warnings ≤ x.texts * 2 ^ 64) };
+}
+
+impl Tally {
+    /// Before the first file.
+    pub(crate) fn new(alloc: Global) -> Self
+        ensures { result ≡ no_files }
+    {
+        Tally {
+            lines: String::new(alloc),
+            faults: String::new(alloc),
+            texts: 0,
+            taken: 0,
+            errors: 0,
+            warnings: 0,
+            is_short: false,
+        }
+    }
+
+    /// Adds a file with what is reported about its text.
+    pub(crate) fn add_report(&mut self, report: &Report) -> Result<(), AllocError>
+        requires { self.old.texts < 2 ^ 64 - 1 }
+        ensures { OnOk result ((file : List ℕ) → self.new ≡ with_file file (Linted report.now) self.old) }
+    {
+        self.lines.push_str(&report.lines)?;
+        self.texts += 1;
+        self.taken += u64::from(report.is_taken);
+        self.errors += report.errors as u128;
+        self.warnings += report.warnings as u128;
+        Ok(())
+    }
+
+    /// Adds a file that could not be read.
+    pub(crate) fn add_unread(&mut self, file: &str) -> Result<(), AllocError>
+        ensures { OnOk result (self.new ≡ with_file file.now Unread self.old) }
+    {
+        self.is_short = true;
+        writeln!(self.faults, "cfglint: cannot read {file}")
+    }
+
+    /// Adds a file that is not text.
+    pub(crate) fn add_no_text(&mut self, file: &str) -> Result<(), AllocError>
+        ensures { OnOk result (self.new ≡ with_file file.now NoText self.old) }
+    {
+        self.is_short = true;
+        writeln!(self.faults, "cfglint: {file} is not UTF-8")
+    }
+
+    /// The status that the program ends with, with warnings denied or not.
+    pub(crate) fn status(&self, denies: bool) -> u8
+        ensures { result ≡ status_of denies self.now }
+    {
+        if self.is_short {
+            2
+        } else {
+            u8::from(self.fails(denies))
+        }
+    }
+
+    /// Whether there are errors, or warnings that are denied.
+    fn fails(&self, denies: bool) -> bool
+        ensures { result ≡ fails denies self.now }
+    {
+        self.errors > 0 || (denies && self.warnings > 0)
+    }
+}

@@ -1,0 +1,67 @@
+use Rattle.std.proofs.Common.{ℕ, List, Ok, Err, refl, subst, ◌∙◌}
+use Rattle.cfgtool_shell.specs.Endings.{Reported, ending_in}
+use Rattle.cfgtool_shell.specs.Run.{EndsReported, WithText}
+use Rattle.cfgtool_shell.proofs.Handled.{ended_so, ended_with, is_text, not_text, read_both}
+use Rattle.cfgtool_shell.proofs.program.lexer_outcome.Goals as goal
+
+pub returns-in_err-text-clause-ends : goal.returns-in_err-text-clause-ends
+returns-in_err-text-clause-ends g c =
+    let kind = c.in-Some.kind in
+    let old = g.O.Sink.written c.args.out.now in
+    let new = g.O.Sink.written c.args.out.now in
+    let bytes = c.in_ok-bytes.bytes in
+    let list = c.in_ok-list.list in
+    let ending = ending_in c.from_residual-in_err-text.result in
+    let reports = EndsReported (g.P.Reporter.reports_lexer kind bytes.items list.items) old new ending in
+    let refused = c.in_err-text.ensures.err in
+    read_both g.P.Reporter.reports_lexer g.S.Source.fetches kind c.args.file.now c.args.names.now c.args.source.now c.fetch.new.source c.fetch-2.new.source old new ending c.args.kind.now c.in-Some.ensures bytes list c.in_ok-bytes.ensures c.in_ok-list.ensures
+    (not_text bytes c.deref.result.now c.deref.ensures.value ending c.args.file.now (WithText old new ending c.args.names.now list.items reports) old refused.1
+    (ended_so c.from_residual-in_err-text.result c.in_err-text.field-0.0 c.from_residual-in_err-text.ensures.1 ∙ refused.0))
+
+pub returns-in_err-list-2-clause-ends : goal.returns-in_err-list-2-clause-ends
+returns-in_err-list-2-clause-ends g c =
+    let kind = c.in-Some.kind in
+    let old = g.O.Sink.written c.args.out.now in
+    let new = g.O.Sink.written c.args.out.now in
+    let bytes = c.in_ok-bytes.bytes in
+    let list = c.in_ok-list.list in
+    let ending = ending_in c.from_residual-in_err-list-2.result in
+    let reports = EndsReported (g.P.Reporter.reports_lexer kind bytes.items list.items) old new ending in
+    let refused = c.in_err-list-2.ensures.err in
+    read_both g.P.Reporter.reports_lexer g.S.Source.fetches kind c.args.file.now c.args.names.now c.args.source.now c.fetch.new.source c.fetch-2.new.source old new ending c.args.kind.now c.in-Some.ensures bytes list c.in_ok-bytes.ensures c.in_ok-list.ensures
+    (is_text bytes c.deref.result.now c.deref.ensures.value ending c.args.file.now (WithText old new ending c.args.names.now list.items reports) old new c.in_ok-text.ensures.ok.1
+    (not_text list c.deref-2.result.now c.deref-2.ensures.value ending c.args.names.now reports old refused.1
+    (ended_so c.from_residual-in_err-list-2.result c.in_err-list-2.field-0.0 c.from_residual-in_err-list-2.ensures.1 ∙ refused.0)))
+
+pub returns-in_err-report_lex-clause-ends : goal.returns-in_err-report_lex-clause-ends
+returns-in_err-report_lex-clause-ends g c =
+    let kind = c.in-Some.kind in
+    let old = g.O.Sink.written c.args.out.now in
+    let new = g.O.Sink.written c.report_lex.new.out in
+    let bytes = c.in_ok-bytes.bytes in
+    let list = c.in_ok-list.list in
+    let ending = ending_in c.from_residual-in_err-report_lex.result in
+    let reports = EndsReported (g.P.Reporter.reports_lexer kind bytes.items list.items) old new ending in
+    let fault = c.in_err-report_lex.field-0.0 in
+    read_both g.P.Reporter.reports_lexer g.S.Source.fetches kind c.args.file.now c.args.names.now c.args.source.now c.fetch.new.source c.fetch-2.new.source old new ending c.args.kind.now c.in-Some.ensures bytes list c.in_ok-bytes.ensures c.in_ok-list.ensures
+    (is_text bytes c.deref.result.now c.deref.ensures.value ending c.args.file.now (WithText old new ending c.args.names.now list.items reports) old new c.in_ok-text.ensures.ok.1
+    (is_text list c.deref-2.result.now c.deref-2.ensures.value ending c.args.names.now reports old new c.in_ok-list-2.ensures.ok.1
+    (subst (λ (t : List ℕ). EndsReported (g.P.Reporter.reports_lexer kind t list.items) old new ending) (c.in_ok-text.ensures.ok.0 ∙ c.deref.ensures.value)
+    (subst (λ (l : List ℕ). EndsReported (g.P.Reporter.reports_lexer kind c.in_ok-text.text.now l) old new ending) (c.in_ok-list-2.ensures.ok.0 ∙ c.deref-2.ensures.value)
+    (Err fault, ended_with c.from_residual-in_err-report_lex.result fault c.from_residual-in_err-report_lex.ensures.1, c.in_err-report_lex.ensures.reported)))))
+
+pub returns-clause-ends : goal.returns-clause-ends
+returns-clause-ends g c =
+    let kind = c.in-Some.kind in
+    let old = g.O.Sink.written c.args.out.now in
+    let new = g.O.Sink.written c.report_lex.new.out in
+    let bytes = c.in_ok-bytes.bytes in
+    let list = c.in_ok-list.list in
+    let ending = Reported c.in_ok-report_lex.field-0 in
+    let reports = EndsReported (g.P.Reporter.reports_lexer kind bytes.items list.items) old new ending in
+    read_both g.P.Reporter.reports_lexer g.S.Source.fetches kind c.args.file.now c.args.names.now c.args.source.now c.fetch.new.source c.fetch-2.new.source old new ending c.args.kind.now c.in-Some.ensures bytes list c.in_ok-bytes.ensures c.in_ok-list.ensures
+    (is_text bytes c.deref.result.now c.deref.ensures.value ending c.args.file.now (WithText old new ending c.args.names.now list.items reports) old new c.in_ok-text.ensures.ok.1
+    (is_text list c.deref-2.result.now c.deref-2.ensures.value ending c.args.names.now reports old new c.in_ok-list-2.ensures.ok.1
+    (subst (λ (t : List ℕ). EndsReported (g.P.Reporter.reports_lexer kind t list.items) old new ending) (c.in_ok-text.ensures.ok.0 ∙ c.deref.ensures.value)
+    (subst (λ (l : List ℕ). EndsReported (g.P.Reporter.reports_lexer kind c.in_ok-text.text.now l) old new ending) (c.in_ok-list-2.ensures.ok.0 ∙ c.deref-2.ensures.value)
+    (Ok c.in_ok-report_lex.field-0, refl, c.in_ok-report_lex.ensures.reported)))))

@@ -1,6 +1,0 @@
-use Rattle.std.proofs.Common.{sym, ◌∙◌}
-use Rattle.cfgwords.proofs.Boundaries.{behind_blank}
-use Rattle.cfgwords.proofs.blank.Front.without_comment.Goals as goal
-
-pub split_at-requires : goal.split_at-requires
-split_at-requires c = behind_blank _ c.utf8.text (rw (sym c.as_bytes.ensures.value) (sym c.holds.ensures ∙ c.if-holds.true)) (rw (sym c.as_bytes.ensures.value) c.in-len1-up.len_at_least)

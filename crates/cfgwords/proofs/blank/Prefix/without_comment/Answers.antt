@@ -1,0 +1,6 @@
+use Rattle.std.proofs.Common.{sym, ◌∙◌}
+use Rattle.cfgwords.proofs.Boundaries.{after_blank}
+use Rattle.cfgwords.proofs.blank.Prefix.without_comment.Goals as goal
+
+pub split_at-requires : goal.split_at-requires
+split_at-requires c = after_blank _ c.utf8.text (rw (sym c.as_bytes.ensures.value) (sym c.holds.ensures ∙ c.if-holds.true)) (rw (sym c.as_bytes.ensures.value) c.in-len1-up.len_at_least)

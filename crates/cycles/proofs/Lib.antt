@@ -1,0 +1,13 @@
+pub mod AcyclicRules
+pub mod UnitPaths
+pub mod EmptyPositions
+pub mod Ending
+pub mod Finding
+pub mod Layers
+pub mod Paths
+pub mod Positions
+pub mod Pushed
+pub mod Putting
+pub mod Turned
+pub mod Uses
+pub mod Nullable

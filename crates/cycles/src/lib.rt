@@ -1,0 +1,15 @@
+//! Cyclic rules, and the paths of unit steps that show it.
+#![tactic(auto)]
+
+mod acyclic;
+pub mod laws;
+mod reversed;
+mod shortest;
+pub mod step_paths;
+mod stepping;
+pub mod steps;
+
+pub use shortest::{shortest_cycle, shortest_cycles};
+pub use step_paths::Step;
+pub use stepping::unit_steps;
+pub use steps::Steps;

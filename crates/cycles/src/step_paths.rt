@@ -1,0 +1,12 @@
+//! Steps from rule to rule.
+
+/// A step from a rule to another, by a production of the rule that has the other rule at this index, counted from 0.
+#[derive(Clone, Copy)]
+pub struct Step {
+    /// The number of the rule that the step leads to.
+    pub rule: usize,
+    /// The number of the production.
+    pub production: usize,
+    /// The index in the production.
+    pub index: usize,
+}

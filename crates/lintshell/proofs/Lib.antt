@@ -1,2 +1,0 @@
-pub mod AskedWords
-pub mod FilesInTurn

@@ -1,8 +1,0 @@
-use Rattle.loops.proofs.Ending.{ReadOff}
-use Rattle.loops.proofs.shortest.Layers.loop_of.Given as goal
-
-abbrev pub invariant-loop-found : goal.invariant-loop-found
-invariant-loop-found l = ReadOff l.fn.self.steps.now l.fn.self.found.items l.fn.rule l.initial.found l.found l.row.items
-
-abbrev pub decreases-loop-found : goal.decreases-loop-found
-decreases-loop-found l = l.found.length

@@ -1,6 +1,0 @@
-use Rattle.std.proofs.Common.{rules}
-use Rattle.reading.proofs.TextLemmas.{split_once_split_first}
-use Rattle.reading.proofs.text.split_at_first.Goals as goal
-
-pub returns-clause-parts : goal.returns-clause-parts
-returns-clause-parts c = search (rules, split_once_split_first)
