@@ -4,11 +4,11 @@ use Rattle.std.specs.Fmt.{HasWritten, HasWrittenStyled, IsFlush, IsPlainFormatte
 use Rattle.std.specs.List.{flat_map}
 use Rattle.std.specs.declared.fmt.Formatter.{Formatter}
 
--- the text of a value, behind a line end
+-- the text of a value, after a line end
 abbrev pub after : {T : Type 0} → (T → List ℕ) → T → List ℕ
 after text value = codes "\n" ++ text value
 
--- these are written, each behind a line end, where this is what is printed of them
+-- these are written, each after a line end, if this is what is printed of them
 pub record AreWritten {T S W : Type 0} (output : T → Option (List ℕ)) (styled_output : T → S → Option (List ℕ)) (gives : W → List ℕ → W → Type 0)
     (old : Formatter W) (values : List T) (new : Formatter W) : Type 0 where
   pub plain : (text : T → List ℕ) → ((value : T) → output value ≡ Some (text value)) → IsPlainFormatter old

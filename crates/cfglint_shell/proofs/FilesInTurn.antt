@@ -1,4 +1,4 @@
--- Files one by one: what is reported about them, and which of them a source is asked for.
+-- Files one by one: what is reported about them, and which of them are requested of a source.
 use Rattle.std.proofs.Common.{◌≡◌, ℕ, ◌+◌, ◌<◌, ◌≤◌, List, [], ◌∷◌, ◌++◌, length, map, take, drop, get_or, Option, Result, Ok, Err, refl, sym, ap, ◌∙◌, subst, arith}
 use Rattle.std.specs.Prelude.{OnErr}
 use Rattle.std.specs.Borrow.{Bor}
@@ -20,21 +20,21 @@ on_err (Ok value) holds = tt
 on_err (Err fault) holds = holds
 
 module _ {S : Type 0} (Fetches : S → List ℕ → Input → S → Type 0) where
-  -- one more file is asked for
+  -- one more file is requested
   IsRequested-more : {before between after : S} {files : List (List ℕ)} (file : List ℕ) (answer : Input)
       → IsRequested Fetches before files between → Fetches between file answer after → IsRequested Fetches before (files ++ file ∷ []) after
   IsRequested-more file answer IsRequested.none fetched = IsRequested.next fetched IsRequested.none
   IsRequested-more file answer (IsRequested.next first rest) fetched = IsRequested.next first (IsRequested-more file answer rest fetched)
 
-  -- before any file is asked for
+  -- before any file is requested
   pub none_requested : (source : S) (files : List (List ℕ)) → AsksFirst Fetches source source files
   none_requested source files = record { prefix = []; back = files; are = refl; fetched = IsRequested.none }
 
-  -- all files are asked for
+  -- all files are requested
   pub all_requested : (before after : S) (files : List (List ℕ)) → IsRequested Fetches before files after → AsksFirst Fetches before after files
   all_requested before after files requested = record { prefix = files; back = []; are = sym (append-nil files); fetched = requested }
 
-  -- the last file that is asked for has this index
+  -- the last file that is requested has this index
   pub requested_up_to : (files : List (Bor (List ℕ))) (i : ℕ) (d : Bor (List ℕ)) → i < length files → (before between after : S) (answer : Input)
       → IsRequested Fetches before (map (λ file. file.now) (take i files)) between → Fetches between (get_or files i d).now answer after
       → AsksFirst Fetches before after (map (λ file. file.now) files)
@@ -46,7 +46,7 @@ module _ {S : Type 0} (Fetches : S → List ℕ → Input → S → Type 0) wher
   }
 
   module _ (Reports : Option KindArg → List ℕ → List ℕ → Printed → Type 0) (kind : Option KindArg) where
-    -- files that are linted were asked for
+    -- files that are linted were requested
     pub IsRequested-from_lints : {before after : S} {tally last : Tally} {files : List (List ℕ)} → Lints Reports kind Fetches before tally files after last → IsRequested Fetches before files after
     IsRequested-from_lints Lints.none = IsRequested.none
     IsRequested-from_lints (Lints.next outcome fetched is rest) = IsRequested.next fetched (IsRequested-from_lints rest)

@@ -28,13 +28,13 @@ module _ (Reports : Option KindArg → List ℕ → List ℕ → Printed → Typ
         → Lints Fetches between (with_file file outcome tally) files after last
         → Lints Fetches source tally (file ∷ files) after last
 
--- A source is asked for files one by one.
+-- Files are requested of a source one by one.
 pub data IsRequested {S : Type 0} (Fetches : S → List ℕ → Input → S → Type 0) : S → List (List ℕ) → S → Type 0 where
   none : {source : S} → IsRequested Fetches source [] source
   next : {source between after : S} {file : List ℕ} {files : List (List ℕ)} {answer : Input}
       → Fetches source file answer between → IsRequested Fetches between files after → IsRequested Fetches source (file ∷ files) after
 
--- the source was asked for a prefix of the files, and for nothing else
+-- a prefix of the files was requested of the source, and nothing else
 pub record AsksFirst {S : Type 0} (Fetches : S → List ℕ → Input → S → Type 0) (before after : S) (files : List (List ℕ)) : Type 0 where
   pub prefix : List (List ℕ)
   pub back : List (List ℕ)

@@ -32,7 +32,7 @@ abbrev pub requested_files : Options → List (List ℕ) → Requested
 requested_files options [] = Wrong
 requested_files options (file ∷ files) = Lint options
 
--- What these arguments ask for after those that wanted this; the flag says whether a kind's name has to come first. The first argument that
+-- What these arguments ask for after those that gave these options; the flag says whether a kind's name has to come first. The first argument that
 -- asks for something else, or is wrong, decides.
 unfoldable pub arguments_ask : Bool → Options → List (List ℕ) → Requested
 arguments_ask true options [] = Wrong

@@ -58,7 +58,7 @@ ending_without arguments.OutOfMemory = NoMemory
 -- `Reports` says what may be reported about a text, and `Fetches` what a source may return for a file, and what the source then is: it was
 -- `before`, and is `after`.
 module _ (Reports : Option KindArg → List ℕ → List ℕ → Printed → Type 0) {S : Type 0} (Fetches : S → List ℕ → Input → S → Type 0) (before after : S) where
-  -- the result of what is asked
+  -- the result of a request
   abbrev pub Answers : Requested → Answer → Type 0
   Answers Help answer = (after ≡ before) × (answer ≡ written help)
   Answers Version answer = (after ≡ before) × (answer ≡ written version)
@@ -66,8 +66,8 @@ module _ (Reports : Option KindArg → List ℕ → List ℕ → Printed → Typ
   Answers (Lint options) answer = (tally : Tally) × Lints Reports options.kind Fetches before no_files options.files after tally
       × (answer ≡ answer_of options.denies tally)
 
-  -- what a run does with its arguments, and its output's known bytes: if it runs out of memory, the source was asked for a prefix of the
-  -- files that the arguments name, and for nothing else
+  -- what a run does with its arguments, and its output's known bytes: if it runs out of memory, a prefix of the
+  -- files that the arguments name was requested of the source, and nothing else
   abbrev pub Handles : List (List ℕ) → Option (List ℕ) → Option (List ℕ) → Ending → Type 0
   Handles arguments old new (Answered answer) = Answers (requested arguments) answer × Appends old new answer.output
   Handles arguments old new (Unwritten answer) = Answers (requested arguments) answer × AppendsPrefix old new answer.output

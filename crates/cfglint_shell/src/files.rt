@@ -15,7 +15,7 @@ use std::alloc::{AllocError, Global};
 ///
 /// # Errors
 ///
-/// Running out of memory; `source` was then asked only for a prefix of the files.
+/// Running out of memory; only a prefix of the files was then requested of `source`.
 pub(crate) fn lint_files<L: Linter, S: Source>(
     alloc: Global,
     linter: &L,

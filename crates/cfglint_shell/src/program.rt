@@ -72,7 +72,7 @@ fn answered<L: Linter, S: Source>(
 ///
 /// # Errors
 ///
-/// Running out of memory; `source` was then asked only for a prefix of the files.
+/// Running out of memory; only a prefix of the files was then requested of `source`.
 fn linted<L: Linter, S: Source>(
     alloc: Global,
     linter: &L,

@@ -52,7 +52,7 @@ pub record NamesNoKind (text : List ℕ) : Type 0 where
   pub whole : section_answer entries (Ok rest) ≡ Ok (entries, rest)
   pub none : given entries (codes "yacckind") ≡ None
 
--- what a call returns that is asked for the kind
+-- what a call that looks for the kind returns
 abbrev pub IsNaming : Naming → Result YaccKind HeaderFault → Type 0
 IsNaming naming (Ok kind) = naming ≡ Ok kind
 IsNaming naming (Err (faults.Errors errors)) = naming ≡ Err (errors_view errors.items)

@@ -1,4 +1,4 @@
--- How a run of a program ends, told by its status and by what becomes of its two sinks.
+-- How a run of a program ends: its status, and what becomes of its two sinks.
 use Rattle.std.specs.Prelude.{◌≡◌, ℕ, ◌+◌, List, Option}
 use Rattle.cfgsink.specs.Sinks.{AppendsOrFaults}
 

@@ -12,7 +12,7 @@ use std::fmt;
 /// How a report ended.
 #[derive(Clone, Copy, Debug, PartialEq, Eq)]
 pub enum Outcome {
-    /// The text is a grammar, and what was asked for is printed.
+    /// The text is a grammar, and what was requested is printed.
     Done,
     /// The text has errors, and they are printed.
     Refused,

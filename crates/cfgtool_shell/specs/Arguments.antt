@@ -14,6 +14,6 @@ command_named argument =
     else if bytes_eq argument (codes "warnings") then Some Warnings
     else None
 
--- whether two files are asked for correctly: by the command `lex`, and with at most one of them standard input
+-- whether two files are requested correctly: by the command `lex`, and with at most one of them standard input
 abbrev pub asks_lexer : List ℕ → List ℕ → List ℕ → Bool
 asks_lexer command file names = bytes_eq command (codes "lex") && not (bytes_eq file (codes "-") && bytes_eq names (codes "-"))

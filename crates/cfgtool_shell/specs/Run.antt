@@ -18,7 +18,7 @@ use Rattle.cfgprogram.specs.declared.kinds.KindArg.{KindArg}
 abbrev pub EndsUnwritten : Ending → Option (List ℕ) → Option (List ℕ) → Ending → Type 0
 EndsUnwritten why old new ending = (ending ≡ why) × Keeps old new
 
--- The run was asked wrongly: it ends with its usage, its source is as it was, and nothing was written to its output.
+-- The arguments were wrong: the run ends with its usage, its source is as it was, and nothing was written to its output.
 abbrev pub EndsUnread : {S : Type 0} → S → S → Option (List ℕ) → Option (List ℕ) → Ending → Type 0
 EndsUnread before after old new ending = (after ≡ before) × EndsUnwritten Usage old new ending
 
@@ -60,7 +60,7 @@ module _ (ReportsLexer : KindArg → List ℕ → List ℕ → Option (List ℕ)
       (answer : Input) × Fetches between names answer after
       × WithBytes old new ending names answer (λ list. HandlesTexts kind file names bytes.items list old new ending)
 
-  -- what a run does with a kind and two files, if `lex` is asked for correctly
+  -- what a run does with a kind and two files, if `lex` is requested correctly
   abbrev pub HandlesLexer : {S : Type 0} → Option KindArg → Bool → List ℕ → List ℕ → (S → List ℕ → Input → S → Type 0) → S → S → Option (List ℕ) → Option (List ℕ) → Ending → Type 0
   HandlesLexer {S} (Some kind) true file names Fetches before after old new ending =
       (answer : Input) × (between : S) × Fetches before file answer between × HandlesFirst kind file names answer Fetches between after old new ending

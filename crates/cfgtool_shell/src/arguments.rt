@@ -33,7 +33,7 @@ pub fn command_of(argument: &str) -> Option<Command>
     }
 }
 
-/// Whether a command with two files is asked for correctly: it is `lex`, and at most one of the files is standard
+/// Whether a command with two files is requested correctly: it is `lex`, and at most one of the files is standard
 /// input.
 pub(crate) fn asks_lexer(command: &str, file: &str, names: &str) -> bool
     ensures { result ≡ asks_lexer command.now file.now names.now }

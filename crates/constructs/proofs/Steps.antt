@@ -1,4 +1,4 @@
--- The loops of a reader: reading the rest, from what was made so far, leads to the same end.
+-- Loops that read: reading the rest, from what was made so far, leads to the same end.
 use Rattle.std.proofs.Common.{◌≡◌, ℕ, ◌<◌, ◌≤◌, ◌-◌, Bool, true, false, cond, List, [], ◌∷◌, ◌++◌, length, fold, Option, Some, None, Result, Ok, Err, refl, sym, ◌∙◌, ap, subst, arith, append-nil}
 use Rattle.std.specs.Prelude.{IsErrAnd}
 use Rattle.std.proofs.lemmas.List.Sums.{fold-append}

@@ -1,4 +1,4 @@
--- The rest of the arguments asks, after what was wanted so far, for what all of them ask for.
+-- The rest of the arguments asks, after the options so far, for what all of them ask for.
 use Rattle.std.proofs.Common.{◌≡◌, drop, map}
 use Rattle.cfglint_shell.specs.Inner.{options_view}
 use Rattle.cfglint_shell.specs.Requests.{requested, arguments_ask}
