@@ -10,7 +10,7 @@ use Rattle.cfgleast.specs.Certificate.{rule_choice}
 use Rattle.cfgchoices.specs.Inner.FirstChoices.{Opens, Walks}
 use Rattle.cfgleast.specs.Generator.{CostTables, IsGenerator, cost_answer, token_cost}
 use Rattle.cfgchoices.specs.Levels.{Along, here, next}
-use Rattle.cfgchoices.specs.Inner.Kinds.{HasTarget, HasNoTarget, IsTarget}
+use Rattle.cfgchoices.specs.Inner.Kinds.{HasTarget, IsBaseProduction, IsTarget}
 use Rattle.cfgchoices.specs.Inner.Candidates.{Choices, Choosing, HasChoice, by}
 use Rattle.cfgchoices.proofs.ChoosingFirsts.{few, paid_chosen, sequence_not_above}
 use Rattle.cfgleast.proofs.Generated.{some_answered}
@@ -25,7 +25,7 @@ module _ (x : CostTables) (n : ℕ) (is : IsGenerator x n) (grammar : IsGrammar 
       let same = one_cost x a c optimal.cost e (subst (λ r. cost_answer x r ≡ Some optimal.cost) link.owner optimal.rule) in
       same ∙ along_cost rest optimal.cost d link.target.same f
 
-  module _ (bound : ℕ) (base : (p : ℕ) (base : HasNoTarget x p) → base.optimal.cost < bound → HasChoice l (nth_production x.grammar p).rule)
+  module _ (bound : ℕ) (base : (p : ℕ) (base : IsBaseProduction x p) → base.optimal.cost < bound → HasChoice l (nth_production x.grammar p).rule)
       (hand : (p q : ℕ) → IsTarget x p q → HasChoice l q → HasChoice l (nth_production x.grammar p).rule) where
     back : {a b : ℕ} → Along (HasTarget x) a b → HasChoice l b → HasChoice l a
     back here h = h

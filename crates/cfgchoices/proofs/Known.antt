@@ -3,11 +3,11 @@ use Rattle.std.proofs.Common.{◌≡◌, ℕ, ◌<◌, ◌⊎◌, inl, inr, List
 use Rattle.derivation.specs.Grammar.{IsGrammar}
 use Rattle.cfgtables.specs.Openings.{nth_production}
 use Rattle.cfgleast.specs.Generator.{CostTables, IsGenerator, cost_answer}
-use Rattle.cfgchoices.specs.Inner.Kinds.{AreKinds, HasNoTarget, IsTarget, IsKind, IsOptimal}
+use Rattle.cfgchoices.specs.Inner.Kinds.{AreKinds, IsBaseProduction, IsTarget, IsKind, IsOptimal}
 use Rattle.cfgchoices.specs.Inner.Candidates.{IsCounted, IsKnown}
 use Rattle.cfgchoices.specs.declared.kinds.Kind.{Kind}
 use Rattle.cfgchoices.specs.declared.kinds.Kind.TheVariants as variants
-use Rattle.cfgchoices.specs.declared.kinds.Kind.TheVariants.{Slack, Base}
+use Rattle.cfgchoices.specs.declared.kinds.Kind.TheVariants.{Suboptimal, Base}
 
 module _ {S : Type 0} (number : S → ℕ) (x : CostTables) (kinds : List (Kind S)) (are : AreKinds number x kinds) where
   within : (p : ℕ) → IsOptimal x p → p < length kinds
@@ -16,11 +16,11 @@ module _ {S : Type 0} (number : S → ℕ) (x : CostTables) (kinds : List (Kind 
   counted : (p : ℕ) → IsOptimal x p → IsCounted kinds p
   counted p optimal = (within p optimal, λ e. subst (IsKind number x p) e (are.each p (within p optimal)) optimal)
 
-  base_or_target : (p : ℕ) → IsOptimal x p → HasNoTarget x p ⊎ ((q : ℕ) × IsTarget x p q)
-  base_or_target p optimal = go (get_or kinds p Slack) (are.each p (within p optimal))
+  base_or_target : (p : ℕ) → IsOptimal x p → IsBaseProduction x p ⊎ ((q : ℕ) × IsTarget x p q)
+  base_or_target p optimal = go (get_or kinds p Suboptimal) (are.each p (within p optimal))
     where
-      go : (kind : Kind S) → IsKind number x p kind → HasNoTarget x p ⊎ ((q : ℕ) × IsTarget x p q)
-      go Slack is = absurd (is optimal)
+      go : (kind : Kind S) → IsKind number x p kind → IsBaseProduction x p ⊎ ((q : ℕ) × IsTarget x p q)
+      go Suboptimal is = absurd (is optimal)
       go Base is = inl is
       go (variants.ChainsTo r) is = inr (number r.0, is)
 

@@ -10,7 +10,7 @@ use Rattle.derivation.specs.Tree.{Yields, empty, token, opened}
 use Rattle.derivation.proofs.Trees.{trees_join, trees_from_derivation, derivation_from_trees}
 use Rattle.derivation.proofs.Costs.{least_is_one, minimal_costs_least}
 use Rattle.cfgchoices.specs.Splits.{Split, done, itself, part}
-use Rattle.cfgchoices.specs.Levels.{Along, here, next, CostsAsItsRule, ChainsTo, IsChainedDown}
+use Rattle.cfgchoices.specs.Levels.{Along, here, next, CostsAsItsRule, ChainsTo, IsMadeAlongChain}
 use Rattle.derivation.proofs.Made.{cost_of-token}
 use Rattle.lemmas.proofs.Contained.{contains_first, contains_later, contains_none, contains_cases}
 use Rattle.cfgchoices.proofs.Lengths.{IsPaid, positive_empty, sentence_positive, tokens_positive}
@@ -100,8 +100,8 @@ module _ (P : ℕ → List Sym → Type 0) (cost : ℕ → ℕ) where
         made_minimal r h.symbols h.level w optimal
         (handed_back b h.level w optimal.parts (paid r h.symbols optimal.has) h.among h.same (omega (arith, optimal.is)) (along_back w k m))
 
-    pub chained_down_minimal : (r : ℕ) (w : List ℕ) → IsChainedDown P cost r w → Minimal P cost r w
-    chained_down_minimal r w h = along_back w h.leads (made_minimal h.owner h.symbols h.base.level w h.base.optimal h.parts)
+    pub chain_makes_minimal : (r : ℕ) (w : List ℕ) → IsMadeAlongChain P cost r w → Minimal P cost r w
+    chain_makes_minimal r w h = along_back w h.leads (made_minimal h.owner h.symbols h.base.level w h.base.optimal h.parts)
 
     -- the parts of a list's least word are minimal
     module _ (F : ℕ → List ℕ → Type 0) where
@@ -182,7 +182,7 @@ module _ (P : ℕ → List Sym → Type 0) (cost : ℕ → ℕ) where
           ]
 
     abbrev Comes : ℕ → List ℕ → Type 0
-    Comes r w = Minimal P cost r w → IsChainedDown P cost r w
+    Comes r w = Minimal P cost r w → IsMadeAlongChain P cost r w
 
     comes_up : (r : ℕ) (symbols : List Sym) (w : List ℕ) → P r symbols → Yields P symbols w → Split (IsYieldedAnd P Comes) symbols w → Comes r w
     comes_up r symbols w has tree s m =
@@ -204,5 +204,5 @@ module _ (P : ℕ → List Sym → Type 0) (cost : ℕ → ℕ) where
           }
         ]
 
-    pub minimal_chained_down : (r : ℕ) (w : List ℕ) → Minimal P cost r w → IsChainedDown P cost r w
-    minimal_chained_down r w m = by_rules P Comes comes_up r w (trees_from_derivation P (Rule r ∷ []) w m.0) m
+    pub minimal_made_along_chain : (r : ℕ) (w : List ℕ) → Minimal P cost r w → IsMadeAlongChain P cost r w
+    minimal_made_along_chain r w m = by_rules P Comes comes_up r w (trees_from_derivation P (Rule r ∷ []) w m.0) m

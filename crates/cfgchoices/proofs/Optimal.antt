@@ -20,7 +20,7 @@ use Rattle.derivation.proofs.Sums.{plus_parts, plus_both}
 use Rattle.derivation.proofs.Made.{cost_of-token}
 use Rattle.cfgleast.specs.Generator.{CostTables, IsGenerator, cost_answer, token_cost}
 use Rattle.cfgchoices.specs.Levels.{Along, here, next, CostsAsItsRule, ChainsTo, IsBase}
-use Rattle.cfgchoices.specs.Inner.Kinds.{AreKinds, HasTarget, HasNoTarget, HasRulesAsTargets, IsTarget, IsKind, IsSequenceKind, IsOptimal, IsMinimal, IsBaseBelow}
+use Rattle.cfgchoices.specs.Inner.Kinds.{AreKinds, HasTarget, IsBaseProduction, HasRulesAsTargets, IsTarget, IsKind, IsSequenceKind, IsOptimal, IsMinimal, IsBaseBelow}
 use Rattle.cfgleast.specs.Inner.Open.{StopsAt}
 use Rattle.cfgchoices.specs.Splits.{Split, done, itself, part}
 use Rattle.cfgchoices.specs.declared.kinds.Kind.{Kind}
@@ -30,7 +30,7 @@ use Rattle.lemmas.proofs.Contained.{contains_cases, contains_none}
 use Rattle.cfgleast.proofs.Gains.{part_at}
 use Rattle.cfgleast.proofs.Generated.{answered_some, some_answered, reads_cost, reads_too_large, reads_none}
 use Rattle.cfgchoices.proofs.Lengths.{IsPaid, productions_paid}
-use Rattle.cfgchoices.proofs.Levels.{at_least, chained_down_minimal, minimal_chained_down, rule_nothing}
+use Rattle.cfgchoices.proofs.Levels.{at_least, chain_makes_minimal, minimal_made_along_chain, rule_nothing}
 
 -- if a rule has no cost, the list has none
 pub stops_none : (cost : ℕ → ℕ) (settled : ℕ → Option ℕ) (symbols : List Sym) (r n : ℕ) (x : Partial) → StopsAt cost settled symbols r x → sum_of (symbol_cost cost settled) symbols ≡ Some n → ⊥
@@ -110,7 +110,7 @@ module _ (x : CostTables) (p c : ℕ) (index : p < length x.grammar.productions)
 
     pub kind_reported : {S : Type 0} (number : S → ℕ) (kind : Kind S)
         → IsSequenceKind number (token_cost x) (rule_cost x.least) c (nth_production x.grammar p).symbols kind → IsKind number x p kind
-    kind_reported number kinds.Slack h = λ optimal. h (optimal.sum ∙ ap Some (cost_is optimal))
+    kind_reported number kinds.Suboptimal h = λ optimal. h (optimal.sum ∙ ap Some (cost_is optimal))
     kind_reported number kinds.Base h = record {
       optimal = optimal_now h.0;
       none = λ q target. h.1 q target.among ((answered_some (rule_cost x.least q) target.optimal.cost target.same).0 ∙ ap Some (cost_is target.optimal));
@@ -126,7 +126,7 @@ module _ {S : Type 0} (number : S → ℕ) (x : CostTables) where
   pub kind_read : (listed : List (Kind S)) (p i : ℕ) (kind : Kind S) → AreKinds number x listed → i ≡ p → p < length x.grammar.productions → kind ≡ get_or listed i kind → IsKind number x p kind
   kind_read listed p i kind are at within is =
       let there : p < length listed = subst (λ n. p < n) (sym are.all) within in
-      subst (IsKind number x p) (get_or_default listed p kinds.Slack kind there ∙ sym (subst (λ n. kind ≡ get_or listed n kind) at is)) (are.each p there)
+      subst (IsKind number x p) (get_or_default listed p kinds.Suboptimal kind there ∙ sym (subst (λ n. kind ≡ get_or listed n kind) at is)) (are.each p there)
 
 -- what has a cost is a rule of the grammar
 pub answered_within : (x : CostTables) (n : ℕ) → IsGenerator x n → (q c : ℕ) → cost_answer x q ≡ Some c → q < x.grammar.rules
@@ -251,7 +251,7 @@ module _ (x : CostTables) (n : ℕ) (is : IsGenerator x n) (grammar : IsGrammar 
         same = least_of b optimal.cost h.target.same;
       })
 
-  base_reported : (p : ℕ) → HasNoTarget x p → IsBase P cost (nth_production x.grammar p).rule (nth_production x.grammar p).symbols
+  base_reported : (p : ℕ) → IsBaseProduction x p → IsBase P cost (nth_production x.grammar p).rule (nth_production x.grammar p).symbols
   base_reported p base =
       let optimal = base.optimal in
       let reported = optimal_reported p optimal in
@@ -275,7 +275,7 @@ module _ (x : CostTables) (n : ℕ) (is : IsGenerator x n) (grammar : IsGrammar 
 
   -- what a base production below the rule makes of minimal sentences is a minimal sentence of the rule
   pub base_makes : (r p : ℕ) (w : List ℕ) → IsBaseBelow x r p → Cut (nth_production x.grammar p).symbols w → IsMinimal x r w
-  base_makes r p w below cut = chained_down_minimal P cost paid r w (record {
+  base_makes r p w below cut = chain_makes_minimal P cost paid r w (record {
     owner = (nth_production x.grammar p).rule;
     symbols = (nth_production x.grammar p).symbols;
     leads = along_reported below.leads;
@@ -299,7 +299,7 @@ module _ (x : CostTables) (n : ℕ) (is : IsGenerator x n) (grammar : IsGrammar 
           subst (Least P cost a) (sym same) h.optimal.least
 
   -- a rule in such a production has a cost
-  pub base_costs : (p s : ℕ) → HasNoTarget x p → Contains (nth_production x.grammar p).symbols (Rule s) → (d : ℕ) × (cost_answer x s ≡ Some d)
+  pub base_costs : (p s : ℕ) → IsBaseProduction x p → Contains (nth_production x.grammar p).symbols (Rule s) → (d : ℕ) × (cost_answer x s ≡ Some d)
   base_costs p s base h =
       let optimal = base.optimal in
       let known = answered_some (rule_cost x.least (nth_production x.grammar p).rule) optimal.cost optimal.rule in
@@ -334,7 +334,7 @@ module _ (x : CostTables) (n : ℕ) (is : IsGenerator x n) (grammar : IsGrammar 
       (next (target_located a b c h l some small) rest.0, rest.1)
 
   base_located : (r : ℕ) (symbols : List Sym) (c : ℕ) (base : IsBase P cost r symbols) → Least P cost r c → 0 < c → c ≤ 65535
-      → (p : ℕ) × (nth_production x.grammar p ≡ record { rule = r; symbols = symbols }) × HasNoTarget x p
+      → (p : ℕ) × (nth_production x.grammar p ≡ record { rule = r; symbols = symbols }) × IsBaseProduction x p
   base_located r symbols c base l some small =
       let one = least_is_one P cost r base.level c base.optimal.least l in
       let t = optimal_located r symbols base.level base.optimal (omega (arith, one, some)) (omega (arith, one, small)) in (
@@ -352,7 +352,7 @@ module _ (x : CostTables) (n : ℕ) (is : IsGenerator x n) (grammar : IsGrammar 
   pub minimal_made : (r c : ℕ) (w : List ℕ) → cost_answer x r ≡ Some c → 0 < c → IsMinimal x r w → IsMade r w
   minimal_made r c w e some m =
       let small = (answered_some (rule_cost x.least r) c e).1 in
-      let down = minimal_chained_down P cost paid r w m in
+      let down = minimal_made_along_chain P cost paid r w m in
       let (along, least) = along_located c down.leads (least_of r c e) some small in
       let (p, same, base) = base_located down.owner down.symbols c down.base least some small in
       record {
@@ -376,8 +376,8 @@ module _ (x : CostTables) (n : ℕ) (is : IsGenerator x n) (grammar : IsGrammar 
 
 -- the rule that a chain production leads to is a rule of the grammar
 pub targets_are_rules : {S : Type 0} (number : S → ℕ) (x : CostTables) (list : List (Kind S)) (n : ℕ) → IsGenerator x n
-    → ((p : ℕ) → p < length list → IsKind number x p (get_or list p kinds.Slack)) → HasRulesAsTargets number x.grammar list
+    → ((p : ℕ) → p < length list → IsKind number x p (get_or list p kinds.Suboptimal)) → HasRulesAsTargets number x.grammar list
 targets_are_rules number x list n is each p target e = elim (cases_lt p (length list)) [
   | inl lt ↦ let h = subst (IsKind number x p) e (each p lt) in answered_within x n is (number target.0) h.optimal.cost h.same
-  | inr past ↦ let no : kinds.Slack ≡ kinds.ChainsTo target = sym (get_or_past list p kinds.Slack past) ∙ e in absurd (cc)
+  | inr past ↦ let no : kinds.Suboptimal ≡ kinds.ChainsTo target = sym (get_or_past list p kinds.Suboptimal past) ∙ e in absurd (cc)
 ]

@@ -40,12 +40,12 @@ module _ {S : Type 0} (kinds : List (Kind S)) (g : Grammar) where
         → rule_of p ≡ r → rule_of q ≡ r → p ≡ q
     one_other r not e p q lt lt' i j h k = a.one r e p q (other r p not lt i h) (other r q not lt' j k) i j h k
 
-    pub sole_slack : (IsCounted kinds n → ⊥) → SoleSoFar (n + 1) sole seen
-    sole_slack slack = record {
+    pub sole_suboptimal : (IsCounted kinds n → ⊥) → SoleSoFar (n + 1) sole seen
+    sole_suboptimal suboptimal = record {
       flags = a.flags;
       rules = a.rules;
-      none = λ r e p lt i h. a.none r e p (other r p (λ c _. slack c) lt i h) i h;
-      one = λ r e. one_other r (λ c _. slack c) e;
+      none = λ r e p lt i h. a.none r e p (other r p (λ c _. suboptimal c) lt i h) i h;
+      one = λ r e. one_other r (λ c _. suboptimal c) e;
     }
 
     module _ (i : ℕ) (at : i ≡ rule_of n) (within : i < g.rules) (b : Bool) (read : b ≡ get_or seen i b) where

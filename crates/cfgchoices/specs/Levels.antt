@@ -35,7 +35,7 @@ module _ (P : ℕ → List Sym → Type 0) (cost : ℕ → ℕ) where
     pub less : (q d : ℕ) → Contains symbols (Rule q) → Least P cost q d → d < level
 
   -- zero or more chain productions lead from r to a rule with a base production that makes the word of minimal sentences
-  pub record IsChainedDown (r : ℕ) (w : List ℕ) : Type 0 where
+  pub record IsMadeAlongChain (r : ℕ) (w : List ℕ) : Type 0 where
     pub owner : ℕ
     pub symbols : List Sym
     pub leads : Along ChainsTo r owner

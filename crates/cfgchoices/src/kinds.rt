@@ -19,7 +19,7 @@ use std::alloc::{AllocError, Global};
 #[derive(Clone, Copy)]
 pub enum Kind<S> {
     /// Not optimal: it costs more than its rule, or the rule costs nothing, or has no cost to return.
-    Slack,
+    Suboptimal,
     /// A base production: it costs just what its rule does, and each rule in it costs less.
     Base,
     /// A chain production: it costs just what its rule does, and so does this rule in it.
@@ -84,10 +84,10 @@ fn sequence_kind<S: Storage>(
                     None => Kind::Base,
                 }
             } else {
-                Kind::Slack
+                Kind::Suboptimal
             }
         }
-        Err(_) => Kind::Slack,
+        Err(_) => Kind::Suboptimal,
     }
 }
 
@@ -109,7 +109,7 @@ fn kind_of<S: Storage, T: Tables<S>>(
         Some(cost) if cost > 0 && cost < TOO_LARGE => {
             sequence_kind(costs, &settled.least, tables.prod(p), cost)
         }
-        _ => Kind::Slack,
+        _ => Kind::Suboptimal,
     }
 }
 

@@ -7,7 +7,7 @@ use Rattle.search.specs.Reachable.{FoundBy, Reachable, Reaches, SearchState, led
 use Rattle.search.proofs.Reaching.{Begun, Searching, popped_reachable, reaches_as, search_begins, search_ends, search_goes_on}
 use Rattle.cfgleast.specs.Generator.{CostTables}
 use Rattle.cfgchoices.specs.Levels.{Along, here, next}
-use Rattle.cfgchoices.specs.Inner.Kinds.{HasTarget, HasNoTarget, IsTarget, IsBaseBelow}
+use Rattle.cfgchoices.specs.Inner.Kinds.{HasTarget, IsBaseProduction, IsTarget, IsBaseBelow}
 use Rattle.cfgcosts.specs.Inner.Minimal.{Lists}
 use Rattle.lemmas.proofs.Contained.{contains_none}
 
@@ -26,7 +26,7 @@ lists_one base base' Is p e to from q = (
 -- the rules that chain productions lead to, and the base productions
 module _ (x : CostTables) where
   abbrev pub BaseAmong : List ℕ → ℕ → Type 0
-  BaseAmong positions q = Contains positions q × HasNoTarget x q
+  BaseAmong positions q = Contains positions q × IsBaseProduction x q
 
   module _ (positions : List ℕ) where
     pub owns_begin : (base : List ℕ) → Lists (BaseAmong (take 0 positions)) base base
@@ -36,7 +36,7 @@ module _ (x : CostTables) where
       longer : take (n + 1) positions ≡ take n positions ++ (p ∷ [])
       longer = take_more positions n p lt ∙ ap (λ q. take n positions ++ (q ∷ [])) (sym is)
 
-      pub owns_more : (old mid new : List ℕ) → Lists (BaseAmong (take n positions)) old mid → Lists (λ q. (q ≡ p) × HasNoTarget x q) mid new
+      pub owns_more : (old mid new : List ℕ) → Lists (BaseAmong (take n positions)) old mid → Lists (λ q. (q ≡ p) × IsBaseProduction x q) mid new
           → Lists (BaseAmong (take (n + 1) positions)) old new
       owns_more old mid new w v q = (
         (λ h. elim ((v q).0 h) [
@@ -62,7 +62,7 @@ module _ (x : CostTables) where
           (λ q h. record { thing = h.index; among = (are.listed h.index h.target.optimal.index).1 h.owner; finds = h.target })
           w
 
-      pub owns_end : (n : ℕ) → length positions ≤ n → (old new : List ℕ) → Lists (BaseAmong (take n positions)) old new → Lists (λ p. ((nth_production x.grammar p).rule ≡ rule) × HasNoTarget x p) old new
+      pub owns_end : (n : ℕ) → length positions ≤ n → (old new : List ℕ) → Lists (BaseAmong (take n positions)) old new → Lists (λ p. ((nth_production x.grammar p).rule ≡ rule) × IsBaseProduction x p) old new
       owns_end n le old new w q =
           let all = subst (λ l. Lists (BaseAmong l) old new) (take_all n positions le) w in (
             (λ h. elim ((all q).0 h) [ inl i ↦ inl i | inr i ↦ inr ((are.listed q i.1.optimal.index).0 i.0, i.1) ]),
@@ -89,7 +89,7 @@ module _ (Link : ℕ → ℕ → Type 0) (r : ℕ) where
 -- a search along chain productions lists the base productions of the rules that were visited
 module _ (x : CostTables) (r : ℕ) where
   abbrev BaseListed : List ℕ → ℕ → Type 0
-  BaseListed base b = (p : ℕ) → (nth_production x.grammar p).rule ≡ b → HasNoTarget x p → Contains base p
+  BaseListed base b = (p : ℕ) → (nth_production x.grammar p).rule ≡ b → IsBaseProduction x p → Contains base p
 
   pub record Level (base : List ℕ) (s : SearchState) : Type 0 where
     pub search : Searching x.grammar.rules (λ q. q ≡ r) (HasTarget x) (BaseListed base) s
@@ -102,7 +102,7 @@ module _ (x : CostTables) (r : ℕ) where
   }
 
   pub level_goes_on : (b : ℕ) (old mid new : SearchState) (base base' : List ℕ) → Level base old → mid.reached ≡ old.reached → old.waiting ≡ mid.waiting ++ b ∷ []
-      → Reaches (HasTarget x b) mid new → Lists (λ p. ((nth_production x.grammar p).rule ≡ b) × HasNoTarget x p) base base' → Level base' new
+      → Reaches (HasTarget x b) mid new → Lists (λ p. ((nth_production x.grammar p).rule ≡ b) × IsBaseProduction x p) base base' → Level base' new
   level_goes_on b old mid new base base' l same popped w lists = record {
     search = search_goes_on x.grammar.rules (λ q. q ≡ r) (HasTarget x) (BaseListed base) b old mid l.search popped new (BaseListed base')
         (λ a d p owner without. (lists p).1 (inl (d p owner without))) (λ p owner without. (lists p).1 (inr (owner, without))) same w;

@@ -14,7 +14,7 @@ use Rattle.cfgcosts.specs.Inner.Targets.{AreTargets, HasSameSentences, IsOnlyTar
 use Rattle.cfgchoices.specs.Inner.Kinds.{HasRulesAsTargets, AreKinds, HasTarget, IsTarget, IsKind, IsOptimal, IsMinimal, IsBaseBelow}
 use Rattle.cfgchoices.specs.Levels.{Along, here, next}
 use Rattle.cfgchoices.specs.declared.kinds.Kind.{Kind}
-use Rattle.cfgchoices.specs.declared.kinds.Kind.TheVariants.{Slack, ChainsTo}
+use Rattle.cfgchoices.specs.declared.kinds.Kind.TheVariants.{Suboptimal, ChainsTo}
 use Rattle.lemmas.proofs.Contained.{contains_none}
 use Rattle.cfgchoices.proofs.Optimal.{minimal_made, one_target, base_makes}
 
@@ -23,11 +23,11 @@ module _ {S : Type 0} (kinds : List (Kind S)) where
   pub record One (positions : List ℕ) (target : RIdx S) : Type 0 where
     pub index : ℕ
     pub among : Contains positions index
-    pub kind : get_or kinds index Slack ≡ ChainsTo target
-    pub others : (p : ℕ) → Contains positions p → (p ≡ index) ⊎ (get_or kinds p Slack ≡ Slack)
+    pub kind : get_or kinds index Suboptimal ≡ ChainsTo target
+    pub others : (p : ℕ) → Contains positions p → (p ≡ index) ⊎ (get_or kinds p Suboptimal ≡ Suboptimal)
 
   abbrev pub OnlyOne : List ℕ → Option (RIdx S) → Type 0
-  OnlyOne positions only = MatchOption only ((p : ℕ) → Contains positions p → get_or kinds p Slack ≡ Slack) (One positions)
+  OnlyOne positions only = MatchOption only ((p : ℕ) → Contains positions p → get_or kinds p Suboptimal ≡ Suboptimal) (One positions)
 
   pub only_begins : (positions : List ℕ) → OnlyOne (take 0 positions) None
   only_begins positions p h = absurd (contains_none p h)
@@ -36,13 +36,13 @@ module _ {S : Type 0} (kinds : List (Kind S)) where
     longer : take (n + 1) positions ≡ take n positions ++ p ∷ []
     longer = take_more positions n p lt ∙ ap (λ q. take n positions ++ (q ∷ [])) (sym is)
 
-    pub only_slack : (only : Option (RIdx S)) → OnlyOne (take n positions) only → get_or kinds p Slack ≡ Slack → OnlyOne (take (n + 1) positions) only
-    only_slack only h slack = subst (λ l. OnlyOne l only) (sym longer) (go only h)
+    pub only_suboptimal : (only : Option (RIdx S)) → OnlyOne (take n positions) only → get_or kinds p Suboptimal ≡ Suboptimal → OnlyOne (take (n + 1) positions) only
+    only_suboptimal only h suboptimal = subst (λ l. OnlyOne l only) (sym longer) (go only h)
       where
         go : (only : Option (RIdx S)) → OnlyOne (take n positions) only → OnlyOne (take n positions ++ p ∷ []) only
         go None h = λ q among. elim (Contains-push_cases (take n positions) p q among) [
           | inl i ↦ h q i
-          | inr e ↦ subst (λ q. get_or kinds q Slack ≡ Slack) e slack
+          | inr e ↦ subst (λ q. get_or kinds q Suboptimal ≡ Suboptimal) e suboptimal
         ]
         go (Some target) h = record {
           index = h.index;
@@ -50,11 +50,11 @@ module _ {S : Type 0} (kinds : List (Kind S)) where
           kind = h.kind;
           others = λ q among. elim (Contains-push_cases (take n positions) p q among) [
             | inl i ↦ h.others q i
-            | inr e ↦ inr (subst (λ q. get_or kinds q Slack ≡ Slack) e slack)
+            | inr e ↦ inr (subst (λ q. get_or kinds q Suboptimal ≡ Suboptimal) e suboptimal)
           ];
         }
 
-    pub only_found : (only : Option (RIdx S)) (target : RIdx S) → only ≡ None → OnlyOne (take n positions) only → get_or kinds p Slack ≡ ChainsTo target → OnlyOne (take (n + 1) positions) (Some target)
+    pub only_found : (only : Option (RIdx S)) (target : RIdx S) → only ≡ None → OnlyOne (take n positions) only → get_or kinds p Suboptimal ≡ ChainsTo target → OnlyOne (take (n + 1) positions) (Some target)
     only_found only target none h chains =
         let all = subst (OnlyOne (take n positions)) none h in
         subst (λ l. One l target) (sym longer) (record {
@@ -130,7 +130,7 @@ module _ {S : Type 0} (number : S → ℕ) (targets : List (RIdx S)) (r i : ℕ)
         (targets_gone_on number g kinds (rules_of number targets) r (number target.0) (number after.0) located (sym first) (sym second) are)
 
 module _ {S : Type 0} (number : S → ℕ) (x : CostTables) (kinds : List (Kind S)) (are : AreKinds number x kinds) where
-  kind_is : (p : ℕ) (kind : Kind S) → p < length x.grammar.productions → get_or kinds p Slack ≡ kind → IsKind number x p kind
+  kind_is : (p : ℕ) (kind : Kind S) → p < length x.grammar.productions → get_or kinds p Suboptimal ≡ kind → IsKind number x p kind
   kind_is p kind within e = subst (IsKind number x p) e (are.each p (subst (λ m. p < m) (sym are.all) within))
 
   only_target : (r q : ℕ) (h : IsOnlyTarget number x.grammar kinds r q) → IsTarget x h.index q
@@ -143,7 +143,7 @@ module _ {S : Type 0} (number : S → ℕ) (x : CostTables) (kinds : List (Kind 
   only_optimal : (r q p : ℕ) → IsOnlyTarget number x.grammar kinds r q → (nth_production x.grammar p).rule ≡ r → IsOptimal x p → IsTarget x p q
   only_optimal r q p h owner optimal = elim (h.others p optimal.index owner) [
     | inl same ↦ subst (λ m. IsTarget x m q) (sym same) (only_target r q h)
-    | inr slack ↦ absurd (kind_is p Slack optimal.index slack optimal)
+    | inr suboptimal ↦ absurd (kind_is p Suboptimal optimal.index suboptimal optimal)
   ]
 
   below_target : (r q p : ℕ) → IsOnlyTarget number x.grammar kinds r q → IsBaseBelow x r p → IsBaseBelow x q p

@@ -27,7 +27,7 @@ fn only_target<S: Storage, T: Tables<S>>(
     for p in tables.rule_to_prods(rule) {
         let kind = kinds[usize::from(*p)];
         match kind {
-            Kind::Slack => {}
+            Kind::Suboptimal => {}
             Kind::ChainsTo(target) if only.is_none() => only = Some(target),
             _ => return None,
         }

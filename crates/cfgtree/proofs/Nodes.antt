@@ -15,7 +15,7 @@ use Rattle.search.specs.Reachable.{FoundBy, IsReachableIn, Reachable, Reaches, S
 use Rattle.search.proofs.Reaching.{reaches_as, reaches_known, reaches_then}
 use Rattle.cfgbase.specs.declared.span.Span.{Span}
 use Rattle.cfgast.specs.Syntax.{Syntax, Rule, entry_name}
-use Rattle.cfgtree.specs.Unused.{Name, RuleName, TokenName, Holds, IsUsed, IsStart, Leads, Expected, implicit, name_of, entry_token, named as expected_name}
+use Rattle.cfgtree.specs.Unused.{Name, RuleName, TokenName, Holds, IsReachable, IsStart, Leads, Expected, implicit, name_of, entry_token, named as expected_name}
 use Rattle.cfgtree.specs.Inner.Nodes.{nodes, IsNodeOf, HeldAt, Knows, LeadsTo}
 
 -- the elements of the second of two lists
@@ -89,14 +89,14 @@ module _ (s : Syntax) where
       (position_or_len (bytes_eq name) (map entry_name s.rules), first_position (bytes_eq name) (map entry_name s.rules) known)
 
   module _ (Seed : ℕ → Type 0) (seeds : (n : ℕ) → (Seed n ↔ ((name : Name) × IsStart s name × IsNodeOf s name n))) where
-    pub name_reachable : {n : ℕ} → Reachable Seed (LeadsTo s) n → (name : Name) × (slice_get (nodes s) n ≡ Some name) × IsUsed s name
+    pub name_reachable : {n : ℕ} → Reachable Seed (LeadsTo s) n → (name : Name) × (slice_get (nodes s) n ≡ Some name) × IsReachable s name
     name_reachable (seed {a = n} h) = let k = (seeds n).0 h in (k.0, named k.0 n k.2, seed k.1)
     name_reachable (led {a = m} {b = n} r h) =
         let k = name_reachable r in
         let from = subst (λ name. Leads s name h.to) (same_Some _ _ (sym h.there ∙ k.1)) h.leads in
         (h.to, named h.to n h.is, led k.2 from)
 
-    pub node_reachable : {name : Name} → IsUsed s name → (n : ℕ) → IsNodeOf s name n → Reachable Seed (LeadsTo s) n
+    pub node_reachable : {name : Name} → IsReachable s name → (n : ℕ) → IsNodeOf s name n → Reachable Seed (LeadsTo s) n
     node_reachable (seed {a = name} h) n is = seed ((seeds n).1 (name, h, is))
     node_reachable (led {a = RuleName rule} {b = name} r h) n is =
         let at = rule_node rule h.head h.named in
@@ -190,7 +190,7 @@ module _ (s : Syntax) where
     shape = w.shape ∙ long;
     each = λ node name at. (
       (λ h. elim ((w.reachable node).0 h) [
-        | inl i ↦ let k = name_reachable s Seed seeds ((found node).0 i) in inl (subst (IsUsed s) (same_Some _ _ (sym k.1 ∙ at)) k.2)
+        | inl i ↦ let k = name_reachable s Seed seeds ((found node).0 i) in inl (subst (IsReachable s) (same_Some _ _ (sym k.1 ∙ at)) k.2)
         | inr k ↦ inr (subst (Expected s) (same_Some _ _ (sym (named s k.0 node k.2) ∙ at)) k.1)
       ]),
       (λ h. let is = node_there s rules tokens name node at in (w.reachable node).1 (elim h [

@@ -40,8 +40,8 @@ pub record IsStart (s : Syntax) (name : Name) : Type 0 where
   pub is : RuleName word.name ≡ name
 
 -- the start rule, and whatever is reachable from it
-abbrev pub IsUsed : Syntax → Name → Type 0
-IsUsed s = Reachable (IsStart s) (Leads s)
+abbrev pub IsReachable : Syntax → Name → Type 0
+IsReachable s = Reachable (IsStart s) (Leads s)
 
 abbrev pub entry_token : List ℕ × Span → Name
 entry_token entry = TokenName entry.0
@@ -54,7 +54,7 @@ pub data Expected (s : Syntax) : Name → Type 0 where
 
 -- neither reachable nor expected to be unused
 abbrev pub IsUnused : Syntax → Name → Type 0
-IsUnused s name = (IsUsed s name → ⊥) × (Expected s name → ⊥)
+IsUnused s name = (IsReachable s name → ⊥) × (Expected s name → ⊥)
 
 abbrev pub rule_warning : List ℕ × Rule → Name × GrammarWarning
 rule_warning rule = (RuleName rule.0, warning_at UnusedRule rule.1.name.span)

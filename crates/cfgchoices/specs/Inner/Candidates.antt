@@ -9,10 +9,10 @@ use Rattle.cfgtables.specs.Openings.{nth_production}
 use Rattle.cfgleast.specs.Certificate.{choice_of, rule_choice}
 use Rattle.cfgchoices.specs.Inner.Choices.{ChoicesGive}
 use Rattle.cfgleast.specs.Generator.{CostTables, IsGenerator, cost_answer}
-use Rattle.cfgchoices.specs.Inner.Kinds.{HasNoTarget, IsTarget, IsOptimal, positions_of}
+use Rattle.cfgchoices.specs.Inner.Kinds.{IsBaseProduction, IsTarget, IsOptimal, positions_of}
 use Rattle.cfgchoices.specs.FirstSentence.{lexicographic}
 use Rattle.cfgchoices.specs.declared.kinds.Kind.{Kind}
-use Rattle.cfgchoices.specs.declared.kinds.Kind.TheVariants.{Slack}
+use Rattle.cfgchoices.specs.declared.kinds.Kind.TheVariants.{Suboptimal}
 use Rattle.cfgchoices.specs.declared.first.lists.Listed.{Listed}
 use Rattle.cfgchoices.specs.declared.first.lists.Listed.TheVariants.{Base, ChainingTo}
 use Rattle.cfgchoices.specs.declared.first.candidates.Firsts.{Firsts}
@@ -124,12 +124,12 @@ pub record IsKnown (k : Known) (n : ℕ) : Type 0 where
   pub grammar : IsGrammar k.tables.grammar
   pub flags : length k.sole ≡ k.tables.grammar.rules
   pub sole : (r : ℕ) → is_sole k r ≡ true → IsSole k.tables r
-  pub kinds : (p : ℕ) → IsOptimal k.tables p → HasNoTarget k.tables p ⊎ ((q : ℕ) × IsTarget k.tables p q)
+  pub kinds : (p : ℕ) → IsOptimal k.tables p → IsBaseProduction k.tables p ⊎ ((q : ℕ) × IsTarget k.tables p q)
   pub costs : (r c : ℕ) → cost_answer k.tables r ≡ Some c → c < k.limit
 
 -- an optimal production, as its kind says
 abbrev pub IsCounted : {S : Type 0} → List (Kind S) → ℕ → Type 0
-IsCounted kinds p = (p < length kinds) × (slice_index_or kinds p Slack ≡ Slack → ⊥)
+IsCounted kinds p = (p < length kinds) × (slice_index_or kinds p Suboptimal ≡ Suboptimal → ⊥)
 
 -- the production's number
 abbrev pub position_of : {S : Type 0} → (S → ℕ) → Option (PIdx S) → Option ℕ
@@ -237,5 +237,5 @@ left_to_choose k f = (k.tables.grammar.rules - f.number) * (length k.tables.gram
 pub record Climbed (k : Known) (f : Candidates) (c : ℕ) : Type 0 where
   pub going : Going k f
   pub none : waiting f ≡ 0
-  pub base : (p : ℕ) (base : HasNoTarget k.tables p) → base.optimal.cost < c → IsDone k.tables f.choices p
+  pub base : (p : ℕ) (base : IsBaseProduction k.tables p) → base.optimal.cost < c → IsDone k.tables f.choices p
   pub younger : (r d : ℕ) → HasChoice f.choices r → cost_answer k.tables r ≡ Some d → d < c

@@ -9,7 +9,7 @@ use Rattle.derivation.specs.CostLists.{rule_cost}
 use Rattle.cfgleast.specs.Generator.{CostTables, cost_answer, token_cost}
 use Rattle.cfgchoices.specs.Levels.{Along}
 use Rattle.cfgchoices.specs.declared.kinds.Kind.{Kind}
-use Rattle.cfgchoices.specs.declared.kinds.Kind.TheVariants.{Slack, Base, ChainsTo}
+use Rattle.cfgchoices.specs.declared.kinds.Kind.TheVariants.{Suboptimal, Base, ChainsTo}
 use Rattle.cfgindex.specs.declared.idxnewtype.RIdx.{RIdx}
 
 -- an optimal production: it costs just what its rule does, and that isn't 0
@@ -27,13 +27,13 @@ pub record IsTarget (x : CostTables) (p q : ℕ) : Type 0 where
   pub same : cost_answer x q ≡ Some optimal.cost
 
 -- a base production: optimal, and no rule in it costs as much as its rule
-pub record HasNoTarget (x : CostTables) (p : ℕ) : Type 0 where
+pub record IsBaseProduction (x : CostTables) (p : ℕ) : Type 0 where
   pub optimal : IsOptimal x p
   pub none : (q : ℕ) → IsTarget x p q → ⊥
 
 -- the kind of a production with these symbols, whose rule has this cost
 abbrev pub IsSequenceKind : {S : Type 0} → (S → ℕ) → (ℕ → ℕ) → (ℕ → Option ℕ) → ℕ → List Sym → Kind S → Type 0
-IsSequenceKind number cost settled c symbols Slack = sum_of (symbol_cost cost settled) symbols ≡ Some c → ⊥
+IsSequenceKind number cost settled c symbols Suboptimal = sum_of (symbol_cost cost settled) symbols ≡ Some c → ⊥
 IsSequenceKind number cost settled c symbols Base = (sum_of (symbol_cost cost settled) symbols ≡ Some c)
     × ((q : ℕ) → Contains symbols (Rule q) → settled q ≡ Some c → ⊥)
 IsSequenceKind number cost settled c symbols (ChainsTo r) = (sum_of (symbol_cost cost settled) symbols ≡ Some c)
@@ -41,14 +41,14 @@ IsSequenceKind number cost settled c symbols (ChainsTo r) = (sum_of (symbol_cost
 
 -- the kind of a production
 abbrev pub IsKind : {S : Type 0} → (S → ℕ) → CostTables → ℕ → Kind S → Type 0
-IsKind number x p Slack = IsOptimal x p → ⊥
-IsKind number x p Base = HasNoTarget x p
+IsKind number x p Suboptimal = IsOptimal x p → ⊥
+IsKind number x p Base = IsBaseProduction x p
 IsKind number x p (ChainsTo r) = IsTarget x p (number r.0)
 
 -- the kind of each production
 pub record AreKinds {S : Type 0} (number : S → ℕ) (x : CostTables) (kinds : List (Kind S)) : Type 0 where
   pub all : length kinds ≡ length x.grammar.productions
-  pub each : (p : ℕ) → p < length kinds → IsKind number x p (slice_index_or kinds p Slack)
+  pub each : (p : ℕ) → p < length kinds → IsKind number x p (slice_index_or kinds p Suboptimal)
 
 -- a chain production of rule r leads to rule q
 pub record HasTarget (x : CostTables) (r q : ℕ) : Type 0 where
@@ -63,7 +63,7 @@ IsMinimal x = Minimal (HasProduction x.grammar) (token_cost x)
 -- a base production of the rule, or of a rule that chain productions lead to from it
 pub record IsBaseBelow (x : CostTables) (r p : ℕ) : Type 0 where
   pub leads : Along (HasTarget x) r (nth_production x.grammar p).rule
-  pub base : HasNoTarget x p
+  pub base : IsBaseProduction x p
 
 -- the numbers of productions
 abbrev pub positions_of : {S : Type 0} → (S → ℕ) → List (PIdx S) → List ℕ
@@ -71,4 +71,4 @@ positions_of number productions = map (λ p. number p.0) productions
 
 -- the rule that a chain production leads to is a rule of the grammar
 abbrev pub HasRulesAsTargets : {S : Type 0} → (S → ℕ) → Grammar → List (Kind S) → Type 0
-HasRulesAsTargets {S} number g kinds = (p : ℕ) (target : RIdx S) → slice_index_or kinds p Slack ≡ ChainsTo target → number target.0 < g.rules
+HasRulesAsTargets {S} number g kinds = (p : ℕ) (target : RIdx S) → slice_index_or kinds p Suboptimal ≡ ChainsTo target → number target.0 < g.rules

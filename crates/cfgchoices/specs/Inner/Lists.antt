@@ -2,14 +2,14 @@
 use Rattle.std.specs.Prelude.{◌≡◌, ℕ, ◌+◌, ◌<◌, ◌≤◌, List, Option, Some, None, MatchOption, length, slice_index_or}
 use Rattle.cfgindex.specs.declared.idxnewtype.PIdx.{PIdx}
 use Rattle.cfgleast.specs.Generator.{CostTables, cost_answer}
-use Rattle.cfgchoices.specs.Inner.Kinds.{HasNoTarget, IsTarget}
+use Rattle.cfgchoices.specs.Inner.Kinds.{IsBaseProduction, IsTarget}
 use Rattle.cfgchoices.specs.declared.first.lists.Listed.{Listed}
 use Rattle.cfgchoices.specs.declared.first.lists.Listed.TheVariants.{Base, ChainingTo}
 use Rattle.cfgchoices.specs.declared.first.lists.Lists.{Lists}
 
 -- a base production that costs this
 abbrev pub IsBaseAt : CostTables → ℕ → ℕ → Type 0
-IsBaseAt x c p = (base : HasNoTarget x p) × (base.optimal.cost ≡ c)
+IsBaseAt x c p = (base : IsBaseProduction x p) × (base.optimal.cost ≡ c)
 
 -- a production is in the list
 abbrev pub IsIn : {S : Type 0} → (S → ℕ) → CostTables → Listed S → ℕ → Type 0

@@ -79,7 +79,7 @@ impl<S: Storage> Lists<S> {
     {
         tables.invariant_holds();
         match kind {
-            Kind::Slack => {}
+            Kind::Suboptimal => {}
             Kind::Base => {
                 if let Some(cost) = settled.least[usize::from(tables.prod_to_rule(p))] {
                     self.next[usize::from(p)] = self.base[cost as usize];

@@ -8,7 +8,7 @@ ghost use Rattle.cfgleast.specs.Generator.{IsGeneratorOf, settled_tables};
 ghost use Rattle.cfgchoices.specs.Inner.Kinds.{AreKinds, IsTarget, positions_of};
 ghost use Rattle.cfgchoices.specs.Inner.Lists.{IsFirstFrom, IsIn, IsBaseAt};
 ghost use Rattle.cfgchoices.specs.Inner.Candidates.{HasList, IsCounted, IsKnown, is_sole, owner, sequence};
-ghost use Rattle.cfgchoices.specs.declared.kinds.Kind.TheVariants.{Slack};
+ghost use Rattle.cfgchoices.specs.declared.kinds.Kind.TheVariants.{Suboptimal};
 
 use crate::first::lists::{Listed, Lists};
 use crate::kinds::Kind;
@@ -40,7 +40,7 @@ fn sole_rules<S: Storage, T: Tables<S>>(
     let mut sole = vec![in alloc; true; rules_len]?;
     let mut seen = vec![in alloc; false; rules_len]?;
     for number in 0..kinds.len() {
-        if let Kind::Slack = kinds[number] {
+        if let Kind::Suboptimal = kinds[number] {
             continue;
         }
         let rule = usize::from(tables.prod_to_rule(PIdx(to_storage(number))));

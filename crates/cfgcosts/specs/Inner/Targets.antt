@@ -7,7 +7,7 @@ use Rattle.cfgleast.specs.Generator.{CostTables, cost_answer}
 use Rattle.cfgchoices.specs.Levels.{Along}
 use Rattle.cfgchoices.specs.Inner.Kinds.{IsMinimal}
 use Rattle.cfgchoices.specs.declared.kinds.Kind.{Kind}
-use Rattle.cfgchoices.specs.declared.kinds.Kind.TheVariants.{Slack, ChainsTo}
+use Rattle.cfgchoices.specs.declared.kinds.Kind.TheVariants.{Suboptimal, ChainsTo}
 
 -- the numbers of rules
 abbrev pub rules_of : {S : Type 0} → (S → ℕ) → List (RIdx S) → List ℕ
@@ -20,9 +20,9 @@ module _ {S : Type 0} (number : S → ℕ) (g : Grammar) (kinds : List (Kind S))
     pub within : index < length g.productions
     pub owner : (nth_production g index).rule ≡ r
     pub target : RIdx S
-    pub kind : slice_index_or kinds index Slack ≡ ChainsTo target
+    pub kind : slice_index_or kinds index Suboptimal ≡ ChainsTo target
     pub is : number target.0 ≡ q
-    pub others : (p : ℕ) → p < length g.productions → (nth_production g p).rule ≡ r → (p ≡ index) ⊎ (slice_index_or kinds p Slack ≡ Slack)
+    pub others : (p : ℕ) → p < length g.productions → (nth_production g p).rule ≡ r → (p ≡ index) ⊎ (slice_index_or kinds p Suboptimal ≡ Suboptimal)
 
   -- for each rule r a rule that zero or more links of `IsOnlyTarget` lead to from r
   pub record AreTargets (targets : List ℕ) : Type 0 where

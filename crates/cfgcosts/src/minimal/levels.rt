@@ -3,7 +3,7 @@
 ghost use Rattle.std.specs.Prelude.{◌≡◌, ◌↔◌, ℕ, ◌<◌, Contains, IfOk, OnOk, length};
 ghost use Rattle.cfgtables.specs.Openings.{nth_production};
 ghost use Rattle.search.specs.Reachable.{Reaches};
-ghost use Rattle.cfgchoices.specs.Inner.Kinds.{HasTarget, HasNoTarget, IsTarget, IsBaseBelow, positions_of};
+ghost use Rattle.cfgchoices.specs.Inner.Kinds.{HasTarget, IsBaseProduction, IsTarget, IsBaseBelow, positions_of};
 ghost use Rattle.cfgcosts.specs.Inner.Minimal.{Lists};
 
 use crate::generator::SentenceGenerator;
@@ -28,11 +28,11 @@ impl<'a, S: Storage, T: Tables<S>> SentenceGenerator<'a, S, T> {
         requires index { S.number p.0 < length self.now.grammar.productions }
         requires rules { length search.old.reached ≡ self.now.grammar.rules }
         ensures target { OnOk result (Reaches (IsTarget self.now (S.number p.0)) search.old search.new) }
-        ensures base { OnOk result (Lists (λ q. (q ≡ S.number p.0) × HasNoTarget self.now q)
+        ensures base { OnOk result (Lists (λ q. (q ≡ S.number p.0) × IsBaseProduction self.now q)
             (positions_of S.number base.old.items) (positions_of S.number base.new.items)) }
     {
         match self.kinds[usize::from(p)] {
-            Kind::Slack => Ok(()),
+            Kind::Suboptimal => Ok(()),
             Kind::Base => {
                 base.push(p)?;
                 Ok(())
@@ -59,7 +59,7 @@ impl<'a, S: Storage, T: Tables<S>> SentenceGenerator<'a, S, T> {
         requires rules { length search.old.reached ≡ self.now.grammar.rules }
         ensures targets { OnOk result (Reaches (HasTarget self.now (S.number rule.0)) search.old search.new) }
         ensures base { OnOk result (Lists
-            (λ p. ((nth_production self.now.grammar p).rule ≡ S.number rule.0) × HasNoTarget self.now p)
+            (λ p. ((nth_production self.now.grammar p).rule ≡ S.number rule.0) × IsBaseProduction self.now p)
             (positions_of S.number base.old.items) (positions_of S.number base.new.items)) }
     {
         for p in self.tables.rule_to_prods(rule) {

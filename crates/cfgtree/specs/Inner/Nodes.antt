@@ -2,7 +2,7 @@
 use Rattle.std.specs.Prelude.{◌≡◌, ◌↔◌, ◌⊎◌, ℕ, ◌+◌, List, ◌++◌, map, length, Option, Some, option_map, position, slice_get, bytes_eq}
 use Rattle.search.specs.Reachable.{FoundBy, IsReachableIn, SearchState}
 use Rattle.cfgast.specs.Syntax.{Syntax, Production, entry_name}
-use Rattle.cfgtree.specs.Unused.{Name, RuleName, TokenName, name_of, Leads, IsUsed, Expected}
+use Rattle.cfgtree.specs.Unused.{Name, RuleName, TokenName, name_of, Leads, IsReachable, Expected}
 
 -- the rules, and after them the tokens
 abbrev pub nodes : Syntax → List Name
@@ -33,4 +33,4 @@ pub record LeadsTo (s : Syntax) (node other : ℕ) : Type 0 where
 -- the search has reached exactly what is reachable, or expected to be unused
 pub record Knows (s : Syntax) (x : SearchState) : Type 0 where
   pub shape : length x.reachable ≡ length (nodes s)
-  pub each : (node : ℕ) (name : Name) → slice_get (nodes s) node ≡ Some name → (IsReachableIn x node ↔ (IsUsed s name ⊎ Expected s name))
+  pub each : (node : ℕ) (name : Name) → slice_get (nodes s) node ≡ Some name → (IsReachableIn x node ↔ (IsReachable s name ⊎ Expected s name))

@@ -2,7 +2,7 @@ use Rattle.std.proofs.Common.{◌+◌, length, refl, sym, subst, ap, ◌∙◌, 
 use Rattle.std.proofs.lemmas.List.{length_push}
 use Rattle.cfgleast.specs.Generator.{tables_of}
 use Rattle.cfgchoices.specs.Inner.Kinds.{IsKind}
-use Rattle.cfgchoices.specs.declared.kinds.Kind.TheVariants.{Slack}
+use Rattle.cfgchoices.specs.declared.kinds.Kind.TheVariants.{Suboptimal}
 use Rattle.cfgleast.proofs.Pushed.{each_push}
 use Rattle.cfgchoices.proofs.Optimal.{targets_are_rules}
 use Rattle.cfgchoices.proofs.kinds.kinds.Goals as goal
@@ -16,7 +16,7 @@ loop-number-preserved g c =
     let x = tables_of number (g.T.Tables.grammar c.args.tables.now) c.args.costs.now c.args.settled.now.least.items c.args.settled.now.choices.items in
     record {
       len = ap length c.in_ok-push.ensures.items ∙ length_push c.loop-number.kinds.items c.kind_of.result ∙ ap (λ n. n + 1) c.loop-number.invariant.len;
-      each = λ p lt. each_push (IsKind number x) Slack c.loop-number.kinds.items _ (length c.loop-number.kinds.items) c.kind_of.result refl c.in_ok-push.ensures.items c.loop-number.invariant.each
+      each = λ p lt. each_push (IsKind number x) Suboptimal c.loop-number.kinds.items _ (length c.loop-number.kinds.items) c.kind_of.result refl c.in_ok-push.ensures.items c.loop-number.invariant.each
           (subst (λ p. IsKind number x p c.kind_of.result) (c.to_storage.ensures ∙ sym c.loop-number.invariant.len) c.kind_of.ensures) p
           (omega (arith, lt, ap length c.in_ok-push.ensures.items, length_push c.loop-number.kinds.items c.kind_of.result));
     }

@@ -2,13 +2,13 @@ use Rattle.std.proofs.Common.{◌≡◌, ◌+◌, ◌<◌, get_or, length, take,
 use Rattle.std.proofs.lemmas.List.{get_or_default, length-map}
 use Rattle.cfgtables.proofs.Slices.{mapped_within, mapped_at, mapped_all}
 use Rattle.cfgchoices.specs.Inner.Kinds.{positions_of}
-use Rattle.cfgchoices.specs.declared.kinds.Kind.TheVariants.{Slack}
+use Rattle.cfgchoices.specs.declared.kinds.Kind.TheVariants.{Suboptimal}
 use Rattle.lemmas.proofs.Options.{None-from_is_some}
-use Rattle.cfgcosts.proofs.OnlyTargets.{OnlyOne, only_ends, only_found, only_slack}
+use Rattle.cfgcosts.proofs.OnlyTargets.{OnlyOne, only_ends, only_found, only_suboptimal}
 use Rattle.cfgcosts.proofs.targets.only_target.Given.{Over}
 use Rattle.cfgcosts.proofs.targets.only_target.Goals.{After-from}
 use Rattle.cfgcosts.proofs.targets.only_target.Goals as goal
-use Rattle.cfgcosts.proofs.targets.only_target.Goals.{in-Slack, in-ChainsTo}
+use Rattle.cfgcosts.proofs.targets.only_target.Goals.{in-Suboptimal, in-ChainsTo}
 
 inside : (g : Over) (c : After-from g) → c.from.result < length c.args.kinds.now
 inside g c = subst (λ m. m < length c.args.kinds.now) (sym c.from.ensures) (subst (λ m. g.S.Storage.number c.p-item.result.0 < m) (sym c.requires.kinds)
@@ -30,11 +30,11 @@ loop-p-preserved g c =
     let within = mapped_within (λ p. number p.0) _ _ _ c.p-item.is lt in
     let at = mapped_at (λ p. number p.0) _ _ _ c.p-item.is lt in
     let inside = mapped_all (λ p. number p.0) _ _ _ c.p-item.is lt (λ p. p < length (g.T.Tables.grammar c.args.tables.now).productions) c.rule_to_prods-p-items.ensures.within in
-    let kind = get_or_default kinds p Slack c.index-kinds-from.result (subst (λ m. p < m) (sym c.requires.kinds) inside)
+    let kind = get_or_default kinds p Suboptimal c.index-kinds-from.result (subst (λ m. p < m) (sym c.requires.kinds) inside)
     ∙ sym (subst (λ i. c.index-kinds-from.result ≡ get_or kinds i c.index-kinds-from.result) c.from.ensures c.index-kinds-from.is) in
     elim c.match-kind.branch [
-      | in-Slack w ↦ subst (OnlyOne kinds (take (c.loop-p.p-index + 1) positions)) (sym w.only-is)
-          (only_slack kinds positions c.loop-p.p-index p within at c.loop-p.only c.loop-p.invariant (kind ∙ w.in-Slack.is))
+      | in-Suboptimal w ↦ subst (OnlyOne kinds (take (c.loop-p.p-index + 1) positions)) (sym w.only-is)
+          (only_suboptimal kinds positions c.loop-p.p-index p within at c.loop-p.only c.loop-p.invariant (kind ∙ w.in-Suboptimal.is))
       | in-ChainsTo w ↦ subst (OnlyOne kinds (take (c.loop-p.p-index + 1) positions)) (sym w.only-is)
           (only_found kinds positions c.loop-p.p-index p within at c.loop-p.only w.in-ChainsTo.target (None-from_is_some c.loop-p.only w.if-is_none.ensures) c.loop-p.invariant (kind ∙ w.in-ChainsTo.is))
     ]

@@ -3,8 +3,8 @@ use Rattle.std.proofs.lemmas.List.{get_or_default}
 use Rattle.std.proofs.lemmas.List.Elements.{All-get_or}
 use Rattle.derivation.specs.Grammar.{Production}
 use Rattle.cfgtables.specs.Openings.{nth_production}
-use Rattle.cfgchoices.specs.declared.kinds.Kind.TheVariants.{Slack}
-use Rattle.cfgchoices.proofs.SoleRules.{sole_first, sole_none, sole_second, sole_slack}
+use Rattle.cfgchoices.specs.declared.kinds.Kind.TheVariants.{Suboptimal}
+use Rattle.cfgchoices.proofs.SoleRules.{sole_first, sole_none, sole_second, sole_suboptimal}
 use Rattle.cfgchoices.proofs.first.optimal.sole_rules.Given.{Over}
 use Rattle.cfgchoices.proofs.first.optimal.sole_rules.Goals.{After-from-rule}
 use Rattle.cfgchoices.proofs.first.optimal.sole_rules.Goals as goal
@@ -55,9 +55,9 @@ pub index_mut-requires-in-loop-number : goal.index_mut-requires-in-loop-number
 index_mut-requires-in-loop-number g c =
     subst (λ m. c.from-rule.result < m) (sym (c.loop-number.seen.ok.0 ∙ c.loop-number.invariant.rules)) (within g (goal.at.index_mut-requires-in-loop-number g c).After-from-rule)
 
-pub loop-number-preserved-in-Slack : goal.loop-number-preserved-in-Slack
-loop-number-preserved-in-Slack g c = sole_slack c.args.kinds.now (g.T.Tables.grammar c.args.tables.now) c.loop-number.number c.loop-number.sole.items c.loop-number.seen.items c.loop-number.invariant
-    (λ counts. counts.1 (get_or_default c.args.kinds.now c.loop-number.number Slack _ counts.0 ∙ c.in-Slack.is))
+pub loop-number-preserved-in-Suboptimal : goal.loop-number-preserved-in-Suboptimal
+loop-number-preserved-in-Suboptimal g c = sole_suboptimal c.args.kinds.now (g.T.Tables.grammar c.args.tables.now) c.loop-number.number c.loop-number.sole.items c.loop-number.seen.items c.loop-number.invariant
+    (λ counts. counts.1 (get_or_default c.args.kinds.now c.loop-number.number Suboptimal _ counts.0 ∙ c.in-Suboptimal.is))
 
 pub loop-number-preserved-then-index : goal.loop-number-preserved-then-index
 loop-number-preserved-then-index g c =

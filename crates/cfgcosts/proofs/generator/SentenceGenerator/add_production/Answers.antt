@@ -3,7 +3,7 @@ use Rattle.std.proofs.lemmas.List.{map-append}
 use Rattle.search.specs.Reachable.{Reaches}
 use Rattle.search.proofs.Reaching.{reaches_as, reaches_known}
 use Rattle.cfgleast.specs.Generator.{CostTables, IsGenerator}
-use Rattle.cfgchoices.specs.Inner.Kinds.{AreKinds, HasNoTarget, IsTarget, IsKind, IsOptimal, positions_of}
+use Rattle.cfgchoices.specs.Inner.Kinds.{AreKinds, IsBaseProduction, IsTarget, IsKind, IsOptimal, positions_of}
 use Rattle.cfgcosts.proofs.BaseBelow.{lists_none, lists_one}
 use Rattle.cfgchoices.proofs.Optimal.{answered_within, kind_read, one_target}
 use Rattle.cfgchoices.specs.declared.kinds.Kind.{Kind}
@@ -23,14 +23,14 @@ reach-requires g c =
     subst (λ n. n < length c.args.search.now.reached) (sym c.from-in-ChainsTo.ensures)
     (subst (λ m. g.S.Storage.number c.in-ChainsTo.rule.0 < m) (sym c.requires.rules) (answered_within c.args.self.now _ is _ target.optimal.cost target.same))
 
-pub returns-in-Slack : goal.returns-in-Slack
-returns-in-Slack g c =
+pub returns-in-Suboptimal : goal.returns-in-Suboptimal
+returns-in-Suboptimal g c =
     let x = c.args.self.now in
     let p = g.S.Storage.number c.args.p.0 in
-    let slack = kind g (goal.at.returns-in-Slack g c).After-index _ c.in-Slack.is in
+    let suboptimal = kind g (goal.at.returns-in-Suboptimal g c).After-index _ c.in-Suboptimal.is in
     record {
-      target = reaches_known (IsTarget x p) c.args.search.now (λ q h. absurd (slack h.optimal));
-      base = lists_none _ (λ q. (q ≡ p) × HasNoTarget x q) (λ q h. slack (subst (IsOptimal x) h.0 h.1.optimal));
+      target = reaches_known (IsTarget x p) c.args.search.now (λ q h. absurd (suboptimal h.optimal));
+      base = lists_none _ (λ q. (q ≡ p) × IsBaseProduction x q) (λ q h. suboptimal (subst (IsOptimal x) h.0 h.1.optimal));
     }
 
 pub returns-in_ok-push-in-Base : goal.returns-in_ok-push-in-Base
@@ -41,7 +41,7 @@ returns-in_ok-push-in-Base g c =
     let longer = ap (positions_of g.S.Storage.number) c.in_ok-push-in-Base.ensures.items ∙ map-append (λ p. g.S.Storage.number p.0) c.args.base.now.items _ in
     record {
       target = reaches_known (IsTarget x p) c.args.search.now (λ q h. absurd (base.none q h));
-      base = lists_one _ _ (λ q. (q ≡ p) × HasNoTarget x q) p longer (λ q is. (is, subst (HasNoTarget x) (sym is) base)) (λ q h. h.0);
+      base = lists_one _ _ (λ q. (q ≡ p) × IsBaseProduction x q) p longer (λ q is. (is, subst (IsBaseProduction x) (sym is) base)) (λ q h. h.0);
     }
 
 pub returns-in_ok-reach-in-ChainsTo : goal.returns-in_ok-reach-in-ChainsTo
@@ -53,5 +53,5 @@ returns-in_ok-reach-in-ChainsTo g c =
     let reached = subst (λ r. Reaches (λ q. q ≡ r) c.args.search.now c.reach.new.self) c.from-in-ChainsTo.ensures c.in_ok-reach-in-ChainsTo.ensures in
     record {
       target = reaches_as (λ q. q ≡ r) (IsTarget x p) _ _ (λ q is. subst (IsTarget x p) (sym is) target) (λ q h. one_target x p q r h target) reached;
-      base = lists_none _ (λ q. (q ≡ p) × HasNoTarget x q) (λ q h. h.1.none r (subst (λ n. IsTarget x n r) (sym h.0) target));
+      base = lists_none _ (λ q. (q ≡ p) × IsBaseProduction x q) (λ q h. h.1.none r (subst (λ n. IsTarget x n r) (sym h.0) target));
     }

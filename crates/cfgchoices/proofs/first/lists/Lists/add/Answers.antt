@@ -8,16 +8,16 @@ use Rattle.cfgchoices.proofs.Listed.{listed_elsewhere, listed_first, listed_nowh
 use Rattle.cfgchoices.proofs.Optimal.{answered_within, one_cost, one_target}
 use Rattle.cfgchoices.proofs.first.lists.Lists.add.Goals as goal
 
-pub returns-in-Slack : goal.returns-in-Slack
-returns-in-Slack g c =
+pub returns-in-Suboptimal : goal.returns-in-Suboptimal
+returns-in-Suboptimal g c =
     let number = g.S.Storage.number in
     let x = tables_of number (g.T.Tables.grammar c.args.tables.now) c.args.costs.now c.args.settled.now.least.items c.args.settled.now.choices.items in
     let p = number c.args.p.0 in
     let lists = c.args.self.now in
     let l = c.requires.lists in
-    let slack = subst (IsKind number x p) c.in-Slack.is c.requires.kind in record {
-      base = listed_nowhere number (IsBaseAt x) p lists.base.items lists.next.items l.base (λ k i. slack i.0.optimal);
-      chaining = listed_nowhere number (λ r q. IsTarget x q r) p lists.chaining.items lists.next.items l.chaining (λ k i. slack i.optimal);
+    let suboptimal = subst (IsKind number x p) c.in-Suboptimal.is c.requires.kind in record {
+      base = listed_nowhere number (IsBaseAt x) p lists.base.items lists.next.items l.base (λ k i. suboptimal i.0.optimal);
+      chaining = listed_nowhere number (λ r q. IsTarget x q r) p lists.chaining.items lists.next.items l.chaining (λ k i. suboptimal i.optimal);
       costs = l.costs;
       rules = l.rules;
       positions = l.positions;

@@ -5,7 +5,7 @@ use Rattle.cfgleast.specs.Generator.{tables_of}
 use Rattle.cfgleast.proofs.Generated.{answered_some}
 use Rattle.cfgchoices.specs.Inner.Kinds.{IsTarget, IsKind}
 use Rattle.cfgchoices.specs.Inner.Lists.{AreLists, IsBaseAt}
-use Rattle.cfgchoices.specs.declared.kinds.Kind.TheVariants.{Slack}
+use Rattle.cfgchoices.specs.declared.kinds.Kind.TheVariants.{Suboptimal}
 use Rattle.cfgchoices.proofs.Listed.{listed_none}
 use Rattle.cfgchoices.proofs.first.lists.Lists.new.Goals as goal
 
@@ -36,7 +36,7 @@ add-requires-clause-kind g c =
     let kind = c.index-kinds-left.result in
     let within : i < length c.args.kinds.now = omega (arith, c.loop-left-test.true, c.loop-left.invariant.left) in
     subst (λ p. IsKind number x p kind) (sym c.to_storage.ensures)
-    (subst (IsKind number x i) (get_or_default c.args.kinds.now i Slack kind within ∙ sym c.index-kinds-left.is) (c.requires.kinds.each i within))
+    (subst (IsKind number x i) (get_or_default c.args.kinds.now i Suboptimal kind within ∙ sym c.index-kinds-left.is) (c.requires.kinds.each i within))
 
 pub returns : goal.returns
 returns g c =
