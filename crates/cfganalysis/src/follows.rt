@@ -4,7 +4,8 @@ ghost use Rattle.std.specs.Prelude.{◌≡◌, ◌-◌, ◌^◌, ◌<◌, ◌≤
 ghost use Rattle.derivation.specs.Grammar.{Grammar, IsGrammar, IsSymbolOf, Rule};
 ghost use Rattle.cfganalysis.specs.Firsts.{AreFirsts};
 ghost use Rattle.cfganalysis.specs.Follows.{AreFollows};
-ghost use Rattle.cfganalysis.specs.Inner.GrowingFollows.{BeginsList, FitFollows, PrefixGives, Gathers, HasNoMoreFollows};
+ghost use Rattle.cfganalysis.specs.Inner.GrowingFollows.{BeginsList, FitFollows};
+ghost use Rattle.cfganalysis.specs.Inner.GrowingFollows.{PrefixGives, Gathers, HasNoMoreFollows};
 ghost use Rattle.cfganalysis.specs.Inner.GrowingFollows.{HaveFollowsOf, IsPrefixOf, IsGathered, IsOwner, Puts};
 ghost use Rattle.cfganalysis.specs.Inner.GrowingFollows.{PutsAfter, SayFollows, StepsBack, count_follows};
 ghost use Rattle.cfgtables.specs.Openings.{AreOpenedAtMost, most_openings};

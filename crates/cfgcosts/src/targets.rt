@@ -61,7 +61,8 @@ fn only_targets<S: Storage, T: Tables<S>>(
 
 /// Replaces each entry by the entry of that rule. Returns whether an entry changed.
 fn go_on<S: Storage>(targets: &mut Vec<RIdx<S>>) -> bool
-    requires { (g : Grammar) × (kinds : List (Kind S)) × AreTargets S.number g kinds (rules_of S.number targets.old.items) }
+    requires { (g : Grammar) × (kinds : List (Kind S))
+        × AreTargets S.number g kinds (rules_of S.number targets.old.items) }
     ensures { (g : Grammar) (kinds : List (Kind S)) → AreTargets S.number g kinds (rules_of S.number targets.old.items)
         → AreTargets S.number g kinds (rules_of S.number targets.new.items) }
 {

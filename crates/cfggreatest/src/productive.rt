@@ -7,7 +7,8 @@ ghost use Rattle.cfganalysis.specs.Inner.Waiting.{Waits};
 ghost use Rattle.cfganalysis.specs.Inner.Work.{Notes};
 ghost use Rattle.cfgtables.specs.NumberedSymbols.{sym_of};
 ghost use Rattle.cfganalysis.specs.Table.{bits_on};
-ghost use Rattle.cfggreatest.specs.Inner.Productive.{AreProductive, HaveProductive, HaveSentences, IsNoMoreProductive, SayProductive};
+ghost use Rattle.cfggreatest.specs.Inner.Productive.{AreProductive, HaveProductive};
+ghost use Rattle.cfggreatest.specs.Inner.Productive.{HaveSentences, IsNoMoreProductive, SayProductive};
 ghost use Rattle.cfggreatest.specs.Inner.Productive.{is_productive, is_productive_symbol, productive_bounded};
 
 use cfganalysis::firsts::note_rules;

@@ -79,7 +79,8 @@ fn push_edges<S: Storage, T: Tables<S>>(
     edges: &mut Vec<(usize, usize)>,
 ) -> Result<(), AllocError>
     requires known { length known.now ≡ (T.grammar grm.now).rules }
-    requires have_words { (r : ℕ) → is_unproductive (known_of known.now r) ≡ false → HasWord (HasProduction (T.grammar grm.now)) (Rule r ∷ []) }
+    requires have_words { (r : ℕ) → is_unproductive (known_of known.now r) ≡ false
+        → HasWord (HasProduction (T.grammar grm.now)) (Rule r ∷ []) }
     requires rule { rule < (T.grammar grm.now).rules }
     requires edges { All (IsEdge (T.grammar grm.now)) edges.old.items }
     ensures { OnOk result (All (IsEdge (T.grammar grm.now)) edges.new.items) }
@@ -286,7 +287,8 @@ impl Walk {
         requires walk { IsWalk (T.grammar grm.now) self.old }
         requires so { AreTrue (T.grammar grm.now) (slice_index costs.now) self.old.known.items }
         requires rule { rule < (T.grammar grm.now).rules }
-        requires unsettled { (answer : Result (Option ℕ) CostError) → known_of self.old.known.items rule ≡ Known.Settled answer → ⊥ }
+        requires unsettled { (answer : Result (Option ℕ) CostError) → known_of self.old.known.items rule
+            ≡ Known.Settled answer → ⊥ }
         ensures { OnOk result (Steps (T.grammar grm.now) (slice_index costs.now) self.old self.new) }
     {
         let Some(start) = self.last_start() else {

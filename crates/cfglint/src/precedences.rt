@@ -50,7 +50,8 @@ impl Reporter for Idle<'_> {
 
     ghost count = { λ x. length (syntax x.ast.now).tables.precedences };
 
-    ghost reports = { λ x n reported. AreMarked (syntax x.ast.now) x.taking → ReportsPrecedence (syntax x.ast.now) n reported };
+    ghost reports = { λ x n reported. AreMarked (syntax x.ast.now) x.taking
+        → ReportsPrecedence (syntax x.ast.now) n reported };
 
     fn report(&self, alloc: Global, number: usize) -> Result<Option<Finding>, AllocError> {
         let takes_part = self.taking.get(number).unwrap_or(false);

@@ -26,7 +26,8 @@ pub(crate) fn push_repeats(
     all: &mut Vec<Finding>,
     grammar: &YaccGrammar<u32>,
 ) -> Result<(), AllocError>
-    ensures { OnOk result ((reported : _) × ReportsBelow (ReportsRepeated grammar.now) grammar.now.start_production reported
+    ensures { OnOk result ((reported : _)
+        × ReportsBelow (ReportsRepeated grammar.now) grammar.now.start_production reported
         × (all.new.items ≡ all.old.items ++ reported)) }
 {
     let firsts = firsts_of(alloc, grammar)?;

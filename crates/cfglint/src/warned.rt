@@ -42,7 +42,8 @@ fn push_unrequested(
     ast: &GrammarAST,
     warnings: &[YaccGrammarWarning],
 ) -> Result<(), AllocError>
-    ensures { OnOk result ((reported : _) × ReportsBelow (ReportsWarning (syntax ast.now) warnings.now) (length warnings.now) reported
+    ensures { OnOk result ((reported : _)
+        × ReportsBelow (ReportsWarning (syntax ast.now) warnings.now) (length warnings.now) reported
         × (all.new.items ≡ all.old.items ++ reported)) }
 {
     let requested = positions_requested(alloc, ast)?;
@@ -69,7 +70,8 @@ impl Reporter for Unrequested<'_> {
 
     ghost count = { λ x. length x.warnings.now };
 
-    ghost reports = { λ x n reported. (s : Syntax) → AreRequestedBy s s.productions x.requested → ReportsWarning s x.warnings.now n reported };
+    ghost reports = { λ x n reported. (s : Syntax) → AreRequestedBy s s.productions x.requested
+        → ReportsWarning s x.warnings.now n reported };
 
     fn report(&self, alloc: Global, number: usize) -> Result<Option<Finding>, AllocError> {
         match self.warnings.get(number) {

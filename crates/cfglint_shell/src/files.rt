@@ -44,7 +44,8 @@ fn lint_file<L: Linter, S: Source>(
     tally: &mut Tally,
 ) -> Result<(), AllocError>
     requires { tally.old.texts < 2 ^ 64 - 1 }
-    ensures ok { OnOk result ((answer : Input) × (outcome : FileOutcome) × S.fetches source.old file.now answer source.new
+    ensures ok { OnOk result ((answer : Input) × (outcome : FileOutcome)
+        × S.fetches source.old file.now answer source.new
         × IsFileOutcome L.reports kind file.now answer outcome × (tally.new ≡ with_file file.now outcome tally.old)) }
     ensures err { OnErr result ((answer : Input) × S.fetches source.old file.now answer source.new) }
 {

@@ -82,7 +82,8 @@ pub fn run<P: Reporter, S: Source, O: Sink, E: Sink>(
     requires err_counts { E.faults_counted err.old < 2 ^ 64 - 1 }
     ensures small { result ≤ 3 }
     ensures ends { EndsWith status_of faults_at line_of
-        (HandlesArguments P.reports P.reports_lexer (map (λ argument. argument.now) args.now) S.fetches source.old source.new)
+        (HandlesArguments P.reports P.reports_lexer (map (λ argument. argument.now) args.now)
+        S.fetches source.old source.new)
         O.written O.faults_counted out.old out.new E.written E.faults_counted err.old err.new result }
 {
     match outcome(alloc, reporter, args, source, out) {
@@ -104,7 +105,8 @@ fn outcome<'a, P: Reporter, S: Source, O: Sink>(
     out: &mut O,
 ) -> Result<Outcome, RunFault<'a>>
     requires { O.faults_counted out.old < 2 ^ 64 - 1 }
-    ensures ends { HandlesArguments P.reports P.reports_lexer (map (λ argument. argument.now) args.now) S.fetches source.old source.new
+    ensures ends { HandlesArguments P.reports P.reports_lexer (map (λ argument. argument.now) args.now)
+        S.fetches source.old source.new
         (O.written out.old) (O.written out.new) (ending_in result) }
     ensures faults { O.faults_counted out.new ≡ O.faults_counted out.old + faults_at (ending_in result) }
 {

@@ -36,7 +36,8 @@ pub(crate) struct Visit {
 
 /// A visit to each rule, from its first step on.
 fn all_rules(alloc: Global, rules: usize) -> Result<Vec<Visit>, AllocError>
-    ensures { IfOk result (λ visits. (visit : _) → Contains visits.items visit → (visit.rule < rules) × (visit.index ≡ 0)) }
+    ensures { IfOk result (λ visits. (visit : _) → Contains visits.items visit
+        → (visit.rule < rules) × (visit.index ≡ 0)) }
 {
     let mut visits = Vec::new(alloc);
     for rule in 0..rules {

@@ -50,7 +50,8 @@ pub(crate) fn reversed(alloc: Global, steps: &Steps) -> Result<Steps, AllocError
 /// Adds each of the rule's steps, reversed, to the steps of the rule that it leads to.
 fn put_reversed(back: &mut Steps, rule: usize, path: &[Step]) -> Result<(), AllocError>
     requires { (step : Step) → Contains path.now step → step.rule < length back.old }
-    ensures { OnOk result (ArePut (λ a step. (step.rule ≡ rule) × Contains path.now (turned a step)) back.old back.new) }
+    ensures { OnOk result (ArePut (λ a step. (step.rule ≡ rule)
+        × Contains path.now (turned a step)) back.old back.new) }
 {
     for step in path {
         back.push(step.rule, Step { rule, ..*step })?;

@@ -111,7 +111,8 @@ impl<'a> Layers<'a> {
         requires within { AreWithin self.old.steps.now }
         requires shape { length self.old.found.items ≡ length self.old.steps.now }
         ensures steps { OnOk result (self.new.steps.now ≡ self.old.steps.now) }
-        ensures found { IfOk result (λ next. Finds count (λ a step. Contains layer.now a × HasStep self.old.steps.now a step)
+        ensures found { IfOk result (λ next. Finds count (λ a step. Contains layer.now a
+            × HasStep self.old.steps.now a step)
             self.old.found.items [] self.new.found.items next.items) }
     {
         let mut next = Vec::new(alloc);

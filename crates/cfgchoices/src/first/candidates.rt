@@ -6,7 +6,8 @@ ghost use Rattle.cfgchoices.specs.Inner.Kinds.{IsTarget};
 ghost use Rattle.cfgchoices.specs.Inner.Lists.{IsIn};
 ghost use Rattle.cfgchoices.specs.Inner.Candidates.{Adds, Going, HasList, IsDrained, IsHandled, IsKnown, IsCandidate};
 ghost use Rattle.cfgchoices.specs.Inner.Candidates.{Known, Level, NotAfter, Nominating};
-ghost use Rattle.cfgchoices.specs.Inner.Candidates.{Takes, is_sole, left_to_choose, candidates_of, owner, sequence, waiting};
+ghost use Rattle.cfgchoices.specs.Inner.Candidates.{Takes, is_sole, left_to_choose};
+ghost use Rattle.cfgchoices.specs.Inner.Candidates.{candidates_of, owner, sequence, waiting};
 
 use crate::first::lists::Listed;
 use crate::first::optimal::OptimalTables;
@@ -60,7 +61,8 @@ impl<S: Storage> Firsts<S> {
         p: PIdx<S>,
     ) -> Result<usize, AllocError>
         requires level { Level optimal.now (candidates_of S.number self.now) }
-        requires nominated { IsCandidate optimal.now (candidates_of S.number self.now).choices self.now.number self.now.cost
+        requires nominated { IsCandidate optimal.now
+            (candidates_of S.number self.now).choices self.now.number self.now.cost
             (S.number p.0) }
         ensures within { IfOk result (λ index. index ≤ length self.now.level.items) }
         ensures before { IfOk result (λ index. (i : ℕ) → i < index → NotAfter optimal.now.tables
@@ -95,7 +97,8 @@ impl<S: Storage> Firsts<S> {
         p: PIdx<S>,
     ) -> Result<bool, AllocError>
         requires nominating { Nominating optimal.now (candidates_of S.number self.now) }
-        requires nominated { IsCandidate optimal.now (candidates_of S.number self.now).choices self.now.number self.now.cost
+        requires nominated { IsCandidate optimal.now
+            (candidates_of S.number self.now).choices self.now.number self.now.cost
             (S.number p.0) }
         requires several { is_sole optimal.now (owner optimal.now.tables (S.number p.0)) ≡ false }
         ensures { IfOk result (λ is. is ≡ true
@@ -126,7 +129,8 @@ impl<S: Storage> Firsts<S> {
         p: PIdx<S>,
     ) -> Result<(), AllocError>
         requires nominating { Nominating optimal.now (candidates_of S.number self.old) }
-        requires nominated { IsCandidate optimal.now (candidates_of S.number self.old).choices self.old.number self.old.cost
+        requires nominated { IsCandidate optimal.now
+            (candidates_of S.number self.old).choices self.old.number self.old.cost
             (S.number p.0) }
         requires several { is_sole optimal.now (owner optimal.now.tables (S.number p.0)) ≡ false }
         ensures nominating { OnOk result (Nominating optimal.now (candidates_of S.number self.new)) }
@@ -150,7 +154,8 @@ impl<S: Storage> Firsts<S> {
         p: PIdx<S>,
     ) -> Result<(), AllocError>
         requires nominating { Nominating optimal.now (candidates_of S.number self.old) }
-        requires nominated { IsCandidate optimal.now (candidates_of S.number self.old).choices self.old.number self.old.cost
+        requires nominated { IsCandidate optimal.now
+            (candidates_of S.number self.old).choices self.old.number self.old.cost
             (S.number p.0) }
         ensures nominating { OnOk result (Nominating optimal.now (candidates_of S.number self.new)) }
         ensures adds { OnOk result (Adds optimal.now.tables (λ q. q ≡ S.number p.0) 1 (candidates_of S.number self.old)
@@ -182,7 +187,8 @@ impl<S: Storage> Firsts<S> {
             (candidates_of S.number self.old).choices self.old.number self.old.cost p }
         ensures nominating { OnOk result (Nominating optimal.now (candidates_of S.number self.new)) }
         ensures adds { OnOk result (Adds optimal.now.tables (IsIn S.number optimal.now.tables listed)
-            (length optimal.now.tables.grammar.productions) (candidates_of S.number self.old) (candidates_of S.number self.new)) }
+            (length optimal.now.tables.grammar.productions) (candidates_of S.number self.old)
+            (candidates_of S.number self.new)) }
     {
         let mut next = optimal.first(listed);
         while let Some(p) = next {
@@ -218,7 +224,8 @@ impl<S: Storage> Firsts<S> {
             → IsHandled optimal.now.tables (candidates_of S.number self.new) q) }
         ensures cost { OnOk result (self.new.cost ≡ self.old.cost) }
         ensures left { IfOk result (λ goes_on. MatchBool goes_on
-            (left_to_choose optimal.now (candidates_of S.number self.new) < left_to_choose optimal.now (candidates_of S.number self.old))
+            (left_to_choose optimal.now (candidates_of S.number self.new)
+            < left_to_choose optimal.now (candidates_of S.number self.old))
             (waiting (candidates_of S.number self.new) ≡ 0)) }
     {
         optimal.invariant_holds();
