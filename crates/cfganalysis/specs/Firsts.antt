@@ -4,7 +4,7 @@ use Rattle.derivation.specs.Grammar.{Grammar, HasProduction}
 use Rattle.derivation.specs.First.{First, Nullable}
 use Rattle.cfganalysis.specs.Table.{Table, IsTable, HasBit, with_bit}
 
--- a row of tokens for each rule, and a bit for each nullable rule
+-- for each rule, a row of bits that says which tokens it may begin with, and a bit that says whether it is nullable
 pub record FirstSets : Type 0 where
   pub firsts : Table
   pub nullable : List Bool

@@ -1,4 +1,4 @@
--- Definitions for clauses inside the crate, of its loops and helpers. No public contract depends on them.
+-- Definitions for the contracts of the crate's private functions and loops. No public contract depends on them.
 pub mod Joined
 pub mod Flat
 pub mod Waiting

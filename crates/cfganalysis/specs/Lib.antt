@@ -1,4 +1,4 @@
--- Users of this crate's calls rely on these definitions; those in Inner are only for private clauses.
+-- Contracts of public calls use these definitions; only private contracts use those in Inner.
 pub mod Table
 pub mod Firsts
 pub mod Follows

@@ -21,7 +21,7 @@ bit x row column = slice_index_or (row_of x row) column false
 abbrev pub HasBit : Table → ℕ → ℕ → Type 0
 HasBit x row column = IsTrue (bit x row column)
 
--- how many bits are on
+-- how many bits of the list are on
 abbrev pub bits_on : List Bool → ℕ
 bits_on bits = count_by (λ b. b) bits
 
@@ -36,7 +36,7 @@ no_bits rows columns = record { columns = columns; rows = replicate rows (replic
 abbrev pub with_bit : Table → ℕ → ℕ → Table
 with_bit x row column = record { columns = x.columns; rows = slice_set x.rows row (slice_set (row_of x row) column true) }
 
--- the given bits were turned on, and no others
+-- the bits that `gives` has were turned on, and no others; `changed` says whether the table changed
 pub record Joins (gives : ℕ → ℕ → Type 0) (old new : Table) (changed : Bool) : Type 0 where
   pub shape : (rows columns : ℕ) → IsTable rows columns old → IsTable rows columns new
   pub bits : (row column : ℕ) → (HasBit new row column ↔ (HasBit old row column ⊎ gives row column))

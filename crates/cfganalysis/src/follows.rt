@@ -28,8 +28,8 @@ use cfgtables::{CountedTables, Productions, Tables};
 use std::alloc::{AllocError, Global};
 use std::marker::{Model, PhantomData};
 
-/// For each rule, the tokens that come right after it in any list that some rule derives. The end token follows a rule
-/// if the start rule derives a list that ends in the rule.
+/// For each rule, the tokens that come right after it in a list that some rule derives; and the end token, if the start
+/// rule derives a list that ends in the rule.
 #[derive(Debug, Drop)]
 pub struct YaccFollows<S: Storage> {
     follows: BitTable,
@@ -77,15 +77,15 @@ impl<S: Storage> YaccFollows<S> {
 /// The next tokens at a position of a production.
 #[derive(Drop)]
 enum Prefix<S: Storage> {
-    /// What follows the production's rule: the position is the end of the production.
+    /// At the end of the production: what follows the production's rule.
     End,
-    /// What the next symbol begins with, which isn't nullable.
+    /// Before a symbol that isn't nullable: what it begins with.
     Symbol(Symbol<S>),
-    /// What was gathered in a list of bits: the next symbol is nullable.
+    /// Before a nullable symbol: what was gathered in a list of bits.
     Gathered,
 }
 
-/// FOLLOW sets that grow, with the FIRST sets that they are computed from.
+/// FOLLOW sets while they are computed, with the FIRST sets that they depend on.
 #[derive(Drop)]
 struct GrowingFollows<'a, S: Storage> {
     firsts: &'a YaccFirsts<S>,
@@ -101,7 +101,7 @@ impl<'a, S: Storage> Model for GrowingFollows<'a, S> {
 }
 
 impl<'a, S: Storage> GrowingFollows<'a, S> {
-    /// Adds what the symbol begins with to the FOLLOW set of the rule before it. Returns whether the set grew.
+    /// Adds FIRST of the symbol to FOLLOW of the rule before it. Returns whether the set grew.
     fn put_first(&mut self, before: RIdx<S>, symbol: Symbol<S>) -> bool
         requires { (g : Grammar) × FitFollows g self.old × (S.number before.0 < g.rules)
             × IsSymbolOf g (sym_of S.number symbol) }
@@ -116,7 +116,7 @@ impl<'a, S: Storage> GrowingFollows<'a, S> {
         }
     }
 
-    /// Adds what follows the rule to the FOLLOW set of `before`. Returns whether the set grew.
+    /// Adds FOLLOW of `rule` to FOLLOW of `before`. Returns whether the set grew.
     fn put_follows(&mut self, before: RIdx<S>, rule: RIdx<S>) -> bool
         requires { (g : Grammar) × FitFollows g self.old × (S.number before.0 < g.rules)
             × (S.number rule.0 < g.rules) }
@@ -127,7 +127,7 @@ impl<'a, S: Storage> GrowingFollows<'a, S> {
             .join_row(usize::from(before), usize::from(rule))
     }
 
-    /// Adds the next tokens to the FOLLOW set of the rule before them. Returns whether the set grew.
+    /// Adds the next tokens to FOLLOW of `before`, the rule before them. Returns whether the set grew.
     fn put_prefix(
         &mut self,
         rule: RIdx<S>,
@@ -149,7 +149,7 @@ impl<'a, S: Storage> GrowingFollows<'a, S> {
         }
     }
 
-    /// If the symbol is a rule, adds the next tokens to its FOLLOW set, and queues the rule if the set grew.
+    /// If the symbol is a rule, adds the next tokens after it to its FOLLOW set, and queues it if the set grew.
     fn put_after(
         &mut self,
         rule: RIdx<S>,
@@ -176,7 +176,7 @@ impl<'a, S: Storage> GrowingFollows<'a, S> {
         }
     }
 
-    /// Adds what the symbol begins with to what was gathered.
+    /// Adds FIRST of the symbol to the gathered tokens.
     fn gather_first(&self, symbol: Symbol<S>, gathered: &mut Vob)
         requires { (g : Grammar) × FitFollows g self.now × (length gathered.old ≡ g.tokens)
             × IsSymbolOf g (sym_of S.number symbol) }
@@ -188,7 +188,7 @@ impl<'a, S: Storage> GrowingFollows<'a, S> {
         };
     }
 
-    /// Replaces what was gathered by the next tokens.
+    /// Replaces the gathered tokens by the next tokens.
     fn gather_prefix(&self, rule: RIdx<S>, prefix: &Prefix<S>, gathered: &mut Vob)
         requires { (g : Grammar) × FitFollows g self.now × (S.number rule.0 < g.rules)
             × IsPrefixOf S.number g prefix.now × (length gathered.old ≡ g.tokens) }
@@ -209,7 +209,7 @@ impl<'a, S: Storage> GrowingFollows<'a, S> {
         }
     }
 
-    /// The next tokens before the symbol, given those after it. If the symbol is nullable, they are gathered.
+    /// The next tokens before the symbol, given those after it. They are gathered only if the symbol is nullable.
     fn prefix_before(
         &self,
         rule: RIdx<S>,
@@ -259,7 +259,7 @@ impl<'a, S: Storage> GrowingFollows<'a, S> {
     }
 }
 
-/// FOLLOW sets that grow, and the tokens that a visit gathers.
+/// FOLLOW sets while they are computed, and the tokens that a visit gathers.
 #[derive(Drop)]
 struct FollowAnalysis<'a, S: Storage> {
     sets: GrowingFollows<'a, S>,

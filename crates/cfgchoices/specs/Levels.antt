@@ -1,5 +1,5 @@
--- Rules of one least cost: chain productions pass sentences of that cost from rule to rule; a base production makes them of sentences that
--- cost less.
+-- How minimal sentences arise: a base production puts them together from tokens and cheaper ones, and chain productions pass them on
+-- between rules of the same least cost.
 use Rattle.std.specs.Prelude.{◌≡◌, ℕ, ◌<◌, List, Contains}
 use Rattle.derivation.specs.Grammar.{Sym, Rule}
 use Rattle.derivation.specs.Sentence.{cost_of}
@@ -12,7 +12,7 @@ pub data Along (Link : ℕ → ℕ → Type 0) : ℕ → ℕ → Type 0 where
   next : {a b c : ℕ} → Link a b → Along Link b c → Along Link a c
 
 module _ (P : ℕ → List Sym → Type 0) (cost : ℕ → ℕ) where
-  -- an optimal production: it costs c like its rule, since minimal sentences of its symbols cost that in total
+  -- an optimal production: its rule's least cost is c, and minimal sentences of its symbols cost c in total
   pub record CostsAsItsRule (r : ℕ) (symbols : List Sym) (c : ℕ) : Type 0 where
     pub has : P r symbols
     pub least : Least P cost r c
@@ -34,7 +34,7 @@ module _ (P : ℕ → List Sym → Type 0) (cost : ℕ → ℕ) where
     pub optimal : CostsAsItsRule r symbols level
     pub less : (q d : ℕ) → Contains symbols (Rule q) → Least P cost q d → d < level
 
-  -- zero or more chain productions lead from r to a rule with a base production that makes the word of minimal sentences
+  -- zero or more chain productions lead from r to `owner`, and w consists of minimal sentences of the symbols of its base production
   pub record IsMadeAlongChain (r : ℕ) (w : List ℕ) : Type 0 where
     pub owner : ℕ
     pub symbols : List Sym

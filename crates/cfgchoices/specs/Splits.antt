@@ -1,4 +1,4 @@
--- Words split into one part for each symbol of a list.
+-- Lists of tokens, split into one part for each symbol of a list.
 use Rattle.std.specs.Prelude.{◌≡◌, ℕ, List, [], ◌∷◌, ◌++◌}
 use Rattle.derivation.specs.Grammar.{Sym, Rule, Token}
 

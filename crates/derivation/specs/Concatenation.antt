@@ -3,7 +3,7 @@ use Rattle.std.specs.Prelude.{◌≡◌, ℕ, List, ◌++◌}
 use Rattle.derivation.specs.Grammar.{Sym}
 use Rattle.derivation.specs.Derivation.{Derives}
 
--- c has two parts: one that a derives, followed by one that b derives
+-- c is a list that a derives, followed by one that b derives
 pub record DerivedInParts (P : ℕ → List Sym → Type 0) (a b c : List Sym) : Type 0 where
   pub prefix : List Sym
   pub back : List Sym

@@ -15,7 +15,7 @@ pub record GrowingCycle (P : ℕ → List Sym → Type 0) (cost : ℕ → ℕ) (
   pub gives : Derives P (u ++ v) (map Token word)
   pub grows : 0 < cost_of cost word
 
--- r derives a list that contains x, and that list derives a list of tokens
+-- x occurs in a derivation of a sentence of r
 pub record Meets (P : ℕ → List Sym → Type 0) (r x : ℕ) : Type 0 where
   pub before : List Sym
   pub after : List Sym

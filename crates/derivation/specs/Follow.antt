@@ -4,18 +4,18 @@ use Rattle.std.specs.Prelude.{◌≡◌, ℕ, ◌+◌, List, [], ◌∷◌, ◌+
 use Rattle.derivation.specs.Grammar.{Sym, Grammar, Rule, Token, HasProduction}
 use Rattle.derivation.specs.Derivation.{Derives}
 
--- some rule derives a list in which the token comes right after the rule
+-- some rule, `root`, derives a list in which token t comes right after rule r
 pub record Follow (P : ℕ → List Sym → Type 0) (r t : ℕ) : Type 0 where
   pub root : ℕ
   pub before : List Sym
   pub after : List Sym
   pub derived : Derives P (Rule root ∷ []) (before ++ (Rule r ∷ Token t ∷ after))
 
--- the start rule derives a list that ends in the rule
+-- the start rule derives a list that ends in rule r
 pub record FollowEnd (P : ℕ → List Sym → Type 0) (r : ℕ) : Type 0 where
   pub before : List Sym
   pub derived : Derives P (Rule 0 ∷ []) (before ++ (Rule r ∷ []))
 
--- the token follows the rule, or it is the end token and the rule may come last
+-- token t follows rule r, or t is the end token and r may come last
 abbrev pub MayFollow : Grammar → ℕ → ℕ → Type 0
 MayFollow g r t = Follow (HasProduction g) r t ⊎ ((t + 1 ≡ g.tokens) × FollowEnd (HasProduction g) r)

@@ -1,16 +1,16 @@
--- The equations of FOLLOW: the rules by which Aho, Lam, Sethi and Ullman, Compilers, section 4.4, compute it. E and F are as in the
--- equations of FIRST; W says which tokens follow a rule. In the laws of src/lib.rt, a closed W is a table of truth values too.
+-- The equations of FOLLOW, by which Aho, Lam, Sethi and Ullman, Compilers, section 4.4, compute it. E and F are as in the equations of
+-- FIRST; `W r t` says that token t follows rule r. In the laws of src/lib.rt, W is a table of truth values too.
 use Rattle.std.specs.Prelude.{ℕ, List, [], ◌∷◌}
 use Rattle.derivation.specs.Grammar.{Sym, Rule, Token}
 use Rattle.derivation.specs.FirstSets.{AreNullable, Begins}
 
--- each rule of the list is followed by the tokens that begin the rest of the list and, if the rest is nullable, by those that follow the
--- list
+-- W has for each rule in the list the tokens that the rest of the list begins with and, if the rest is nullable, those that follow the
+-- list (k)
 abbrev pub Flows : (ℕ → Type 0) → (ℕ → ℕ → Type 0) → (ℕ → ℕ → Type 0) → List Sym → (ℕ → Type 0) → Type 0
 Flows E F W [] k = Unit {0}
 Flows E F W (Token u ∷ a) k = Flows E F W a k
 Flows E F W (Rule q ∷ a) k = ((t : ℕ) → Begins E F a t → W q t) × (AreNullable E a → (t : ℕ) → k t → W q t) × Flows E F W a k
 
--- this is so for the symbols of each production, which are followed by the tokens that follow the production's rule
+-- Flows holds for the symbols of each production: what follows the production's rule follows them
 abbrev pub IsFollowClosed : (ℕ → List Sym → Type 0) → (ℕ → Type 0) → (ℕ → ℕ → Type 0) → (ℕ → ℕ → Type 0) → Type 0
 IsFollowClosed P E F W = (r : ℕ) (symbols : List Sym) → P r symbols → Flows E F W symbols (W r)

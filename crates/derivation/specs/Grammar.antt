@@ -1,4 +1,4 @@
--- A grammar whose rules and tokens are numbers.
+-- A grammar whose rules (nonterminals) and tokens (terminals) are numbers.
 use Rattle.std.specs.Prelude.{ℕ, ◌+◌, ◌<◌, List, All, Contains}
 
 -- a symbol of a production
@@ -10,7 +10,7 @@ pub record Production : Type 0 where
   pub rule : ℕ
   pub symbols : List Sym
 
--- rules and tokens are the numbers less than these two; rule 0 is the start rule, and the last token is the end token
+-- rules are the numbers less than `rules`, tokens those less than `tokens`; rule 0 is the start rule, the last token the end token
 pub record Grammar : Type 0 where
   pub rules : ℕ
   pub tokens : ℕ

@@ -3,7 +3,7 @@ use Rattle.std.specs.Prelude.{ℕ, List, [], ◌∷◌, ◌++◌, Contains}
 use Rattle.derivation.specs.Grammar.{Sym, Rule}
 use Rattle.derivation.specs.Derivation.{Step, Derives}
 
--- a production of one rule contains the other
+-- a production of rule a contains rule b
 pub record Holds (P : ℕ → List Sym → Type 0) (a b : ℕ) : Type 0 where
   pub symbols : List Sym
   pub has : P a symbols
@@ -14,7 +14,7 @@ pub data Path (P : ℕ → List Sym → Type 0) : ℕ → ℕ → Type 0 where
   one : {a b : ℕ} → Holds P a b → Path P a b
   more : {a b c : ℕ} → Holds P a b → Path P b c → Path P a c
 
--- in one or more steps the rule derives a list that contains the other
+-- in one or more steps, rule a derives a list that contains rule b
 pub record LeadsTo (P : ℕ → List Sym → Type 0) (a b : ℕ) : Type 0 where
   pub middle : List Sym
   pub before : List Sym

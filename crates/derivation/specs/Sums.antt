@@ -2,7 +2,7 @@
 use Rattle.std.specs.Prelude.{ℕ, ◌+◌, List, [], ◌∷◌, Option, Some, None}
 use Rattle.derivation.specs.Grammar.{Sym, Rule, Token}
 
--- the sum, if both have a cost
+-- the sum of two costs; `None` if either is missing
 abbrev pub plus : Option ℕ → Option ℕ → Option ℕ
 plus None n = None
 plus (Some m) None = None

@@ -1,4 +1,4 @@
--- A table of bits in one list of words, with the same number of words for each row.
+-- A table of bits in one list of 64-bit words; each row has the same number of words.
 use Rattle.std.specs.Prelude.{◌≡◌, ◌≢◌, ◌⊎◌, ℕ, ◌+◌, ◌*◌, ◌<◌, ◌≤◌, Bool, List, map, length, slice_index_or, MatchBool}
 use Rattle.std.specs.List.{between, range_with_len}
 use Rattle.cfgindex.specs.BitWords.{AreWords, AreJoined, bits_of}
@@ -18,7 +18,7 @@ pub record AreRows (rows columns row_words : ℕ) (words : List ℕ) : Type 0 wh
   pub long : length words ≡ rows * row_words
   pub each : (row : ℕ) → row < rows → AreWords columns (words_of row_words words row)
 
--- the words from an index on were joined with others, and the rest stayed
+-- `many` words, from index `to` on, were united bit by bit with `others`; the rest stayed
 pub record JoinsWords (to many : ℕ) (others old new : List ℕ) (changed : Bool) : Type 0 where
   pub long : length new ≡ length old
   pub joined : AreJoined (between to (to + many) old) others (between to (to + many) new)

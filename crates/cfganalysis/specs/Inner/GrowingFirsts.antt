@@ -1,4 +1,5 @@
--- FIRST sets that grow by what productions give.
+-- FIRST sets while they are computed. A production gives its rule the tokens that its symbols begin with, and makes it nullable if they
+-- all are.
 use Rattle.std.specs.Prelude.{ℕ, ◌+◌, Bool, true, false, List, Contains, replicate, slice_set}
 use Rattle.derivation.specs.Grammar.{Sym, Rule, Token, Grammar, Production, HasProduction}
 use Rattle.derivation.specs.First.{First, Nullable}
@@ -16,11 +17,11 @@ pub record SayFirsts (g : Grammar) (x : FirstSets) : Type 0 where
 abbrev pub HaveFirstsOf : FirstSets → Production → Type 0
 HaveFirstsOf x p = Covers (IsEpsilon x) (IsAmongFirsts x) p.rule p.symbols
 
--- what a production gives depends on the sets of the rules among its symbols
+-- rule r is in the production; what the production gives depends on r's set
 abbrev pub HoldsRule : Production → ℕ → Type 0
 HoldsRule p r = Contains p.symbols (Rule r)
 
--- the rule's set has no more than it had, and the rule is nullable only if it was
+-- the rule's set gained no token, and the rule didn't become nullable
 pub record HasNoMoreFirsts (r : ℕ) (old new : FirstSets) : Type 0 where
   pub first : (t : ℕ) → IsAmongFirsts new r t → IsAmongFirsts old r t
   pub empty : IsEpsilon new r → IsEpsilon old r
@@ -36,7 +37,7 @@ no_firsts rules tokens = record { firsts = no_bits rules tokens; nullable = repl
 abbrev pub with_epsilon : FirstSets → ℕ → FirstSets
 with_epsilon x r = record { firsts = x.firsts; nullable = slice_set x.nullable r true }
 
--- the tokens that the list begins with, by the sets
+-- by the sets, the list may begin with the token
 abbrev pub BeginsBy : FirstSets → List Sym → ℕ → Type 0
 BeginsBy x a t = Begins (IsEpsilon x) (IsAmongFirsts x) a t
 

@@ -1,4 +1,5 @@
--- FOLLOW sets that grow by what productions give, with the FIRST sets that they are computed from.
+-- FOLLOW sets while they are computed, with the FIRST sets that they depend on. A production gives each rule in it the tokens that the
+-- rest of the production begins with and, if the rest is nullable, those that follow the production's rule.
 use Rattle.std.specs.Prelude.{◌≡◌, ◌↔◌, ◌⊎◌, ⊤, ◌<◌, ◌≤◌, ℕ, ◌+◌, Bool, false, List, [], ◌∷◌, length, IsTrue, slice_index_or}
 use Rattle.derivation.specs.Grammar.{Sym, Grammar, IsSymbolOf, Production}
 use Rattle.derivation.specs.Follow.{MayFollow}
@@ -11,7 +12,7 @@ use Rattle.cfganalysis.specs.Firsts.{FirstSets, FitsGrammar, AreFirsts, IsAmongF
 use Rattle.cfganalysis.specs.declared.follows.Prefix.{Prefix}
 use Rattle.cfganalysis.specs.declared.follows.Prefix.TheVariants as prefixes
 
--- the FIRST sets, and a row of tokens for each rule
+-- the FIRST sets, and for each rule a row of bits that says which tokens follow it
 pub record FollowSets : Type 0 where
   pub firsts : FirstSets
   pub follows : Table
@@ -28,7 +29,7 @@ pub record SayFollows (g : Grammar) (x : FollowSets) : Type 0 where
   pub finish : (t : ℕ) → t + 1 ≡ g.tokens → HasBit x.follows 0 t
   pub follow : (r t : ℕ) → HasBit x.follows r t → MayFollow g r t
 
--- the list's rules are followed by what the list and the rule give
+-- each rule in the list is followed by what the rest of the list begins with and, if the rest is nullable, by what follows `rule`
 abbrev pub FlowIn : FollowSets → ℕ → List Sym → Type 0
 FlowIn x rule a = Flows (IsEpsilon x.firsts) (IsAmongFirsts x.firsts) (HasBit x.follows) a (HasBit x.follows rule)
 
@@ -36,11 +37,11 @@ FlowIn x rule a = Flows (IsEpsilon x.firsts) (IsAmongFirsts x.firsts) (HasBit x.
 abbrev pub HaveFollowsOf : FollowSets → Production → Type 0
 HaveFollowsOf x p = FlowIn x p.rule p.symbols
 
--- what a production gives depends on its rule's set
+-- r is the production's rule; what the production gives depends on r's set
 abbrev pub IsOwner : Production → ℕ → Type 0
 IsOwner p r = r ≡ p.rule
 
--- the rule's set has no more than it had
+-- the rule's set gained no token
 abbrev pub HasNoMoreFollows : ℕ → FollowSets → FollowSets → Type 0
 HasNoMoreFollows r old new = (t : ℕ) → HasBit new.follows r t → HasBit old.follows r t
 
@@ -48,23 +49,23 @@ HasNoMoreFollows r old new = (t : ℕ) → HasBit new.follows r t → HasBit old
 abbrev pub count_follows : FollowSets → ℕ
 count_follows x = count_of x.follows
 
--- the tokens that the list begins with
+-- by the FIRST sets, the list may begin with the token
 abbrev pub BeginsList : FollowSets → List Sym → ℕ → Type 0
 BeginsList x a t = Begins (IsEpsilon x.firsts) (IsAmongFirsts x.firsts) a t
 
 abbrev pub NullableList : FollowSets → List Sym → Type 0
 NullableList x a = AreNullable (IsEpsilon x.firsts) a
 
--- the tokens that follow a symbol of the rule's production: what the rest begins with and, if the rest is nullable, what follows the rule
+-- the tokens that follow a symbol in a production of `rule`: FIRST of the rest and, if the rest is nullable, FOLLOW of `rule`
 abbrev pub After : FollowSets → ℕ → List Sym → ℕ → Type 0
 After x rule rest t = BeginsList x rest t ⊎ (NullableList x rest × HasBit x.follows rule t)
 
--- tokens were added to the FOLLOW sets of rules
+-- the tokens that `gives` has for each rule were added to its FOLLOW set; `changed` says whether a set grew
 pub record Puts (gives : ℕ → ℕ → Type 0) (old new : FollowSets) (changed : Bool) : Type 0 where
   pub firsts : new.firsts ≡ old.firsts
   pub joins : Joins gives old.follows new.follows changed
 
--- tokens were added to the FOLLOW sets of rules, and each rule whose set grew waits
+-- the tokens that `gives` has for each rule were added to its FOLLOW set, and each rule whose set grew was queued
 pub record PutsAfter (gives : ℕ → ℕ → Type 0) (old new : FollowSets) (waiting waiting' : List Bool) : Type 0 where
   pub firsts : new.firsts ≡ old.firsts
   pub shape : (rows columns : ℕ) → IsTable rows columns old.follows → IsTable rows columns new.follows
@@ -80,18 +81,18 @@ pub record PutsAfter (gives : ℕ → ℕ → Type 0) (old new : FollowSets) (wa
 abbrev pub IsGathered : List Bool → ℕ → Type 0
 IsGathered tokens t = IsTrue (slice_index_or tokens t false)
 
--- tokens were added to those gathered before
+-- the tokens that `gives` has were added to those gathered before
 pub record Gathers (gives : ℕ → Type 0) (old new : List Bool) : Type 0 where
   pub long : length new ≡ length old
   pub tokens : (t : ℕ) → (IsGathered new t ↔ (IsGathered old t ⊎ gives t))
 
--- the next tokens at a position of a production: what follows the rule, what the symbol begins with, or what was gathered
+-- the next tokens (the lookahead) at a position in a production of `rule`: FOLLOW of `rule`, FIRST of the next symbol, or what was gathered
 abbrev pub PrefixGives : {S : Type 0} → (S → ℕ) → FollowSets → ℕ → List Bool → Prefix S → ℕ → Type 0
 PrefixGives number x rule tokens prefixes.End t = HasBit x.follows rule t
 PrefixGives number x rule tokens (prefixes.Symbol symbol) t = BeginsList x (sym_of number symbol ∷ []) t
 PrefixGives number x rule tokens prefixes.Gathered t = IsGathered tokens t
 
--- its symbol, if any, is a symbol of the grammar
+-- if the prefix has a symbol, it is a symbol of the grammar
 abbrev pub IsPrefixOf : {S : Type 0} → (S → ℕ) → Grammar → Prefix S → Type 0
 IsPrefixOf number g prefixes.End = ⊤
 IsPrefixOf number g (prefixes.Symbol symbol) = IsSymbolOf g (sym_of number symbol)
@@ -102,7 +103,8 @@ IsEnd prefixes.End = ⊤
 IsEnd (prefixes.Symbol symbol) = ⊥
 IsEnd prefixes.Gathered = ⊥
 
--- the next tokens before a symbol: what the symbol begins with and, if it is nullable, the next tokens after it
+-- prefix' and tokens' give the next tokens before symbol s: what s begins with and, if it is nullable, the next tokens after it, which
+-- prefix and tokens give
 pub record StepsBack {S : Type 0} (number : S → ℕ) (x : FollowSets) (rule : ℕ) (s : Sym) (prefix : Prefix S) (tokens : List Bool)
     (prefix' : Prefix S) (tokens' : List Bool) : Type 0 where
   pub past : (t : ℕ) → (PrefixGives number x rule tokens' prefix' t

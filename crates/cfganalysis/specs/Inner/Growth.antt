@@ -1,4 +1,4 @@
--- Sets that grow by what productions give; what a production gives depends on the sets of some rules.
+-- A work-list algorithm computes sets, one for each rule: each production adds what it gives, which depends on the sets of some rules.
 use Rattle.std.specs.Prelude.{◌≡◌, ℕ, ◌+◌, ◌-◌, ◌*◌, ◌^◌, ◌<◌, ◌≤◌, ◌⊎◌, ◌↔◌, Bool, false, cond, List, map, length, Contains}
 use Rattle.derivation.specs.Grammar.{Grammar, Production, IsGrammar}
 use Rattle.cfgindex.specs.declared.idxnewtype.RIdx.{RIdx}
@@ -13,18 +13,18 @@ use Rattle.cfganalysis.specs.Inner.Work.{users_of, RestsOnGained}
 abbrev pub shown : {S : Type 0} → (S → ℕ) → RIdx S → List (Symbol S) → Production
 shown number rule symbols = record { rule = number rule.0; symbols = map (sym_of number) symbols }
 
--- it is a production of a grammar with these rules
+-- p is a production of some grammar, and `users` has an entry for each of its rules
 abbrev pub CanNote : List (List ℕ) → Production → Type 0
 CanNote users p = (g : Grammar) × IsGrammar g × (length users ≡ g.rules) × Contains g.productions p
 
--- in addition, the sets are sets of that grammar, and no rule's set has grown
+-- p is a production of some grammar, the sets x are sets of that grammar, and `gained` has a bit for each rule, none of which is on
 abbrev pub CanAddProduction : {X : Type 0} → (Grammar → X → Type 0) → X → List Bool → Production → Type 0
 CanAddProduction holds x gained p = (g : Grammar) × IsGrammar g × holds g x × NoneWaits gained × (length gained ≡ g.rules) × Contains g.productions p
 
--- for the sets: what they say is true, they contain all that a production gives, how many bits are on, and the rules whose sets a
--- production depends on
+-- `holds`: what the sets say of the grammar is true; `covers`: they contain all that the production gives; `bits`: how many bits are on;
+-- `rests_on`: what the production gives depends on the rule's set
 module _ {X : Type 0} (holds : Grammar → X → Type 0) (covers : X → Production → Type 0) (bits : X → ℕ) (rests_on : Production → ℕ → Type 0) where
-  -- The first n productions were visited: each of them is covered, or waits; and how often productions were opened.
+  -- The first n productions were visited: each waits or is covered. Production q was opened `opened q` times, all together `all` times.
   pub record Visited (g : Grammar) (n : ℕ) (x : X) (users : List (List ℕ)) (waiting gained : List Bool) (opened : ℕ → ℕ) (all : ℕ) : Type 0 where
     pub sound : holds g x
     pub rules : length users ≡ g.rules
@@ -39,10 +39,10 @@ module _ {X : Type 0} (holds : Grammar → X → Type 0) (covers : X → Product
     pub fresh : (q : ℕ) → n ≤ q → q < length g.productions → opened q ≡ 0
     pub together : all + bits_on waiting ≤ n + length g.productions * bits x
 
-  -- for a rule: its set has no more in the second sets than in the first
+  -- `no_more r old new`: rule r's set has nothing in `new` that isn't in `old`
   module _ (no_more : ℕ → X → X → Type 0) where
-    -- what a production gives was added, and the sets still contain what each other production gives, except productions that depend on a
-    -- rule whose set grew
+    -- What p gives was added; `gained` has the rules whose sets grew. A production that was covered still is, if it depends on none of
+    -- these; and p is covered, if it depends on none.
     pub record AddsProduction (p : Production) (old new : X) (gained : ℕ → Type 0) : Type 0 where
       pub sound : (g : Grammar) → IsGrammar g → Contains g.productions p → holds g old → holds g new
       pub no_less : bits old ≤ bits new
@@ -51,7 +51,7 @@ module _ {X : Type 0} (holds : Grammar → X → Type 0) (covers : X → Product
       pub closed : ((r : ℕ) → rests_on p r → gained r → ⊥) → covers new p
       pub stays : (q : Production) → ((r : ℕ) → rests_on q r → gained r → ⊥) → covers old q → covers new q
 
-    -- what a production gives was added, and the productions that depend on a rule whose set grew wait, as do those that waited before
+    -- what p gives was added, and the productions that depend on a rule whose set grew were queued; those that waited before still do
     pub record AddsInto (p : Production) (users : List (List ℕ)) (old new : X) (waiting waiting' : List Bool) : Type 0 where
       pub sound : (g : Grammar) → IsGrammar g → Contains g.productions p → holds g old → holds g new
       pub no_less : bits old ≤ bits new
@@ -62,17 +62,17 @@ module _ {X : Type 0} (holds : Grammar → X → Type 0) (covers : X → Product
       pub stays : (q : Production) (n : ℕ) → ((r : ℕ) → rests_on q r → Contains (users_of users r) n) → waits waiting' n ≡ false
           → covers old q → covers new q
 
--- the productions and their openings, as often as they may be needed, can be counted up to `most`
+-- there are at most `most` productions, and the openings that may be needed fit into 64 bits for each, and into 128 bits in total
 pub record CanVisit (most : ℕ) (g : Grammar) : Type 0 where
   pub grammar : IsGrammar g
   pub fits : length g.productions ≤ most
   pub small : most_openings g < 2 ^ 64 - 1
   pub all_small : most_openings_all g < 2 ^ 128 - 1
 
--- no production has anything to add
+-- the sets contain all that each production gives
 abbrev pub CoversEach : {X : Type 0} → (X → Production → Type 0) → Grammar → X → Type 0
 CoversEach covers g x = (q : ℕ) → q < length g.productions → covers x (nth_production g q)
 
--- how much is left to do: bits to turn on, and productions that wait
+-- the work that is left, as one number in lexicographic order: first the bits to turn on, then the productions that wait
 abbrev pub left_to_do : Grammar → ℕ → List Bool → ℕ
 left_to_do g bits waiting = (g.rules * (g.tokens + 1) - bits) * (length waiting + 1) + bits_on waiting

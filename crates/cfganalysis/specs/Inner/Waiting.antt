@@ -1,4 +1,4 @@
--- Numbers that wait, with a bit for each, and the stack that contains them.
+-- A work list of numbers: a bit for each says whether it waits, and a stack has those that do.
 use Rattle.std.specs.Prelude.{◌≡◌, ℕ, ◌==◌, Bool, false, cond, List, length, IsTrue, count_by, slice_index_or, slice_set}
 use Rattle.cfganalysis.specs.Table.{bits_on}
 
@@ -11,7 +11,7 @@ Waits x n = IsTrue (waits x n)
 abbrev pub NoneWaits : List Bool → Type 0
 NoneWaits x = (n : ℕ) → waits x n ≡ false
 
--- a number that waited no longer waits
+-- n waited and no longer does; the others are as before
 pub record WaitsNoMore (n : ℕ) (old new : List Bool) : Type 0 where
   pub waited : Waits old n
   pub rest : new ≡ slice_set old n false

@@ -1,12 +1,12 @@
--- Work that is left: for each rule the productions that depend on its set, and the productions that wait.
+-- The work list of an analysis: the productions that wait, and for each rule those that depend on its set.
 use Rattle.std.specs.Prelude.{◌≡◌, ◌↔◌, ◌⊎◌, ℕ, Bool, List, [], length, Contains, slice_index_or}
 use Rattle.cfganalysis.specs.Inner.Waiting.{Waits}
 
--- the productions that depend on a rule
+-- the productions that depend on the rule's set
 abbrev pub users_of : List (List ℕ) → ℕ → List ℕ
 users_of users rule = slice_index_or users rule []
 
--- a production was noted for each rule that it depends on
+-- production p was added to the users of each rule whose set it depends on
 pub record Notes (p : ℕ) (rests : ℕ → Type 0) (old new : List (List ℕ)) : Type 0 where
   pub shape : length new ≡ length old
   pub users : (r q : ℕ) → (Contains (users_of new r) q ↔ (Contains (users_of old r) q ⊎ ((q ≡ p) × rests r)))
@@ -17,7 +17,7 @@ pub record RestsOnGained (users : List (List ℕ)) (gained : ℕ → Type 0) (q 
   pub gains : gained rule
   pub noted : Contains (users_of users rule) q
 
--- in addition to the productions that waited, those that depend on a rule whose set grew wait
+-- the productions that depend on a rule whose set grew were queued; those that waited before still do
 pub record LetsWait (users : List (List ℕ)) (gained : ℕ → Type 0) (old new : List Bool) : Type 0 where
   pub shape : length new ≡ length old
   pub waits : (q : ℕ) → (Waits new q ↔ (Waits old q ⊎ RestsOnGained users gained q))

@@ -1,4 +1,4 @@
--- Candidates, which are optimal productions, and the choices that are made among them.
+-- Candidates, which are optimal productions, and choices: a rule's choice is its candidate that gives the lexicographically first sentence.
 use Rattle.std.specs.Prelude.{◌≡◌, ℕ, zero, suc, ◌+◌, ◌-◌, ◌*◌, ◌<◌, ◌≤◌, ◌⊎◌, Bool, true, false, List, [], ◌∷◌, Option, Some, None, Contains, IsSomeAnd, count_by, is_some, length, map, reverse, slice_index_or, sum_by}
 use Rattle.std.specs.Ordering.{nat_cmp}
 use Rattle.std.specs.declared.cmp.Ordering.{Ordering}
@@ -17,18 +17,19 @@ use Rattle.cfgchoices.specs.declared.first.lists.Listed.{Listed}
 use Rattle.cfgchoices.specs.declared.first.lists.Listed.TheVariants.{Base, ChainingTo}
 use Rattle.cfgchoices.specs.declared.first.candidates.Firsts.{Firsts}
 
+-- for each rule its choice, if any: a production, and a number that says when it was chosen
 abbrev pub Choices : Type 0
 Choices = List (Option (ℕ × ℕ))
 
--- the tables with other choices
+-- the tables, but with these choices
 abbrev pub by : CostTables → Choices → CostTables
 by x l = record { grammar = x.grammar; costs = x.costs; least = x.least; choices = l }
 
--- a rule costs nothing, or has a choice with a number less than n
+-- rule q costs nothing, so that it needs no choice, or has one with a number less than n
 abbrev pub IsReady : CostTables → Choices → ℕ → ℕ → Type 0
 IsReady x l n q = (cost_answer x q ≡ Some 0) ⊎ IsSomeAnd (rule_choice l q) (λ choice. choice.1 < n)
 
--- the choice of a rule: an optimal production of the rule, whose rules are ready
+-- p may be the choice of rule r, with number m: an optimal production of r, and each rule in it is ready
 pub record IsChoice (x : CostTables) (l : Choices) (r p m : ℕ) : Type 0 where
   pub optimal : IsOptimal x p
   pub owner : (nth_production x.grammar p).rule ≡ r
@@ -44,14 +45,15 @@ abbrev pub steps_of : Grammar → ℕ → (Sym → ℕ) → Option (ℕ × ℕ) 
 steps_of g each f None = each
 steps_of g each f (Some choice) = sum_by f (nth_production g choice.0).symbols + each
 
--- 1 for a token; for a rule `each`, and the steps of the symbols that replace it, by choices nested at most n deep
+-- the steps that it takes to expand a symbol by the choices, nested at most n deep: 1 for a token; for a rule `each`, and the steps of the
+-- symbols of its choice
 unfoldable pub steps : Grammar → Choices → ℕ → ℕ → Sym → ℕ
 steps g choices each zero (Token t) = 1
 steps g choices each zero (Rule r) = each
 steps g choices each (suc n) (Token t) = 1
 steps g choices each (suc n) (Rule r) = steps_of g each (steps g choices each n) (rule_choice choices r)
 
--- each element is before those after it
+-- R holds of each element and each later one
 abbrev pub IsInOrder : {X : Type 0} → (X → X → Type 0) → X → List X → Type 0
 IsInOrder R d xs = (i j : ℕ) → i < j → j < length xs → R (slice_index_or xs i d) (slice_index_or xs j d)
 
@@ -65,11 +67,11 @@ owner x p = (nth_production x.grammar p).rule
 abbrev pub Gives : CostTables → Choices → List Sym → List ℕ → Type 0
 Gives x l = ChoicesGive (by x l)
 
--- what the choices give for the pending symbols, the last of which comes first
+-- what the choices give for the pending symbols: a stack, whose last symbol is expanded first
 abbrev pub Pends : CostTables → Choices → List Sym → List ℕ → Type 0
 Pends x l pending w = ChoicesGive (by x l) (reverse pending) w
 
--- both lists of symbols begin with tokens, which compare like this
+-- both lists of symbols begin with tokens, and `ordering` is how these two compare
 pub record FirstTokensAre (a b : List Sym) (ordering : Ordering) : Type 0 where
   pub one : ℕ
   pub other : ℕ
@@ -79,7 +81,7 @@ pub record FirstTokensAre (a b : List Sym) (ordering : Ordering) : Type 0 where
   pub second : b ≡ Token other ∷ others
   pub is : ordering ≡ nat_cmp one other
 
--- how many steps are left until no symbol is pending
+-- in how many steps the pending symbols are expanded
 abbrev pub left_to_open : CostTables → Choices → List Sym → ℕ
 left_to_open x l pending = sum_by (steps x.grammar l 1 x.grammar.rules) pending
 
@@ -90,29 +92,30 @@ NotAfter x l a b = (u v : List ℕ) → ChoicesGive (by x l) a u → ChoicesGive
 abbrev pub HasChoice : Choices → ℕ → Type 0
 HasChoice l r = (choice : ℕ × ℕ) × (rule_choice l r ≡ Some choice)
 
--- the rule of a production has a choice, which gives nothing greater than the production
+-- the rule of production p has a choice, which gives nothing greater than p
 pub record IsDone (x : CostTables) (l : Choices) (p : ℕ) : Type 0 where
   pub chosen : HasChoice l (owner x p)
   pub given : (w : List ℕ) × ChoicesGive (by x l) (sequence x p) w
   pub first : NotAfter x l (Rule (owner x p) ∷ []) (sequence x p)
 
--- two productions of one rule, the first of which gives nothing greater than the second
+-- p and q are productions of one rule, and p gives nothing greater than q
 pub record StandsFor (x : CostTables) (l : Choices) (p q : ℕ) : Type 0 where
   pub same : owner x p ≡ owner x q
   pub given : (w : List ℕ) × ChoicesGive (by x l) (sequence x q) w
   pub before : NotAfter x l (sequence x p) (sequence x q)
 
--- what is known of optimal productions: which rules have only one; and a number above all costs
+-- a generator's tables, which rules have only one optimal production, and a number above all costs
 pub record Known : Type 0 where
   pub tables : CostTables
   pub sole : List Bool
   pub limit : ℕ
 
--- the list exists
+-- there is a list for this cost, or for this rule
 abbrev pub HasList : {S : Type 0} → (S → ℕ) → Known → Listed S → Type 0
 HasList number k (Base c) = c < k.limit
 HasList number k (ChainingTo r) = number r.0 < k.tables.grammar.rules
 
+-- whether the rule is known to have only one optimal production
 abbrev pub is_sole : Known → ℕ → Bool
 is_sole k r = slice_index_or k.sole r false
 
@@ -127,7 +130,7 @@ pub record IsKnown (k : Known) (n : ℕ) : Type 0 where
   pub kinds : (p : ℕ) → IsOptimal k.tables p → IsBaseProduction k.tables p ⊎ ((q : ℕ) × IsTarget k.tables p q)
   pub costs : (r c : ℕ) → cost_answer k.tables r ≡ Some c → c < k.limit
 
--- an optimal production, as its kind says
+-- by its kind, production p is optimal
 abbrev pub IsCounted : {S : Type 0} → List (Kind S) → ℕ → Type 0
 IsCounted kinds p = (p < length kinds) × (slice_index_or kinds p Suboptimal ≡ Suboptimal → ⊥)
 
@@ -136,8 +139,8 @@ abbrev pub position_of : {S : Type 0} → (S → ℕ) → Option (PIdx S) → Op
 position_of number None = None
 position_of number (Some p) = Some (number p.0)
 
--- the choices made so far; the cost of the current candidates; those that are their rule's only optimal production, and the others; and for
--- each rule the candidate that gives the lexicographically first sentence
+-- The choices made so far, and their `number`; the cost of the current candidates; `ready`: those that are their rule's only optimal
+-- production; `level`: the others; `foremost`: for each rule its candidate that gives the lexicographically first sentence.
 pub record Candidates : Type 0 where
   pub choices : Choices
   pub number : ℕ
@@ -160,27 +163,29 @@ candidates_of number f = record {
 abbrev pub chosen_tables : CostTables → Candidates → CostTables
 chosen_tables x f = by x f.choices
 
+-- production p is a candidate and wasn't chosen or dropped yet
 abbrev pub Waits : Candidates → ℕ → Type 0
 Waits f p = Contains f.ready p ⊎ Contains f.level p
 
 abbrev pub waiting : Candidates → ℕ
 waiting f = length f.ready + length f.level
 
--- a production is done, or a candidate of its rule that gives nothing greater waits
+-- production q is done, or a candidate of its rule waits that gives nothing greater
 abbrev pub IsHandled : CostTables → Candidates → ℕ → Type 0
 IsHandled x f q = IsDone x f.choices q ⊎ ((p : ℕ) × Waits f p × StandsFor x f.choices p q)
 
--- no choice of this cost gives anything greater, for rules with more than one optimal production
+-- p gives nothing less than the choice of any rule that costs c and has more than one optimal production
 abbrev pub IsFloor : Known → Choices → ℕ → ℕ → Type 0
 IsFloor k l c p = (r : ℕ) → HasChoice l r → cost_answer k.tables r ≡ Some c → is_sole k r ≡ false → NotAfter k.tables l (Rule r ∷ []) (sequence k.tables p)
 
--- a candidate: an optimal production of this cost, whose rules have choices or cost nothing
+-- a candidate: an optimal production that costs c, and each rule in it has a choice or costs nothing
 pub record IsCandidate (k : Known) (l : Choices) (n c p : ℕ) : Type 0 where
   pub optimal : IsOptimal k.tables p
   pub cost : optimal.cost ≡ c
   pub ready : (q : ℕ) → Contains (sequence k.tables p) (Rule q) → IsReady k.tables l n q
   pub floor : IsFloor k l c p
 
+-- the productions that wait are candidates, and `level` is in descending lexicographic order
 pub record Level (k : Known) (f : Candidates) : Type 0 where
   pub choosing : Choosing k.tables f.choices f.number
   pub costs : (r : ℕ) → HasChoice f.choices r → (d : ℕ) × (cost_answer k.tables r ≡ Some d) × (d ≤ f.cost)
@@ -200,12 +205,12 @@ pub record Going (k : Known) (f : Candidates) : Type 0 where
   pub nominating : Nominating k f
   pub chains : (p q : ℕ) → IsTarget k.tables p q → HasChoice f.choices q → IsHandled k.tables f p
 
--- a production that can be chosen now
+-- p can be chosen now: it is its rule's only optimal production, or no candidate gives less
 pub record IsNext (k : Known) (f : Candidates) (p : ℕ) : Type 0 where
   pub nominated : IsCandidate k f.choices f.number f.cost p
   pub least : (is_sole k (owner k.tables p) ≡ true) ⊎ ((q : ℕ) → Waits f q → NotAfter k.tables f.choices (sequence k.tables p) (sequence k.tables q))
 
--- it was removed
+-- p, which can be chosen now, was removed from the candidates
 pub record Takes (k : Known) (p : ℕ) (f f' : Candidates) : Type 0 where
   pub others : f' ≡ record { choices = f.choices; number = f.number; cost = f.cost; ready = f'.ready; level = f'.level; foremost = f.foremost }
   pub level : Level k f'
@@ -217,11 +222,11 @@ pub record Takes (k : Known) (p : ℕ) (f f' : Candidates) : Type 0 where
 abbrev pub IsDrained : Candidates → Candidates → Type 0
 IsDrained f f' = (waiting f ≡ 0) × (f' ≡ f)
 
--- what was handled is still handled, and so are these
+-- what was handled still is, and the productions that `Is` has are handled too
 abbrev pub Handles : CostTables → (ℕ → Type 0) → Candidates → Candidates → Type 0
 Handles x Is f f' = (q : ℕ) → IsHandled x f q ⊎ Is q → IsHandled x f' q
 
--- these are handled now too, and at most n more wait
+-- the productions that `Is` has are handled now too, and at most n more wait
 pub record Adds (x : CostTables) (Is : ℕ → Type 0) (n : ℕ) (f f' : Candidates) : Type 0 where
   pub choices : f'.choices ≡ f.choices
   pub number : f'.number ≡ f.number
@@ -233,7 +238,7 @@ pub record Adds (x : CostTables) (Is : ℕ → Type 0) (n : ℕ) (f f' : Candida
 abbrev pub left_to_choose : Known → Candidates → ℕ
 left_to_choose k f = (k.tables.grammar.rules - f.number) * (length k.tables.grammar.productions + 1) + waiting f
 
--- All rules that cost less than c have choices that give their first sentences, and no other rule has a choice.
+-- All rules that cost less than c have choices, which give their lexicographically first minimal sentences; no other rule has a choice.
 pub record Climbed (k : Known) (f : Candidates) (c : ℕ) : Type 0 where
   pub going : Going k f
   pub none : waiting f ≡ 0

@@ -1,4 +1,4 @@
--- The single sentence of a rule that the chosen productions give.
+-- The sentence that the chosen productions give for a rule.
 use Rattle.std.specs.Prelude.{◌≡◌, ℕ, List, [], ◌∷◌, ◌++◌, Some}
 use Rattle.derivation.specs.Grammar.{Sym, Rule, Token}
 use Rattle.cfgtables.specs.Openings.{nth_production}

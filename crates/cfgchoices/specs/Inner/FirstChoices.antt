@@ -1,4 +1,4 @@
--- Choices of productions, one for each rule that costs something, that give first minimal sentences.
+-- A choice for each rule that costs something: together they give lexicographically first minimal sentences.
 use Rattle.std.specs.Prelude.{◌≡◌, ℕ, ◌<◌, ◌≤◌, List, [], ◌∷◌, Option, Some, None, All, length, IfSome}
 use Rattle.std.specs.declared.cmp.Ordering.TheVariants.{Greater}
 use Rattle.derivation.specs.Grammar.{Sym, Rule, Token, IsSymbolOf, HasProduction}
@@ -11,12 +11,12 @@ use Rattle.cfgleast.specs.Generator.{CostTables, IsGenerator, token_cost}
 use Rattle.cfgchoices.specs.Inner.Kinds.{IsOptimal}
 use Rattle.cfgchoices.specs.FirstSentence.{lexicographic}
 
--- a rule has no choice, or one with a number less than n
+-- the symbol is a token, or a rule that has no choice or one with a number less than n
 abbrev pub IsNotAbove : List (Option (ℕ × ℕ)) → ℕ → Sym → Type 0
 IsNotAbove choices n (Token t) = Unit {0}
 IsNotAbove choices n (Rule r) = IfSome (rule_choice choices r) (λ choice. choice.1 < n)
 
--- the choice of a rule that costs d: a production of that cost, whose rules have no choices or choices with lesser numbers
+-- the choice of rule q, which costs d: production p costs d too, and each rule in it has no choice or one with a number less than m
 pub record Opens (x : CostTables) (q d p m : ℕ) : Type 0 where
   pub choice : rule_choice x.choices q ≡ Some (p, m)
   pub index : p < length x.grammar.productions
@@ -27,7 +27,7 @@ pub record Opens (x : CostTables) (q d p m : ℕ) : Type 0 where
   pub below : All (IsNotAbove x.choices m) (nth_production x.grammar p).symbols
   pub deep : m < x.grammar.rules
 
--- least costs are known, and exactly the rules that cost something have a choice
+-- the least costs are a generator's; rules that cost 1 to 65535 have choices, rules that cost 0 have none
 pub record Walks (x : CostTables) : Type 0 where
   pub settled : List (Option (ℕ × ℕ))
   pub number : ℕ
@@ -37,7 +37,7 @@ pub record Walks (x : CostTables) : Type 0 where
   pub chosen : (q d : ℕ) → rule_cost x.least q ≡ Some d → 0 < d → d ≤ 65535 → (p : ℕ) × (m : ℕ) × Opens x q d p m
   pub below : (q p m : ℕ) → rule_choice x.choices q ≡ Some (p, m) → All (IsNotAbove x.choices m) (nth_production x.grammar p).symbols
 
--- no optimal production gives less than the choice of its rule
+-- no optimal production gives anything lexicographically less than its rule's choice
 abbrev pub AreFirst : CostTables → Type 0
 AreFirst x = (p : ℕ) → IsOptimal x p → (u v : List ℕ) → ChoicesGive x (Rule (nth_production x.grammar p).rule ∷ []) u
     → ChoicesGive x (nth_production x.grammar p).symbols v → lexicographic u v ≡ Greater → ⊥

@@ -1,4 +1,4 @@
--- Optimal productions: they are chain productions, which lead to a rule of the same cost, or base productions.
+-- Optimal productions, of two kinds: chain productions, which lead to a rule of the same cost, and base productions.
 use Rattle.std.specs.Prelude.{◌≡◌, ℕ, ◌<◌, List, Option, Some, Contains, length, map, slice_index_or}
 use Rattle.cfgindex.specs.declared.idxnewtype.PIdx.{PIdx}
 use Rattle.derivation.specs.Grammar.{Grammar, Sym, Rule, HasProduction}
@@ -20,13 +20,13 @@ pub record IsOptimal (x : CostTables) (p : ℕ) : Type 0 where
   pub rule : cost_answer x (nth_production x.grammar p).rule ≡ Some cost
   pub sum : sum_of (symbol_cost (token_cost x) (rule_cost x.least)) (nth_production x.grammar p).symbols ≡ Some cost
 
--- a chain production leads to q: q is in it, and costs as much as its rule
+-- p is a chain production that leads to rule q: q is in p, and costs as much as p
 pub record IsTarget (x : CostTables) (p q : ℕ) : Type 0 where
   pub optimal : IsOptimal x p
   pub among : Contains (nth_production x.grammar p).symbols (Rule q)
   pub same : cost_answer x q ≡ Some optimal.cost
 
--- a base production: optimal, and no rule in it costs as much as its rule
+-- a base production: optimal, and no rule in it costs as much as it does
 pub record IsBaseProduction (x : CostTables) (p : ℕ) : Type 0 where
   pub optimal : IsOptimal x p
   pub none : (q : ℕ) → IsTarget x p q → ⊥
@@ -60,7 +60,7 @@ pub record HasTarget (x : CostTables) (r q : ℕ) : Type 0 where
 abbrev pub IsMinimal : CostTables → ℕ → List ℕ → Type 0
 IsMinimal x = Minimal (HasProduction x.grammar) (token_cost x)
 
--- a base production of the rule, or of a rule that chain productions lead to from it
+-- p is a base production of rule r, or of a rule to which chain productions lead from r
 pub record IsBaseBelow (x : CostTables) (r p : ℕ) : Type 0 where
   pub leads : Along (HasTarget x) r (nth_production x.grammar p).rule
   pub base : IsBaseProduction x p
@@ -69,6 +69,6 @@ pub record IsBaseBelow (x : CostTables) (r p : ℕ) : Type 0 where
 abbrev pub positions_of : {S : Type 0} → (S → ℕ) → List (PIdx S) → List ℕ
 positions_of number productions = map (λ p. number p.0) productions
 
--- the rule that a chain production leads to is a rule of the grammar
+-- each chain production in the list leads to a rule of the grammar
 abbrev pub HasRulesAsTargets : {S : Type 0} → (S → ℕ) → Grammar → List (Kind S) → Type 0
 HasRulesAsTargets {S} number g kinds = (p : ℕ) (target : RIdx S) → slice_index_or kinds p Suboptimal ≡ ChainsTo target → number target.0 < g.rules

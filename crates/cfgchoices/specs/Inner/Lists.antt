@@ -16,12 +16,12 @@ abbrev pub IsIn : {S : Type 0} → (S → ℕ) → CostTables → Listed S → �
 IsIn number x (Base c) p = IsBaseAt x c p
 IsIn number x (ChainingTo r) p = IsTarget x p (number r.0)
 
--- the first production, from number n on, of which this is true
+-- the first production from number n on of which `Is` is true, if there is one
 abbrev pub IsFirstFrom : {S : Type 0} → (S → ℕ) → (ℕ → Type 0) → ℕ → Option (PIdx S) → Type 0
 IsFirstFrom number Is n first = MatchOption first ((p : ℕ) → n ≤ p → Is p → ⊥)
     (λ p. (n ≤ number p.0) × Is (number p.0) × ((q : ℕ) → n ≤ q → q < number p.0 → Is q → ⊥))
 
--- for each list its first production from number n on, and for each of these productions the next one in its list
+-- `firsts` has each list's first production from number n on, `next` the next production in a list after each from number n on
 pub record AreListed {S : Type 0} (number : S → ℕ) (Is : ℕ → ℕ → Type 0) (n : ℕ) (firsts next : List (Option (PIdx S))) : Type 0 where
   pub first : (k : ℕ) → IsFirstFrom number (Is k) n (slice_index_or firsts k None)
   pub after : (k p : ℕ) → n ≤ p → Is k p → IsFirstFrom number (Is k) (p + 1) (slice_index_or next p None)
