@@ -19,7 +19,7 @@ times_other q positions p other = sum_by_push (λ i. cond (nat_eq q i) 1 0) posi
 pub counts_more : (g content : Grammar) (p : ℕ) (opened opened' : ℕ → ℕ) (all all' : ℕ) (positions : List ℕ) → OpensOne p g content opened opened' all all'
     → AreCountsOf g opened all positions → AreCountsOf content opened' all' (positions ++ p ∷ [])
 counts_more g content p opened opened' all all' positions o counts = subst (λ h. AreCountsOf h opened' all' (positions ++ p ∷ [])) (sym o.stays) (record {
-  each = λ q within. elim (eqb_shows q p) [
+  each = λ q within. elim (eqb_tells q p) [
     | inl h ↦ subst (λ i. opened' i ≡ times i (positions ++ p ∷ [])) (sym h.1)
         (o.more ∙ ap (λ n. n + 1) (counts.each p (subst (λ i. i < length g.productions) h.1 within)) ∙ sym (times_more p positions))
     | inr h ↦ o.others q h.1 ∙ counts.each q within ∙ sym (times_other q positions p h.1)

@@ -163,7 +163,7 @@ module _ (x : CostTables) (r : ℕ) (HasOpened : List ℕ → Type 0) where
           whole = way.whole;
           positions = way.positions ++ p ∷ [];
           opened = more way.positions way.opened;
-          free = λ i within least. elim (eqb_shows i p) [
+          free = λ i within least. elim (eqb_tells i p) [
             | inl h ↦
                 let here = subst (λ s. Least (HasProduction x.grammar) (token_cost x) s 0) (ap (λ j. (nth_production x.grammar j).rule) h.1 ∙ owner) least in
                 let none = least_is_one (HasProduction x.grammar) (token_cost x) q c.cost 0

@@ -219,7 +219,7 @@ module _ (g : Grammar) (is : IsGrammar g) (cost : ℕ → ℕ) (known : List Kno
         let cap = m.cap in
         let le' = top_below m e i le lt in
         subst (Means (HasProduction g) cost (get_or path i 0)) (sym (ap (λ b. cond b (Ok None) (cond (leb x.top 65535) (Ok (Some x.top)) (Err CostTooLarge))) e))
-        (elim (leb_shows x.top 65535) [
+        (elim (leb_tells x.top 65535) [
           | inl h ↦ subst (Means (HasProduction g) cost (get_or path i 0)) (sym (ap (λ b. cond b (Ok (Some x.top)) (Err CostTooLarge)) h.0))
               (let small = h.1 in let same : m.most ≡ x.top = omega (arith, cap, le', small) in
               (subst (Greatest (HasProduction g) cost (get_or path i 0)) same (greatest m e i le lt), small))

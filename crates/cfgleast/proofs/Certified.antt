@@ -113,7 +113,7 @@ module _ (g : Grammar) (costs : List ℕ) (least : List (Option ℕ)) (choices :
     sum = c;
     has = at_position g choice.0 _ h.index (sym h.owner) refl;
     sum_is = h.sum;
-    valid = λ n k. k;
+    holds = λ n k. k;
     below = All-weaker (IsChosenBelow choices choice.1) (IsNumberedBelow (number choices) (number choices r))
         (λ s k. subst (λ n. IsNumberedBelow (number choices) n s) (sym (ap number_of e)) (numbered_below choices choice.1 s k)) _ h.below;
   }
@@ -128,7 +128,7 @@ module _ (g : Grammar) (costs : List ℕ) (least : List (Option ℕ)) (choices :
   certified_sentence r c e =
       let made = reached (HasProduction g) (slice_index costs) (symbol_cost (slice_index costs) (rule_cost least)) (λ c n. c ≡ n)
       (exactly_over (slice_index costs) (rule_cost least)) (number choices) chosen r c e in
-      (made.word, derivation_from_trees (HasProduction g) made.tree, sym made.valid)
+      (made.word, derivation_from_trees (HasProduction g) made.tree, sym made.holds)
 
 -- a rule's cost and choice, as lists show them, and what shows them
 module _ (g : Grammar) (costs : List ℕ) (least : List (Option ℕ)) (choices : List (Option (ℕ × ℕ))) (r c : ℕ) (choice : ℕ × ℕ)

@@ -41,7 +41,7 @@ module _ (x : CostTables) (n : ℕ) (is : IsGenerator x n) where
 -- a cost that is returned is that of the table, and at most 65535
 pub answered_some : (o : Option ℕ) (c : ℕ) → up_to_limit o ≡ Some c → (o ≡ Some c) × (c ≤ 65535)
 answered_some None c e = let no : None ≡ Some c = e in absurd (cc)
-answered_some (Some d) c e = elim (leb_shows d 65535) [
+answered_some (Some d) c e = elim (leb_tells d 65535) [
   | inl h ↦ let is : d ≡ c = same_Some _ _ (sym (ap (λ b. cond b (Some d) None) h.0) ∙ e) in (ap Some is, omega (arith, is, h.1))
   | inr h ↦ let no : None ≡ Some c = sym (ap (λ b. cond b (Some d) None) h.0) ∙ e in absurd (cc)
 ]

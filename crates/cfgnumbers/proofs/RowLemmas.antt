@@ -75,7 +75,7 @@ pub rules_road : {it : List (String Global × source.Rule)} (s : Syntax) (entrie
 rules_road s entries same is = shown rule_entry entries s.rules same (YieldsList-from_rest entries is)
 
 pub tokens_road : (s : Syntax) (it : Zip (List (String Global)) (Iter Span)) (keys : List (String Global)) → map string_bytes keys ≡ s.tokens → zip_first it ≡ keys → iter_rest (zip_second it) ≡ s.spans
-    → YieldsList (zips (TakesFirst deref) prefixes) token_seen it (zip s.tokens s.spans)
+    → YieldsList (zips (TakesFirst deref) fronts) token_seen it (zip s.tokens s.spans)
 tokens_road s it keys same names_are spans_are =
     YieldsList-from_zip (shown string_bytes keys s.tokens same (YieldsList-from_rest keys names_are)) (YieldsList-from_slice s.spans spans_are)
 
@@ -83,7 +83,7 @@ pub names_road : {V : Type 0} {it : List (String Global × V)} (entries : List (
 names_road entries is = shown (λ entry. string_bytes entry.0) entries (names entries) refl (YieldsList-from_rest entries is)
 
 pub productions_road : (s : Syntax) (it : Zip (Iter ℕ) (Iter source_production.Production)) (prods : List source_production.Production) → map plain_production prods ≡ s.productions
-    → iter_rest (zip_first it) ≡ s.production_rules → iter_rest (zip_second it) ≡ prods → YieldsList (zips prefixes prefixes) production_seen it (zip s.production_rules s.productions)
+    → iter_rest (zip_first it) ≡ s.production_rules → iter_rest (zip_second it) ≡ prods → YieldsList (zips fronts fronts) production_seen it (zip s.production_rules s.productions)
 productions_road s it prods same rules_are prods_are =
     YieldsList-from_zip (YieldsList-from_slice s.production_rules rules_are) (shown plain_production prods s.productions same (YieldsList-from_slice prods prods_are))
 

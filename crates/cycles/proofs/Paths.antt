@@ -27,7 +27,7 @@ at_middle (y ∷ prefix) x back = at_middle prefix x back
 drop_middle : (prefix : List Sym) (x : Sym) (back : List Sym) → drop (length prefix + 1) (prefix ++ (x ∷ back)) ≡ back
 drop_middle prefix x back =
     ap (λ n. drop n (prefix ++ (x ∷ back))) (sym (length_push prefix x))
-    ∙ prefix_rest (prefix ++ (x ∷ back)) (prefix ++ x ∷ []) back (sym (append_assoc prefix (x ∷ []) back))
+    ∙ front_rest (prefix ++ (x ∷ back)) (prefix ++ x ∷ []) back (sym (append_assoc prefix (x ∷ []) back))
 
 module _ (g : Grammar) where
   step_unit : (a : ℕ) (step : Step) → IsStep g a step → HoldsUnit (HasProduction g) a step.rule

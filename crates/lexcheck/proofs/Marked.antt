@@ -157,7 +157,7 @@ token_has_name tokens t (Some name) shown = go (slice_get tokens t) refl shown
     go None there shown = let no : None ≡ Some (Some name.now) = shown in cc
     go (Some token) there shown =
         let is : token.name ≡ Some name.now = cc in
-        any_passes_from_position (has_token_name name.now) tokens t token there
+        any_passes_from_place (has_token_name name.now) tokens t token there
         (ap (λ o. option_map_or (bytes_eq name.now) o false) is ∙ (bytes_eq-Decides name.now name.now).1 refl)
 
 -- what is pushed, shown as a number

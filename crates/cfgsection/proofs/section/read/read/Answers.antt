@@ -13,8 +13,8 @@ pub returns-clause-entries : goal.returns-clause-entries
 returns-clause-entries c =
     let made = c.new-reader.ensures in
     elim c.match-section.branch [
-      | in-Ok w ↦ entries_read c.args.required c.args.text.now c.new-reader.result c.section.new.self _ made.location.0 made.location.1 made.entries w.in-Ok.ensures.2 (ap (λ v. v.items) c.into_entries.ensures)
+      | in-Ok w ↦ entries_read c.args.required c.args.text.now c.new-reader.result c.section.new.self _ made.offset.0 made.offset.1 made.entries w.in-Ok.ensures.2 (ap (λ v. v.items) c.into_entries.ensures)
       | in-Err-Fault w ↦
           let failed = rw w.in-Err-Fault.field-0-is at w.in-Err-Fault.ensures in
-          entries_read c.args.required c.args.text.now c.new-reader.result c.section.new.self _ made.location.0 made.location.1 made.entries failed.1 (ap (λ v. v.items) c.into_entries.ensures)
+          entries_read c.args.required c.args.text.now c.new-reader.result c.section.new.self _ made.offset.0 made.offset.1 made.entries failed.1 (ap (λ v. v.items) c.into_entries.ensures)
     ]

@@ -10,7 +10,7 @@ pub returns-clause-listed : goal.returns-clause-listed
 unfolding syntax syntax_view
 returns-clause-listed c =
     let old = c.args.self.now.syntax in
-    let index : c.len-index.result ≡ length (map production_view old.prods.items) = omega (arith, c.len-index.ensures, length-map old.prods.items production_view) in
+    let index : c.len-at.result ≡ length (map production_view old.prods.items) = omega (arith, c.len-at.ensures, length-map old.prods.items production_view) in
     on_ok_weaker c.list_production.result (λ done. λ i. record (syntax_view old) {
       rules = (done ∙ ap (λ n. map (listed c.args.name.now n) (map rule_entry old.rules.entries)) index) i;
       productions = map production_view (c.in_ok-reserve.ensures.items i);
