@@ -10,8 +10,8 @@ use Rattle.derivation.specs.First.{First, Nullable}
 use Rattle.derivation.proofs.Firsts.{nullable_map, begins_map, closed_first, closed_empty, derived_closed, nullable_parts, nullable_both, begins_parts}
 use Rattle.search.proofs.Bits.{bit_put, bits_on-fewer, bits_on-set}
 use Rattle.cfgtables.proofs.Located.{owner}
-use Rattle.cfganalysis.specs.Firsts.{FirstSets, AreFirsts, IsAmongFirsts, IsEpsilon, epsilon_bit}
-use Rattle.cfganalysis.specs.Inner.GrowingFirsts.{AreNullableBy, is_empty_symbol, SayFirsts, HaveFirstsOf, BeginsBy, no_firsts, with_epsilon, HasNoMoreFirsts, HoldsRule, count_firsts}
+use Rattle.cfganalysis.specs.Firsts.{FirstSets, AreFirsts, IsAmongFirsts, IsNullableRule, nullable_bit}
+use Rattle.cfganalysis.specs.Inner.GrowingFirsts.{AreNullableBy, is_nullable_symbol, AreSoundFirsts, CoverFirstsOf, BeginsBy, no_firsts, with_nullable, HasNoMoreFirsts, HoldsRule, count_firsts}
 use Rattle.cfganalysis.specs.Table.{IsTable, Joins, bits_on}
 use Rattle.cfganalysis.specs.Inner.Growth.{CoversEach, AddsProduction}
 use Rattle.cfganalysis.proofs.Joins.{bit-no_bits, IsTable-no_bits, count_of-fewer}
@@ -50,11 +50,11 @@ begins_among E E' F F' (Rule r ∷ a) t f k (inr h) = inr (
 )
 
 -- the tests say what is true
-pub nullable_alone : (x : FirstSets) (s : Sym) → is_empty_symbol x s ≡ true → AreNullableBy x (s ∷ [])
+pub nullable_alone : (x : FirstSets) (s : Sym) → is_nullable_symbol x s ≡ true → AreNullableBy x (s ∷ [])
 nullable_alone x (Rule r) e = (e, tt)
 nullable_alone x (Token u) e = absurd (true≢false (sym e))
 
-pub stays_alone : (x : FirstSets) (s : Sym) → is_empty_symbol x s ≡ false → AreNullableBy x (s ∷ []) → ⊥
+pub stays_alone : (x : FirstSets) (s : Sym) → is_nullable_symbol x s ≡ false → AreNullableBy x (s ∷ []) → ⊥
 stays_alone x (Rule r) e h = true≢false (sym h.0 ∙ e)
 stays_alone x (Token u) e h = h
 
@@ -64,8 +64,8 @@ module _ (g : Grammar) (rule : ℕ) (symbols : List Sym) (has : HasProduction g 
   closed = derived_closed (HasProduction g) rule symbols has
 
   -- what the production's symbols begin with is what derivations show
-  pub say_first : (x new : FirstSets) (gives : ℕ → ℕ → Type 0) (changed : Bool) → SayFirsts g x → new.nullable ≡ x.nullable
-      → Joins gives x.firsts new.firsts changed → ((r t : ℕ) → gives r t → (r ≡ rule) × BeginsBy x symbols t) → SayFirsts g new
+  pub say_first : (x new : FirstSets) (gives : ℕ → ℕ → Type 0) (changed : Bool) → AreSoundFirsts g x → new.nullable ≡ x.nullable
+      → Joins gives x.firsts new.firsts changed → ((r t : ℕ) → gives r t → (r ≡ rule) × BeginsBy x symbols t) → AreSoundFirsts g new
   say_first x new gives changed say same joins given = record {
     fits = record { table = joins.shape g.rules g.tokens say.fits.table; nullable = ap length same ∙ say.fits.nullable };
     first = λ r t on. elim ((joins.bits r t).0 on) [
@@ -76,7 +76,7 @@ module _ (g : Grammar) (rule : ℕ) (symbols : List Sym) (has : HasProduction g 
     empty = λ r on. say.empty r (sym (ap (λ l. get_or l r false) same) ∙ on);
   }
 
-  pub say_epsilon : (x : FirstSets) → SayFirsts g x → AreNullableBy x symbols → SayFirsts g (with_epsilon x rule)
+  pub say_epsilon : (x : FirstSets) → AreSoundFirsts g x → AreNullableBy x symbols → AreSoundFirsts g (with_nullable x rule)
   say_epsilon x say h = record {
     fits = record { table = say.fits.table; nullable = length-set x.nullable rule true ∙ say.fits.nullable };
     first = say.first;
@@ -87,7 +87,7 @@ module _ (g : Grammar) (rule : ℕ) (symbols : List Sym) (has : HasProduction g 
   }
 
 -- empty sets say nothing wrong
-pub say_none : (g : Grammar) (rules tokens : ℕ) → rules ≡ g.rules → tokens ≡ g.tokens → SayFirsts g (no_firsts rules tokens)
+pub say_none : (g : Grammar) (rules tokens : ℕ) → rules ≡ g.rules → tokens ≡ g.tokens → AreSoundFirsts g (no_firsts rules tokens)
 say_none g rules tokens e h = record {
   fits = record {
     table = subst (λ n. IsTable n g.tokens (no_firsts rules tokens).firsts) e (subst (λ n. IsTable rules n (no_firsts rules tokens).firsts) h (IsTable-no_bits rules tokens));
@@ -98,15 +98,15 @@ say_none g rules tokens e h = record {
 }
 
 -- sets that say nothing wrong, to which no production has anything to add, are exact
-pub are_firsts : (g : Grammar) (x : FirstSets) → SayFirsts g x → CoversEach HaveFirstsOf g x → AreFirsts g x
+pub are_firsts : (g : Grammar) (x : FirstSets) → AreSoundFirsts g x → CoversEach CoverFirstsOf g x → AreFirsts g x
 are_firsts g x say covered = record {
   fits = say.fits;
-  first = λ r t. (say.first r t, closed_first (HasProduction g) (IsEpsilon x) (IsAmongFirsts x) closed r t);
-  empty = λ r. (say.empty r, closed_empty (HasProduction g) (IsEpsilon x) (IsAmongFirsts x) closed r);
+  first = λ r t. (say.first r t, closed_first (HasProduction g) (IsNullableRule x) (IsAmongFirsts x) closed r t);
+  empty = λ r. (say.empty r, closed_empty (HasProduction g) (IsNullableRule x) (IsAmongFirsts x) closed r);
 }
   where
-    closed : IsClosed (HasProduction g) (IsEpsilon x) (IsAmongFirsts x)
-    closed r symbols has = subst (λ (p : Production). Covers (IsEpsilon x) (IsAmongFirsts x) p.rule p.symbols)
+    closed : IsClosed (HasProduction g) (IsNullableRule x) (IsAmongFirsts x)
+    closed r symbols has = subst (λ (p : Production). Covers (IsNullableRule x) (IsAmongFirsts x) p.rule p.symbols)
         (get_or_default g.productions has.0 _ _ has.1 ∙ has.2) (covered has.0 has.1)
 
 -- what the symbol begins with was added to the rule's set
@@ -116,7 +116,7 @@ pub record Puts (rule : ℕ) (s : Sym) (old new : FirstSets) (changed : Bool) : 
 
 -- no set but the rule's grew, and that only by what its production gives
 pub record Grown (rule : ℕ) (symbols : List Sym) (old new : FirstSets) (changed : Bool) : Type 0 where
-  pub sound : (g : Grammar) → IsGrammar g → HasProduction g rule symbols → SayFirsts g old → SayFirsts g new
+  pub sound : (g : Grammar) → IsGrammar g → HasProduction g rule symbols → AreSoundFirsts g old → AreSoundFirsts g new
   pub more : changed ≡ true → count_firsts old < count_firsts new
   pub same : changed ≡ false → new ≡ old
   pub others : (r t : ℕ) → IsAmongFirsts new r t → IsAmongFirsts old r t ⊎ (r ≡ rule)
@@ -137,9 +137,9 @@ pub record Visits (rule : ℕ) (symbols : List Sym) (n : ℕ) (old new : FirstSe
 record Taken (rule : ℕ) (symbols : List Sym) (old new : FirstSets) (changed : Bool) : Type 0 where
   growth : Grown rule symbols old new changed
   given : (t : ℕ) → BeginsBy old symbols t → IsAmongFirsts new rule t
-  others_empty : (r : ℕ) → IsEpsilon new r → IsEpsilon old r ⊎ (r ≡ rule)
-  kept_empty : (r : ℕ) → IsEpsilon old r → IsEpsilon new r
-  given_empty : AreNullableBy old symbols → IsEpsilon new rule
+  others_empty : (r : ℕ) → IsNullableRule new r → IsNullableRule old r ⊎ (r ≡ rule)
+  kept_empty : (r : ℕ) → IsNullableRule old r → IsNullableRule new r
+  given_empty : AreNullableBy old symbols → IsNullableRule new rule
 
 -- only the rule's set grew, and only if something changed
 abbrev pub GainsRule : ℕ → Bool → ℕ → Type 0
@@ -148,7 +148,7 @@ GainsRule rule changed r = (r ≡ rule) × (changed ≡ true)
 module _ (rule : ℕ) (symbols : List Sym) (old new : FirstSets) (changed : Bool) (w : Taken rule symbols old new changed) where
   -- a production that depends on no set that grew gives no more than the sets had given it before
   covered : (q : Production) → ((r : ℕ) → HoldsRule q r → GainsRule rule changed r → ⊥) → ((t : ℕ) → BeginsBy old q.symbols t → IsAmongFirsts new q.rule t)
-      → (AreNullableBy old q.symbols → IsEpsilon new q.rule) → HaveFirstsOf new q
+      → (AreNullableBy old q.symbols → IsNullableRule new q.rule) → CoverFirstsOf new q
   covered q none first empty = record {
     first = λ t h. first t (begins_among _ _ _ _ q.symbols t (λ r among on. back_empty r among on) (λ r among on. back r t among on) h);
     empty = λ h. empty (nullable_among _ _ q.symbols (λ r among on. back_empty r among on) h);
@@ -164,10 +164,10 @@ module _ (rule : ℕ) (symbols : List Sym) (old new : FirstSets) (changed : Bool
       back : (r t : ℕ) → HoldsRule q r → IsAmongFirsts new r t → IsAmongFirsts old r t
       back r t among on = elim (w.growth.others r t on) [ inl i ↦ i | inr e ↦ subst (λ x. IsAmongFirsts x r t) (unless r among e) on ]
 
-      back_empty : (r : ℕ) → HoldsRule q r → IsEpsilon new r → IsEpsilon old r
-      back_empty r among on = elim (w.others_empty r on) [ inl i ↦ i | inr e ↦ subst (λ x. IsEpsilon x r) (unless r among e) on ]
+      back_empty : (r : ℕ) → HoldsRule q r → IsNullableRule new r → IsNullableRule old r
+      back_empty r among on = elim (w.others_empty r on) [ inl i ↦ i | inr e ↦ subst (λ x. IsNullableRule x r) (unless r among e) on ]
 
-  takes : AddsProduction SayFirsts HaveFirstsOf count_firsts HoldsRule HasNoMoreFirsts (record { rule = rule; symbols = symbols }) old new (GainsRule rule changed)
+  takes : AddsProduction AreSoundFirsts CoverFirstsOf count_firsts HoldsRule HasNoMoreFirsts (record { rule = rule; symbols = symbols }) old new (GainsRule rule changed)
   takes = record {
     sound = w.growth.sound;
     no_less = by changed refl;
@@ -187,7 +187,7 @@ module _ (rule : ℕ) (symbols : List Sym) (old new : FirstSets) (changed : Bool
           ]) in
           let empty = bits_on-fewer new.nullable old.nullable (λ q on. elim (w.others_empty q on) [
             | inl i ↦ i
-            | inr e ↦ subst (λ k. IsEpsilon old k) (h.0 ∙ sym e) (none.empty (subst (λ k. IsEpsilon new k) (e ∙ sym h.0) on))
+            | inr e ↦ subst (λ k. IsNullableRule old k) (h.0 ∙ sym e) (none.empty (subst (λ k. IsNullableRule new k) (e ∙ sym h.0) on))
           ]) in
           omega (arith, more, first, empty)
 
@@ -204,7 +204,7 @@ module _ (rule : ℕ) (symbols : List Sym) (old new : FirstSets) (changed : Bool
           changed_by true is e = (e, is)
           changed_by false is e = absurd (unless (record {
             first = λ t on. subst (λ x. IsAmongFirsts x r t) (w.growth.same is) on;
-            empty = λ on. subst (λ x. IsEpsilon x r) (w.growth.same is) on;
+            empty = λ on. subst (λ x. IsNullableRule x r) (w.growth.same is) on;
           }))
 
       by : (b : Bool) → changed ≡ b → count_firsts old ≤ count_firsts new
@@ -258,14 +258,14 @@ module _ (rule : ℕ) (symbols : List Sym) where
     }
 
     -- the symbol is a nullable rule, or it isn't
-    tested : (b : Bool) → is_empty_symbol new s ≡ b → is_empty_symbol old s ≡ b
-    tested b e = subst (λ l. is_empty_symbol (record { firsts = old.firsts; nullable = l }) s ≡ b) (one.nullable ∙ w.walked.nullable) (test_by s e)
+    tested : (b : Bool) → is_nullable_symbol new s ≡ b → is_nullable_symbol old s ≡ b
+    tested b e = subst (λ l. is_nullable_symbol (record { firsts = old.firsts; nullable = l }) s ≡ b) (one.nullable ∙ w.walked.nullable) (test_by s e)
       where
-        test_by : (s : Sym) → is_empty_symbol new s ≡ b → is_empty_symbol (record { firsts = old.firsts; nullable = new.nullable }) s ≡ b
+        test_by : (s : Sym) → is_nullable_symbol new s ≡ b → is_nullable_symbol (record { firsts = old.firsts; nullable = new.nullable }) s ≡ b
         test_by (Rule r) h = h
         test_by (Token u) h = h
 
-    pub visits_one : is_empty_symbol new s ≡ true → Visits rule symbols (n + 1) old new (c || d)
+    pub visits_one : is_nullable_symbol new s ≡ true → Visits rule symbols (n + 1) old new (c || d)
     visits_one e = record {
       became_nullable = subst (λ l. AreNullableBy old l) (sym longer)
           (nullable_both _ (take n symbols) (s ∷ []) w.became_nullable (nullable_alone old s (tested true e)));
@@ -273,8 +273,8 @@ module _ (rule : ℕ) (symbols : List Sym) where
     }
 
     -- the visit ends at a symbol that isn't a nullable rule
-    pub visits_end : is_empty_symbol new s ≡ false
-        → AddsProduction SayFirsts HaveFirstsOf count_firsts HoldsRule HasNoMoreFirsts (record { rule = rule; symbols = symbols }) old new (GainsRule rule (c || d))
+    pub visits_end : is_nullable_symbol new s ≡ false
+        → AddsProduction AreSoundFirsts CoverFirstsOf count_firsts HoldsRule HasNoMoreFirsts (record { rule = rule; symbols = symbols }) old new (GainsRule rule (c || d))
     visits_end e = takes rule symbols old new (c || d) (record {
       growth = walked.growth;
       given = λ t h. elim (begins_parts _ _ (take (n + 1) symbols) (drop (n + 1) symbols) t
@@ -292,13 +292,13 @@ module _ (rule : ℕ) (symbols : List Sym) where
         stays v = stays_alone old s (tested false e) (nullable_parts _ (take n symbols) (s ∷ []) (subst (λ l. AreNullableBy old l) longer v)).1
 
   -- all symbols are nullable, and the rule was marked as nullable
-  pub visits_all : (g : Grammar) (n : ℕ) (old mid new : FirstSets) (c d : Bool) → IsGrammar g → HasProduction g rule symbols → SayFirsts g old
-      → length symbols ≤ n → Visits rule symbols n old mid c → new ≡ with_epsilon mid rule
-      → MatchBool d (epsilon_bit mid rule ≡ false) (epsilon_bit mid rule ≡ true)
-      → AddsProduction SayFirsts HaveFirstsOf count_firsts HoldsRule HasNoMoreFirsts (record { rule = rule; symbols = symbols }) old new (GainsRule rule (c || d))
+  pub visits_all : (g : Grammar) (n : ℕ) (old mid new : FirstSets) (c d : Bool) → IsGrammar g → HasProduction g rule symbols → AreSoundFirsts g old
+      → length symbols ≤ n → Visits rule symbols n old mid c → new ≡ with_nullable mid rule
+      → MatchBool d (nullable_bit mid rule ≡ false) (nullable_bit mid rule ≡ true)
+      → AddsProduction AreSoundFirsts CoverFirstsOf count_firsts HoldsRule HasNoMoreFirsts (record { rule = rule; symbols = symbols }) old new (GainsRule rule (c || d))
   visits_all g n old mid new c d is has say le w put was = takes rule symbols old new (c || d) (record {
     growth = record {
-      sound = λ g' is' has' say'. subst (λ x. SayFirsts g' x) (sym put) (say_epsilon g' rule symbols has' mid (w.walked.growth.sound g' is' has' say')
+      sound = λ g' is' has' say'. subst (λ x. AreSoundFirsts g' x) (sym put) (say_epsilon g' rule symbols has' mid (w.walked.growth.sound g' is' has' say')
           (subst (λ l. AreNullable (λ r. IsTrue (get_or l r false)) symbols) (sym w.walked.nullable) became_nullable));
       more = grown count_firsts old mid new c d w.walked.growth.more w.walked.growth.same
           (λ e. subst (λ x. count_firsts mid < count_firsts x) (sym put)
@@ -309,14 +309,14 @@ module _ (rule : ℕ) (symbols : List Sym) where
     };
     given = λ t h. subst (λ x. IsAmongFirsts x rule t) (sym put) (w.walked.given t (subst (λ l. BeginsBy old l t) (sym all) h));
     others_empty = λ r h. elim (get_or-set mid.nullable rule r true false) [
-      | inl e ↦ inl (subst (λ l. IsTrue (get_or l r false)) w.walked.nullable (sym e ∙ subst (λ x. IsEpsilon x r) put h))
+      | inl e ↦ inl (subst (λ l. IsTrue (get_or l r false)) w.walked.nullable (sym e ∙ subst (λ x. IsNullableRule x r) put h))
       | inr e ↦ inr e.0
     ];
-    kept_empty = λ r h. subst (λ x. IsEpsilon x r) (sym put) (elim (get_or-set mid.nullable rule r true false) [
+    kept_empty = λ r h. subst (λ x. IsNullableRule x r) (sym put) (elim (get_or-set mid.nullable rule r true false) [
       | inl e ↦ e ∙ subst (λ l. IsTrue (get_or l r false)) (sym w.walked.nullable) h
       | inr e ↦ e.1
     ]);
-    given_empty = λ h. subst (λ x. IsEpsilon x rule) (sym put) (get_or-set_same mid.nullable rule true false within);
+    given_empty = λ h. subst (λ x. IsNullableRule x rule) (sym put) (get_or-set_same mid.nullable rule true false within);
   })
     where
       all : take n symbols ≡ symbols
@@ -328,11 +328,11 @@ module _ (rule : ℕ) (symbols : List Sym) where
       within : rule < length mid.nullable
       within = subst (λ k. rule < k) (sym (w.walked.growth.sound g is has say).fits.nullable) (owner g _ is has)
 
-      at : (d : Bool) → d ≡ true → MatchBool d (epsilon_bit mid rule ≡ false) (epsilon_bit mid rule ≡ true) → epsilon_bit mid rule ≡ false
+      at : (d : Bool) → d ≡ true → MatchBool d (nullable_bit mid rule ≡ false) (nullable_bit mid rule ≡ true) → nullable_bit mid rule ≡ false
       at true e h = h
       at false e h = absurd (true≢false (sym e))
 
-      on : (d : Bool) → d ≡ false → MatchBool d (epsilon_bit mid rule ≡ false) (epsilon_bit mid rule ≡ true) → epsilon_bit mid rule ≡ true
+      on : (d : Bool) → d ≡ false → MatchBool d (nullable_bit mid rule ≡ false) (nullable_bit mid rule ≡ true) → nullable_bit mid rule ≡ true
       on true e h = absurd (true≢false e)
       on false e h = h
 
@@ -342,8 +342,8 @@ module _ (rule : ℕ) (symbols : List Sym) where
 
 -- the rule waits if its set grew
 gains_rule : (rule : ℕ) (p : Production) (old new : FirstSets) (changed : Bool) (gained : ℕ → Type 0) → ((r : ℕ) → gained r → GainsRule rule changed r)
-    → ((r : ℕ) → GainsRule rule changed r → gained r) → AddsProduction SayFirsts HaveFirstsOf count_firsts HoldsRule HasNoMoreFirsts p old new (GainsRule rule changed)
-    → AddsProduction SayFirsts HaveFirstsOf count_firsts HoldsRule HasNoMoreFirsts p old new gained
+    → ((r : ℕ) → GainsRule rule changed r → gained r) → AddsProduction AreSoundFirsts CoverFirstsOf count_firsts HoldsRule HasNoMoreFirsts p old new (GainsRule rule changed)
+    → AddsProduction AreSoundFirsts CoverFirstsOf count_firsts HoldsRule HasNoMoreFirsts p old new gained
 gains_rule rule p old new changed gained to from w = record {
   sound = w.sound;
   no_less = w.no_less;
@@ -355,8 +355,8 @@ gains_rule rule p old new changed gained to from w = record {
 
 pub gains_put : (rule index : ℕ) (p : Production) (old new : FirstSets) (changed : Bool) (waiting waiting' : List Bool) → NoneWaits waiting
     → index < length waiting → index ≡ rule → waiting' ≡ slice_set waiting index true → changed ≡ true
-    → AddsProduction SayFirsts HaveFirstsOf count_firsts HoldsRule HasNoMoreFirsts p old new (GainsRule rule changed)
-    → AddsProduction SayFirsts HaveFirstsOf count_firsts HoldsRule HasNoMoreFirsts p old new (Waits waiting')
+    → AddsProduction AreSoundFirsts CoverFirstsOf count_firsts HoldsRule HasNoMoreFirsts p old new (GainsRule rule changed)
+    → AddsProduction AreSoundFirsts CoverFirstsOf count_firsts HoldsRule HasNoMoreFirsts p old new (Waits waiting')
 gains_put rule index p old new changed waiting waiting' none lt at put on w = gains_rule rule p old new changed (Waits waiting')
     (λ r h. elim ((bit_put waiting index lt r).0 (subst (λ l. Waits l r) put h)) [
       | inl i ↦ absurd (true≢false (sym i ∙ none r))
@@ -365,7 +365,7 @@ gains_put rule index p old new changed waiting waiting' none lt at put on w = ga
     (λ r h. subst (λ l. Waits l r) (sym put) ((bit_put waiting index lt r).1 (inr (h.0 ∙ sym at)))) w
 
 pub gains_none : (rule : ℕ) (p : Production) (old new : FirstSets) (changed : Bool) (waiting : List Bool) → NoneWaits waiting → changed ≡ false
-    → AddsProduction SayFirsts HaveFirstsOf count_firsts HoldsRule HasNoMoreFirsts p old new (GainsRule rule changed)
-    → AddsProduction SayFirsts HaveFirstsOf count_firsts HoldsRule HasNoMoreFirsts p old new (Waits waiting)
+    → AddsProduction AreSoundFirsts CoverFirstsOf count_firsts HoldsRule HasNoMoreFirsts p old new (GainsRule rule changed)
+    → AddsProduction AreSoundFirsts CoverFirstsOf count_firsts HoldsRule HasNoMoreFirsts p old new (Waits waiting)
 gains_none rule p old new changed waiting none off w = gains_rule rule p old new changed (Waits waiting)
     (λ r h. absurd (true≢false (sym h ∙ none r))) (λ r h. absurd (true≢false (sym h.1 ∙ off))) w

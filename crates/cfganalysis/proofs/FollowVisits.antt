@@ -10,8 +10,8 @@ use Rattle.derivation.proofs.Firsts.{nullable_map, begins_map, derived_closed}
 use Rattle.derivation.proofs.Follows.{derived_flows, closed_follow, closed_end, end_of_start}
 use Rattle.search.proofs.Bits.{bit_put}
 use Rattle.cfganalysis.specs.Table.{HasBit, count_of, IsTable, Joins, no_bits, with_bit}
-use Rattle.cfganalysis.specs.Firsts.{AreFirsts, IsAmongFirsts, IsEpsilon, FirstSets}
-use Rattle.cfganalysis.specs.Inner.GrowingFollows.{FollowSets, SayFollows, HasNoMoreFollows, HaveFollowsOf, IsOwner, FlowIn, After, Puts, PutsAfter, count_follows}
+use Rattle.cfganalysis.specs.Firsts.{AreFirsts, IsAmongFirsts, IsNullableRule, FirstSets}
+use Rattle.cfganalysis.specs.Inner.GrowingFollows.{FollowSets, AreSoundFollows, HasNoMoreFollows, CoverFollowsOf, IsOwner, FlowIn, After, Puts, PutsAfter, count_follows}
 use Rattle.cfganalysis.specs.Inner.Growth.{AddsProduction, CoversEach}
 use Rattle.cfganalysis.specs.Inner.Waiting.{waits, Waits, NoneWaits}
 use Rattle.cfganalysis.proofs.Joins.{count_of-fewer, bit-no_bits, IsTable-no_bits, joins_bit}
@@ -85,7 +85,7 @@ module _ (q : ℕ) (gives : ℕ → Type 0) (old new : FollowSets) (changed : Bo
 
 -- What follows the symbols from the n-th on was added. They stay covered later, as long as the rule's set is as it was.
 pub record Flowing (rule : ℕ) (symbols : List Sym) (n : ℕ) (old new : FollowSets) (none waiting : List Bool) : Type 0 where
-  pub sound : (g : Grammar) → IsGrammar g → HasProduction g rule symbols → SayFollows g old → SayFollows g new
+  pub sound : (g : Grammar) → IsGrammar g → HasProduction g rule symbols → AreSoundFollows g old → AreSoundFollows g new
   pub firsts : new.firsts ≡ old.firsts
   pub no_less : count_follows old ≤ count_follows new
   pub rules : length waiting ≡ length none
@@ -99,8 +99,8 @@ pub record Flowing (rule : ℕ) (symbols : List Sym) (n : ℕ) (old new : Follow
 -- what follows a symbol still follows it after its rule's set grew
 pub after_grow : (old new : FollowSets) (rule : ℕ) (a : List Sym) (t : ℕ) → new.firsts ≡ old.firsts
     → (HasBit old.follows rule t → HasBit new.follows rule t) → After old rule a t → After new rule a t
-after_grow old new rule a t e grow (inl b) = inl (subst (λ f. Begins (IsEpsilon f) (IsAmongFirsts f) a t) (sym e) b)
-after_grow old new rule a t e grow (inr b) = inr (subst (λ f. AreNullable (IsEpsilon f) a) (sym e) b.0, grow b.1)
+after_grow old new rule a t e grow (inl b) = inl (subst (λ f. Begins (IsNullableRule f) (IsAmongFirsts f) a t) (sym e) b)
+after_grow old new rule a t e grow (inr b) = inr (subst (λ f. AreNullable (IsNullableRule f) a) (sym e) b.0, grow b.1)
 
 -- the equations hold for a suffix of a list if they hold for the list
 flows_drop : (E : ℕ → Type 0) (F W : ℕ → ℕ → Type 0) (k : ℕ → Type 0) (n : ℕ) (a : List Sym) → Flows E F W a k → Flows E F W (drop n a) k
@@ -110,7 +110,7 @@ flows_drop E F W k (suc n) (Token u ∷ a) h = flows_drop E F W k n a h
 flows_drop E F W k (suc n) (Rule q ∷ a) h = flows_drop E F W k n a h.2
 
 -- what follows a rule in a production may follow the rule
-may_follow : (g : Grammar) (rule : ℕ) (rest : List Sym) (x : FollowSets) (s : Sym) (r t : ℕ) → SayFollows g x
+may_follow : (g : Grammar) (rule : ℕ) (rest : List Sym) (x : FollowSets) (s : Sym) (r t : ℕ) → AreSoundFollows g x
     → Flows (Nullable (HasProduction g)) (First (HasProduction g)) (MayFollow g) (s ∷ rest) (MayFollow g rule)
     → Rule r ≡ s → After x rule rest t → MayFollow g r t
 may_follow g rule rest x s r t say flows e h =
@@ -120,8 +120,8 @@ may_follow g rule rest x s r t say flows e h =
       | inr v ↦ f.1 (nullable_map _ _ (λ q i. (say.firsts.empty q).0 i) rest v.0) t (say.follow rule t v.1)
     ]
 
-say_puts : (g : Grammar) (gives : ℕ → ℕ → Type 0) (old new : FollowSets) (waiting waiting' : List Bool) → SayFollows g old
-    → PutsAfter gives old new waiting waiting' → ((r t : ℕ) → gives r t → MayFollow g r t) → SayFollows g new
+say_puts : (g : Grammar) (gives : ℕ → ℕ → Type 0) (old new : FollowSets) (waiting waiting' : List Bool) → AreSoundFollows g old
+    → PutsAfter gives old new waiting waiting' → ((r t : ℕ) → gives r t → MayFollow g r t) → AreSoundFollows g new
 say_puts g gives old new waiting waiting' say w may = record {
   firsts = subst (λ f. AreFirsts g f) (sym w.firsts) say.firsts;
   fits = w.shape g.rules g.tokens say.fits;
@@ -199,7 +199,7 @@ module _ (rule : ℕ) (symbols : List Sym) where
 
   pub flowing_all : (n : ℕ) (old new : FollowSets) (none waiting : List Bool) → n ≡ 0 → NoneWaits none
       → Flowing rule symbols n old new none waiting
-      → AddsProduction SayFollows HaveFollowsOf count_follows IsOwner HasNoMoreFollows (record { rule = rule; symbols = symbols }) old new (Waits waiting)
+      → AddsProduction AreSoundFollows CoverFollowsOf count_follows IsOwner HasNoMoreFollows (record { rule = rule; symbols = symbols }) old new (Waits waiting)
   flowing_all n old new none waiting start idle w = record {
     sound = w.sound;
     no_less = w.no_less;
@@ -210,9 +210,9 @@ module _ (rule : ℕ) (symbols : List Sym) where
     );
     closed = λ unless. subst (λ k. FlowIn new rule (drop k symbols)) start
         (w.closed new w.firsts (λ r t h. h) (λ t h. back rule (unless rule refl) t h));
-    stays = λ q unless had. flows_grow (IsEpsilon new.firsts) (IsAmongFirsts new.firsts) (HasBit old.follows) (HasBit new.follows)
+    stays = λ q unless had. flows_grow (IsNullableRule new.firsts) (IsAmongFirsts new.firsts) (HasBit old.follows) (HasBit new.follows)
         (HasBit old.follows q.rule) (HasBit new.follows q.rule) q.symbols w.kept (λ t h. back q.rule (unless q.rule refl) t h)
-        (subst (λ f. Flows (IsEpsilon f) (IsAmongFirsts f) (HasBit old.follows) q.symbols (HasBit old.follows q.rule)) (sym w.firsts) had);
+        (subst (λ f. Flows (IsNullableRule f) (IsAmongFirsts f) (HasBit old.follows) q.symbols (HasBit old.follows q.rule)) (sym w.firsts) had);
   }
     where
       back : (r : ℕ) → (Waits waiting r → ⊥) → (t : ℕ) → HasBit new.follows r t → HasBit old.follows r t
@@ -223,7 +223,7 @@ module _ (rule : ℕ) (symbols : List Sym) where
       waits_by r false off unless = absurd (unless (back r (λ on. true≢false (sym on ∙ off))))
 
 -- exact FIRST sets are closed
-firsts_closed : (g : Grammar) (x : FirstSets) → AreFirsts g x → IsClosed (HasProduction g) (IsEpsilon x) (IsAmongFirsts x)
+firsts_closed : (g : Grammar) (x : FirstSets) → AreFirsts g x → IsClosed (HasProduction g) (IsNullableRule x) (IsAmongFirsts x)
 firsts_closed g x are r symbols has =
     let d = derived_closed (HasProduction g) r symbols has in
     record {
@@ -232,7 +232,7 @@ firsts_closed g x are r symbols has =
     }
 
 -- sets that say nothing wrong, to which no production has anything to add, are exact
-pub are_follows : (g : Grammar) (x : FollowSets) → SayFollows g x → CoversEach HaveFollowsOf g x → AreFollows g x.follows
+pub are_follows : (g : Grammar) (x : FollowSets) → AreSoundFollows g x → CoversEach CoverFollowsOf g x → AreFollows g x.follows
 are_follows g x say covered = record {
   fits = say.fits;
   follow = λ r t. (
@@ -244,19 +244,19 @@ are_follows g x say covered = record {
   );
 }
   where
-    closed : IsClosed (HasProduction g) (IsEpsilon x.firsts) (IsAmongFirsts x.firsts)
+    closed : IsClosed (HasProduction g) (IsNullableRule x.firsts) (IsAmongFirsts x.firsts)
     closed = firsts_closed g x.firsts say.firsts
 
-    flows : IsFollowClosed (HasProduction g) (IsEpsilon x.firsts) (IsAmongFirsts x.firsts) (HasBit x.follows)
+    flows : IsFollowClosed (HasProduction g) (IsNullableRule x.firsts) (IsAmongFirsts x.firsts) (HasBit x.follows)
     flows r symbols has = subst (λ (p : Production). FlowIn x p.rule p.symbols)
         (get_or_default g.productions has.0 _ _ has.1 ∙ has.2) (covered has.0 has.1)
 
 -- at first the end token follows the start rule, and nothing else follows anything
 pub say_start : (g : Grammar) (f : FirstSets) (rules tokens : ℕ) → IsGrammar g → AreFirsts g f → rules ≡ g.rules → tokens ≡ g.tokens
-    → SayFollows g (record { firsts = f; follows = with_bit (no_bits rules tokens) 0 (tokens - 1) })
+    → AreSoundFollows g (record { firsts = f; follows = with_bit (no_bits rules tokens) 0 (tokens - 1) })
 say_start g f rules tokens is are e h =
-    subst (λ n. SayFollows g (record { firsts = f; follows = with_bit (no_bits n tokens) 0 (tokens - 1) })) (sym e)
-    (subst (λ n. SayFollows g (record { firsts = f; follows = with_bit (no_bits g.rules n) 0 (n - 1) })) (sym h) (record {
+    subst (λ n. AreSoundFollows g (record { firsts = f; follows = with_bit (no_bits n tokens) 0 (tokens - 1) })) (sym e)
+    (subst (λ n. AreSoundFollows g (record { firsts = f; follows = with_bit (no_bits g.rules n) 0 (n - 1) })) (sym h) (record {
       firsts = are;
       fits = one.shape g.rules g.tokens table;
       finish = λ t e. let index : t ≡ g.tokens - 1 = omega (arith, e) in (one.bits 0 t).1 (inr (refl, index));

@@ -9,14 +9,14 @@ use Rattle.derivation.specs.Grammar.{Sym, Rule, Token, Grammar, IsSymbolOf}
 use Rattle.derivation.specs.FirstSets.{AreNullable, Begins}
 use Rattle.derivation.proofs.Firsts.{nullable_parts, nullable_both, begins_parts}
 use Rattle.cfgindex.specs.declared.idxnewtype.Symbol.{Symbol}
-use Rattle.cfganalysis.specs.declared.follows.Prefix.{Prefix}
-use Rattle.cfganalysis.specs.declared.follows.Prefix.TheVariants as prefixes
+use Rattle.cfganalysis.specs.declared.follows.Lookahead.{Lookahead}
+use Rattle.cfganalysis.specs.declared.follows.Lookahead.TheVariants as prefixes
 use Rattle.cfgtables.specs.NumberedSymbols.{sym_of}
 use Rattle.cfganalysis.specs.Table.{HasBit, row_of}
 use Rattle.cfganalysis.specs.Inner.Joined.{joined}
-use Rattle.cfganalysis.specs.Firsts.{IsAmongFirsts, IsEpsilon}
-use Rattle.cfganalysis.specs.Inner.GrowingFirsts.{is_empty_symbol}
-use Rattle.cfganalysis.specs.Inner.GrowingFollows.{FollowSets, BeginsList, NullableList, After, IsGathered, Gathers, PrefixGives, IsPrefixOf, IsEnd, StepsBack}
+use Rattle.cfganalysis.specs.Firsts.{IsAmongFirsts, IsNullableRule}
+use Rattle.cfganalysis.specs.Inner.GrowingFirsts.{is_nullable_symbol}
+use Rattle.cfganalysis.specs.Inner.GrowingFollows.{FollowSets, BeginsList, NullableList, After, IsGathered, Gathers, LookaheadHas, IsLookaheadOf, IsEnd, LookaheadBefore}
 use Rattle.cfganalysis.proofs.FirstVisits.{begins_prefix, begins_past, nullable_alone, stays_alone}
 use Rattle.cfganalysis.proofs.FollowVisits.{after_grow}
 
@@ -63,20 +63,20 @@ module _ (gives : ℕ → Type 0) (old none new : List Bool) (bare : none ≡ re
   )
 
 -- The next tokens before the n-th symbol: all that came next at the start, and only what comes next now or later, as sets grow.
-pub record Fronting {S : Type 0} (number : S → ℕ) (rule : ℕ) (symbols : List Sym) (n wide : ℕ) (old new : FollowSets) (prefix : Prefix S)
+pub record Fronting {S : Type 0} (number : S → ℕ) (rule : ℕ) (symbols : List Sym) (n wide : ℕ) (old new : FollowSets) (prefix : Lookahead S)
     (tokens : List Bool) : Type 0 where
-  pub fits : (g : Grammar) → All (IsSymbolOf g) symbols → IsPrefixOf number g prefix
+  pub fits : (g : Grammar) → All (IsSymbolOf g) symbols → IsLookaheadOf number g prefix
   pub long : length tokens ≡ wide
   pub below : (x : FollowSets) → x.firsts ≡ old.firsts → Grows new x → (t : ℕ) → After old rule (drop n symbols) t
-      → PrefixGives number x rule tokens prefix t
-  pub above : (x : FollowSets) → x.firsts ≡ old.firsts → Grows new x → (t : ℕ) → PrefixGives number x rule tokens prefix t
+      → LookaheadHas number x rule tokens prefix t
+  pub above : (x : FollowSets) → x.firsts ≡ old.firsts → Grows new x → (t : ℕ) → LookaheadHas number x rule tokens prefix t
       → After x rule (drop n symbols) t
 
 module _ {S : Type 0} (number : S → ℕ) (rule : ℕ) where
   -- before a symbol that isn't nullable, the next tokens are what it begins with
-  pub steps_over : (x : FollowSets) (symbol : Symbol S) (prefix : Prefix S) (tokens : List Bool)
-      → is_empty_symbol x.firsts (sym_of number symbol) ≡ false
-      → StepsBack number x rule (sym_of number symbol) prefix tokens (prefixes.Symbol symbol) tokens
+  pub steps_over : (x : FollowSets) (symbol : Symbol S) (prefix : Lookahead S) (tokens : List Bool)
+      → is_nullable_symbol x.firsts (sym_of number symbol) ≡ false
+      → LookaheadBefore number x rule (sym_of number symbol) prefix tokens (prefixes.Symbol symbol) tokens
   steps_over x symbol prefix tokens e = record {
     past = λ t. ((λ h. inl h), (λ h. elim h [ inl i ↦ i | inr i ↦ absurd (stays_alone x.firsts (sym_of number symbol) e i.0) ]));
     begun = λ h. h;
@@ -85,9 +85,9 @@ module _ {S : Type 0} (number : S → ℕ) (rule : ℕ) where
   }
 
   -- before a nullable symbol, the next tokens after it are gathered too
-  pub steps_through : (x : FollowSets) (s : Sym) (prefix : Prefix S) (tokens mid tokens' : List Bool) → is_empty_symbol x.firsts s ≡ true
-      → length mid ≡ length tokens → ((t : ℕ) → (IsGathered mid t ↔ PrefixGives number x rule tokens prefix t))
-      → Gathers (BeginsList x (s ∷ [])) mid tokens' → StepsBack number x rule s prefix tokens prefixes.Gathered tokens'
+  pub steps_through : (x : FollowSets) (s : Sym) (prefix : Lookahead S) (tokens mid tokens' : List Bool) → is_nullable_symbol x.firsts s ≡ true
+      → length mid ≡ length tokens → ((t : ℕ) → (IsGathered mid t ↔ LookaheadHas number x rule tokens prefix t))
+      → Gathers (BeginsList x (s ∷ [])) mid tokens' → LookaheadBefore number x rule s prefix tokens prefixes.Gathered tokens'
   steps_through x s prefix tokens mid tokens' e long at w = record {
     past = λ t. (
       (λ h. elim ((w.tokens t).0 h) [ inl i ↦ inr (nullable_alone x.firsts s e, (at t).0 i) | inr i ↦ inl i ]),
@@ -98,18 +98,18 @@ module _ {S : Type 0} (number : S → ℕ) (rule : ℕ) where
     long = w.long ∙ long;
   }
 
-  gives_grow : (x y : FollowSets) (tokens : List Bool) (prefix : Prefix S) (t : ℕ) → y.firsts ≡ x.firsts → Grows x y
-      → PrefixGives number x rule tokens prefix t → PrefixGives number y rule tokens prefix t
+  gives_grow : (x y : FollowSets) (tokens : List Bool) (prefix : Lookahead S) (t : ℕ) → y.firsts ≡ x.firsts → Grows x y
+      → LookaheadHas number x rule tokens prefix t → LookaheadHas number y rule tokens prefix t
   gives_grow x y tokens prefixes.End t e grow h = grow rule t h
   gives_grow x y tokens (prefixes.Symbol symbol) t e grow h =
-      subst (λ f. Begins (IsEpsilon f) (IsAmongFirsts f) (sym_of number symbol ∷ []) t) (sym e) h
+      subst (λ f. Begins (IsNullableRule f) (IsAmongFirsts f) (sym_of number symbol ∷ []) t) (sym e) h
   gives_grow x y tokens prefixes.Gathered t e grow h = h
 
-  gives_stays : (x y : FollowSets) (tokens : List Bool) (prefix : Prefix S) (t : ℕ) → (IsEnd prefix → ⊥) → y.firsts ≡ x.firsts
-      → PrefixGives number y rule tokens prefix t → PrefixGives number x rule tokens prefix t
+  gives_stays : (x y : FollowSets) (tokens : List Bool) (prefix : Lookahead S) (t : ℕ) → (IsEnd prefix → ⊥) → y.firsts ≡ x.firsts
+      → LookaheadHas number y rule tokens prefix t → LookaheadHas number x rule tokens prefix t
   gives_stays x y tokens prefixes.End t begun e h = absurd (begun tt)
   gives_stays x y tokens (prefixes.Symbol symbol) t begun e h =
-      subst (λ f. Begins (IsEpsilon f) (IsAmongFirsts f) (sym_of number symbol ∷ []) t) e h
+      subst (λ f. Begins (IsNullableRule f) (IsAmongFirsts f) (sym_of number symbol ∷ []) t) e h
   gives_stays x y tokens prefixes.Gathered t begun e h = h
 
   module _ (symbols : List Sym) where
@@ -123,10 +123,10 @@ module _ {S : Type 0} (number : S → ℕ) (rule : ℕ) where
     }
 
     -- one symbol back
-    pub fronting_one : (n wide : ℕ) (s : Sym) (rest : List Sym) (old mid new : FollowSets) (prefix prefix' : Prefix S) (tokens tokens' : List Bool)
+    pub fronting_one : (n wide : ℕ) (s : Sym) (rest : List Sym) (old mid new : FollowSets) (prefix prefix' : Lookahead S) (tokens tokens' : List Bool)
         → drop n symbols ≡ s ∷ rest → rest ≡ drop (n + 1) symbols → ((g : Grammar) → All (IsSymbolOf g) symbols → IsSymbolOf g s)
         → Fronting number rule symbols (n + 1) wide old mid prefix tokens → new.firsts ≡ old.firsts → Grows mid new
-        → StepsBack number new rule s prefix tokens prefix' tokens' → Fronting number rule symbols n wide old new prefix' tokens'
+        → LookaheadBefore number new rule s prefix tokens prefix' tokens' → Fronting number rule symbols n wide old new prefix' tokens'
     fronting_one n wide s rest old mid new prefix prefix' tokens tokens' at after of w same grew step = record {
       fits = λ g all. step.fits g (of g all);
       long = step.long ∙ w.long;
@@ -137,27 +137,27 @@ module _ {S : Type 0} (number : S → ℕ) (rule : ℕ) where
           (on t ((step.past t).0 (gives_stays new x tokens' prefix' t step.begun (e ∙ sym same) h))));
     }
       where
-        prefixes_below : (t : ℕ) → After old rule rest t → PrefixGives number new rule tokens prefix t
+        prefixes_below : (t : ℕ) → After old rule rest t → LookaheadHas number new rule tokens prefix t
         prefixes_below t h = w.below new same grew t (subst (λ l. After old rule l t) after h)
 
-        prefixes_above : (t : ℕ) → PrefixGives number new rule tokens prefix t → After new rule rest t
+        prefixes_above : (t : ℕ) → LookaheadHas number new rule tokens prefix t → After new rule rest t
         prefixes_above t h = subst (λ l. After new rule l t) (sym after) (w.above new same grew t h)
 
         begins_now : (t : ℕ) → BeginsList old (s ∷ []) t → BeginsList new (s ∷ []) t
-        begins_now t h = subst (λ f. Begins (IsEpsilon f) (IsAmongFirsts f) (s ∷ []) t) (sym same) h
+        begins_now t h = subst (λ f. Begins (IsNullableRule f) (IsAmongFirsts f) (s ∷ []) t) (sym same) h
 
         nullable_now : NullableList old (s ∷ []) → NullableList new (s ∷ [])
-        nullable_now h = subst (λ f. AreNullable (IsEpsilon f) (s ∷ [])) (sym same) h
+        nullable_now h = subst (λ f. AreNullable (IsNullableRule f) (s ∷ [])) (sym same) h
 
         back : (t : ℕ) → After old rule (s ∷ rest) t
-            → BeginsList new (s ∷ []) t ⊎ (NullableList new (s ∷ []) × PrefixGives number new rule tokens prefix t)
+            → BeginsList new (s ∷ []) t ⊎ (NullableList new (s ∷ []) × LookaheadHas number new rule tokens prefix t)
         back t (inl h) = elim (begins_parts _ _ (s ∷ []) rest t h) [
           | inl i ↦ inl (begins_now t i)
           | inr i ↦ inr (nullable_now i.0, prefixes_below t (inl i.1))
         ]
         back t (inr h) = let v = nullable_parts _ (s ∷ []) rest h.0 in inr (nullable_now v.0, prefixes_below t (inr (v.1, h.1)))
 
-        on : (t : ℕ) → BeginsList new (s ∷ []) t ⊎ (NullableList new (s ∷ []) × PrefixGives number new rule tokens prefix t)
+        on : (t : ℕ) → BeginsList new (s ∷ []) t ⊎ (NullableList new (s ∷ []) × LookaheadHas number new rule tokens prefix t)
             → After new rule (s ∷ rest) t
         on t (inl h) = inl (begins_prefix _ _ (s ∷ []) rest t h)
         on t (inr h) = elim (prefixes_above t h.1) [

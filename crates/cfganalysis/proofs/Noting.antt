@@ -10,7 +10,7 @@ use Rattle.lemmas.proofs.Taken.{contains_taken}
 use Rattle.search.proofs.Bits.{bit_put}
 use Rattle.derivation.specs.Grammar.{Sym, Rule, Token}
 use Rattle.cfganalysis.specs.Inner.Waiting.{Waits, NoneWaits, WaitsNoMore}
-use Rattle.cfganalysis.specs.Inner.Work.{users_of, Notes, RestsOnGained, LetsWait}
+use Rattle.cfganalysis.specs.Inner.Work.{users_of, Notes, DependsOnGrown, Queues}
 
 -- a production was noted with one rule
 pub notes_one : (users : List (List ℕ)) (rule p : ℕ) → rule < length users
@@ -69,17 +69,17 @@ notes_then p rests rests' old mid new w v = record {
 }
 
 -- the first n productions of a list were queued
-pub record LetsWaitPrefix (list : List ℕ) (n : ℕ) (old new : List Bool) : Type 0 where
+pub record QueuesLookahead (list : List ℕ) (n : ℕ) (old new : List Bool) : Type 0 where
   pub shape : length new ≡ length old
   pub waits : (q : ℕ) → (Waits new q ↔ (Waits old q ⊎ Contains (take n list) q))
 
 module _ (list : List ℕ) where
-  pub lets_wait_none : (x : List Bool) → LetsWaitPrefix list 0 x x
+  pub lets_wait_none : (x : List Bool) → QueuesLookahead list 0 x x
   lets_wait_none x = record { shape = refl; waits = λ q. ((λ h. inl h), (λ h. elim h [ inl i ↦ i | inr i ↦ absurd (contains_none q i) ])) }
 
-  pub lets_wait_one : (n p : ℕ) (old mid new : List Bool) → n < length list → p ≡ get_or list n p → p < length mid → LetsWaitPrefix list n old mid
-      → new ≡ slice_set mid p true → LetsWaitPrefix list (n + 1) old new
-  lets_wait_one n p old mid new lt is within w put = subst (λ l. LetsWaitPrefix list (n + 1) old l) (sym put) (record {
+  pub lets_wait_one : (n p : ℕ) (old mid new : List Bool) → n < length list → p ≡ get_or list n p → p < length mid → QueuesLookahead list n old mid
+      → new ≡ slice_set mid p true → QueuesLookahead list (n + 1) old new
+  lets_wait_one n p old mid new lt is within w put = subst (λ l. QueuesLookahead list (n + 1) old l) (sym put) (record {
     shape = length-set mid p true ∙ w.shape;
     waits = adds_as (Contains (take (n + 1) list)) (λ q h. inr ((taken q).1 h)) (λ q h. inr ((taken q).0 h)) (adds_then w.waits (bit_put mid p within));
   })
@@ -87,11 +87,11 @@ module _ (list : List ℕ) where
       taken : (q : ℕ) → Contains (take (n + 1) list) q ↔ (Contains (take n list) q ⊎ (q ≡ p))
       taken = contains_taken list n p lt is
 
-  pub lets_wait_all : (users : List (List ℕ)) (rule n : ℕ) (old new : List Bool) → length list ≤ n → list ≡ users_of users rule → LetsWaitPrefix list n old new
-      → LetsWait users (λ r. r ≡ rule) old new
+  pub lets_wait_all : (users : List (List ℕ)) (rule n : ℕ) (old new : List Bool) → length list ≤ n → list ≡ users_of users rule → QueuesLookahead list n old new
+      → Queues users (λ r. r ≡ rule) old new
   lets_wait_all users rule n old new le is w = record {
     shape = w.shape;
-    waits = adds_as (RestsOnGained users (λ r. r ≡ rule))
+    waits = adds_as (DependsOnGrown users (λ r. r ≡ rule))
         (λ q h. inr (record { rule = rule; gains = refl; noted = subst (λ l. Contains l q) (take_all n list le ∙ is) h }))
         (λ q h. inr (subst (λ l. Contains l q) (sym (take_all n list le ∙ is)) (subst (λ r. Contains (users_of users r) q) h.gains h.noted)))
         w.waits;
@@ -102,7 +102,7 @@ pub record LettingWait (users : List (List ℕ)) (gained left : List Bool) (old 
   pub shape : length new ≡ length old
   pub fewer : (r : ℕ) → Waits left r → Waits gained r
   pub same : length left ≡ length gained
-  pub only : (q : ℕ) → Waits new q → Waits old q ⊎ RestsOnGained users (Waits gained) q
+  pub only : (q : ℕ) → Waits new q → Waits old q ⊎ DependsOnGrown users (Waits gained) q
   pub kept : (q : ℕ) → Waits old q → Waits new q
   pub done : (r q : ℕ) → Waits gained r → Contains (users_of users r) q → Waits left r ⊎ Waits new q
 
@@ -111,7 +111,7 @@ module _ (users : List (List ℕ)) (gained : List Bool) where
   letting_wait_none x = record { shape = refl; fewer = λ r h. h; same = refl; only = λ q h. inl h; kept = λ q h. h; done = λ r q h k. inl h }
 
   pub letting_wait_one : (rule : ℕ) (left left' old mid new : List Bool) → LettingWait users gained left old mid → WaitsNoMore rule left left'
-      → LetsWait users (λ r. r ≡ rule) mid new → LettingWait users gained left' old new
+      → Queues users (λ r. r ≡ rule) mid new → LettingWait users gained left' old new
   letting_wait_one rule left left' old mid new w leaves v = record {
     shape = v.shape ∙ w.shape;
     fewer = λ r h. w.fewer r (stayed r h);
@@ -136,7 +136,7 @@ module _ (users : List (List ℕ)) (gained : List Bool) where
         | inr e ↦ absurd (true≢false (sym h ∙ ap (λ l. get_or l r false) leaves.rest ∙ e.1))
       ]
 
-  pub letting_wait_all : (left old new : List Bool) → NoneWaits left → LettingWait users gained left old new → LetsWait users (Waits gained) old new
+  pub letting_wait_all : (left old new : List Bool) → NoneWaits left → LettingWait users gained left old new → Queues users (Waits gained) old new
   letting_wait_all left old new none w = record {
     shape = w.shape;
     waits = λ q. (
@@ -161,19 +161,19 @@ pub notes_rule : (p q : ℕ) (old new : List (List ℕ)) → Notes p (λ r. r �
 notes_rule p q old new w = notes_as p _ _ old new (λ r e. ap Rule e) (λ r e. cc) w
 
 -- the production was noted for the rules among the first n symbols
-abbrev pub NotesPrefix : ℕ → List Sym → ℕ → List (List ℕ) → List (List ℕ) → Type 0
-NotesPrefix p a n old new = Notes p (λ r. Contains (take n a) (Rule r)) old new
+abbrev pub NotesLookahead : ℕ → List Sym → ℕ → List (List ℕ) → List (List ℕ) → Type 0
+NotesLookahead p a n old new = Notes p (λ r. Contains (take n a) (Rule r)) old new
 
 module _ (p : ℕ) (a : List Sym) where
-  pub prefix_none : (x : List (List ℕ)) → NotesPrefix p a 0 x x
+  pub prefix_none : (x : List (List ℕ)) → NotesLookahead p a 0 x x
   prefix_none x = notes_none p _ x (λ r h. omega (arith, h.1))
 
-  pub prefix_more : (n : ℕ) (s : Sym) (old mid new : List (List ℕ)) → n < length a → s ≡ get_or a n s → NotesPrefix p a n old mid
-      → Notes p (λ r. Rule r ≡ s) mid new → NotesPrefix p a (n + 1) old new
+  pub prefix_more : (n : ℕ) (s : Sym) (old mid new : List (List ℕ)) → n < length a → s ≡ get_or a n s → NotesLookahead p a n old mid
+      → Notes p (λ r. Rule r ≡ s) mid new → NotesLookahead p a (n + 1) old new
   prefix_more n s old mid new lt is w v = notes_as p _ _ old new
       (λ r h. (contains_taken a n s lt is (Rule r)).1 h) (λ r h. (contains_taken a n s lt is (Rule r)).0 h) (notes_then p _ _ old mid new w v)
 
-  pub prefix_all : (n : ℕ) (old new : List (List ℕ)) → length a ≤ n → NotesPrefix p a n old new → Notes p (λ r. Contains a (Rule r)) old new
+  pub prefix_all : (n : ℕ) (old new : List (List ℕ)) → length a ≤ n → NotesLookahead p a n old new → Notes p (λ r. Contains a (Rule r)) old new
   prefix_all n old new le w = subst (λ l. Notes p (λ r. Contains l (Rule r)) old new) (take_all n a le) w
 
 -- a call that may fail noted the production for a rule

@@ -10,7 +10,7 @@ use Rattle.cfgtables.specs.Openings.{AreOpenedAtMost, nth_production, OpensOne}
 use Rattle.cfganalysis.specs.Inner.Growth.{CoversEach, AddsProduction, AddsInto, Visited, left_to_do}
 use Rattle.cfganalysis.specs.Table.{bits_on}
 use Rattle.cfganalysis.specs.Inner.Waiting.{waits, Waits, NoneWaits, WaitsNoMore}
-use Rattle.cfganalysis.specs.Inner.Work.{users_of, Notes, LetsWait}
+use Rattle.cfganalysis.specs.Inner.Work.{users_of, Notes, Queues}
 use Rattle.cfgtables.proofs.Located.{same_production, at_position}
 use Rattle.lemmas.proofs.Contained.{contains_none}
 use Rattle.cfganalysis.proofs.Stacking.{bits_on-clear, bits_on-none}
@@ -63,10 +63,10 @@ left_less most positions m m' w w' top le (inl lt) =
     omega (arith, one_more (positions + 1) (most - m'), product, le, mul_comm (positions + 1) (most - m'), mul_comm (positions + 1) (most - m))
 left_less most positions m m' w w' top le (inr h) = subst (λ k. left most positions k w' < left most positions m w) h.0 (omega (arith, h.1))
 
-module _ {X : Type 0} (holds : Grammar → X → Type 0) (covers : X → Production → Type 0) (bits : X → ℕ) (rests_on : Production → ℕ → Type 0) where
+module _ {X : Type 0} (holds : Grammar → X → Type 0) (covers : X → Production → Type 0) (bits : X → ℕ) (depends_on : Production → ℕ → Type 0) where
   pub takes_into : (no_more : ℕ → X → X → Type 0) (p : Production) (users : List (List ℕ)) (old new : X) (gained waiting waiting' : List Bool)
-      → AddsProduction holds covers bits rests_on no_more p old new (Waits gained) → LetsWait users (Waits gained) waiting waiting'
-      → AddsInto holds covers bits rests_on no_more p users old new waiting waiting'
+      → AddsProduction holds covers bits depends_on no_more p old new (Waits gained) → Queues users (Waits gained) waiting waiting'
+      → AddsInto holds covers bits depends_on no_more p users old new waiting waiting'
   takes_into no_more p users old new gained waiting waiting' w v = record {
     sound = w.sound;
     no_less = w.no_less;
@@ -95,7 +95,7 @@ module _ {X : Type 0} (holds : Grammar → X → Type 0) (covers : X → Product
     rules : length users ≡ g.rules
     positions : length waiting ≡ length g.productions
     here : p < n
-    noted : (q r : ℕ) → q < n → rests_on (nth_production g q) r → Contains (users_of users r) q
+    noted : (q r : ℕ) → q < n → depends_on (nth_production g q) r → Contains (users_of users r) q
     within : (q r : ℕ) → Contains (users_of users r) q → q < n
     known : (q : ℕ) → Waits waiting q → q < n
     covered : (q : ℕ) → q < n → q ≢ p → waits waiting q ≡ false → covers x (nth_production g q)
@@ -104,14 +104,14 @@ module _ {X : Type 0} (holds : Grammar → X → Type 0) (covers : X → Product
     together : all + bits_on waiting ≤ n + length g.productions * bits x
 
   opened_first : (g g' : Grammar) (n : ℕ) (x : X) (users users' : List (List ℕ)) (waiting gained : List Bool) (o o' : ℕ → ℕ) (a a' : ℕ)
-      → n < length g.productions → Visited holds covers bits rests_on g n x users waiting gained o a → OpensOne n g g' o o' a a'
-      → Notes n (rests_on (nth_production g n)) users users' → Open g (n + 1) n x users' waiting o' a'
+      → n < length g.productions → Visited holds covers bits depends_on g n x users waiting gained o a → OpensOne n g g' o o' a a'
+      → Notes n (depends_on (nth_production g n)) users users' → Open g (n + 1) n x users' waiting o' a'
   opened_first g g' n x users users' waiting gained o o' a a' lt w one notes = record {
     sound = w.sound;
     rules = notes.shape ∙ w.rules;
     positions = w.positions;
     here = omega arith;
-    noted = λ q r h rests. below_more (λ k. rests_on (nth_production g k) r → Contains (users_of users' r) k) n
+    noted = λ q r h rests. below_more (λ k. depends_on (nth_production g k) r → Contains (users_of users' r) k) n
         (λ k i j. (notes.users r k).1 (inl (w.noted k r i j))) (λ j. (notes.users r n).1 (inr (refl, j))) q h rests;
     within = λ q r h. elim ((notes.users r q).0 h) [
       | inl i ↦ let k = w.within q r i in omega (arith, k)
@@ -136,7 +136,7 @@ module _ {X : Type 0} (holds : Grammar → X → Type 0) (covers : X → Product
           omega (arith, e, none, z)
 
   opened_next : (g g' : Grammar) (n p : ℕ) (x : X) (users : List (List ℕ)) (waiting rest gained : List Bool) (o o' : ℕ → ℕ) (a a' : ℕ)
-      → Visited holds covers bits rests_on g n x users waiting gained o a → WaitsNoMore p waiting rest → OpensOne p g g' o o' a a'
+      → Visited holds covers bits depends_on g n x users waiting gained o a → WaitsNoMore p waiting rest → OpensOne p g g' o o' a a'
       → Open g n p x users rest o' a'
   opened_next g g' n p x users waiting rest gained o o' a a' w leaves one = record {
     sound = w.sound;
@@ -188,7 +188,7 @@ module _ {X : Type 0} (holds : Grammar → X → Type 0) (covers : X → Product
 
   module _ (no_more : ℕ → X → X → Type 0) (g : Grammar) (n p : ℕ) (old new : X) (users : List (List ℕ)) (waiting waiting' gained : List Bool) (o : ℕ → ℕ) (a : ℕ) (is : IsGrammar g)
       (top : n ≤ length g.productions) (w : Open g n p old users waiting o a)
-      (takes : AddsInto holds covers bits rests_on no_more (nth_production g p) users old new waiting waiting')
+      (takes : AddsInto holds covers bits depends_on no_more (nth_production g p) users old new waiting waiting')
       (idle : NoneWaits gained) (gains : length gained ≡ g.rules) where
     grew : (bits old < bits new) ⊎ (waiting' ≡ waiting)
     grew = elim (cases_lt (bits old) (bits new)) [
@@ -202,7 +202,7 @@ module _ {X : Type 0} (holds : Grammar → X → Type 0) (covers : X → Product
     index : p < length g.productions
     index = let h = w.here in omega (arith, h, top)
 
-    opened_taken : Visited holds covers bits rests_on g n new users waiting' gained o a
+    opened_taken : Visited holds covers bits depends_on g n new users waiting' gained o a
     opened_taken = record {
       sound = takes.sound g is (at_position g p (nth_production g p) index refl refl) w.sound;
       rules = w.rules;
@@ -227,7 +227,7 @@ module _ {X : Type 0} (holds : Grammar → X → Type 0) (covers : X → Product
     }
 
   module _ (g : Grammar) (n : ℕ) (x : X) (users : List (List ℕ)) (waiting gained : List Bool) (o : ℕ → ℕ) (a : ℕ)
-      (w : Visited holds covers bits rests_on g n x users waiting gained o a) where
+      (w : Visited holds covers bits depends_on g n x users waiting gained o a) where
     -- one more opening can be counted
     pub all_below : (most : ℕ) → n < length g.productions → bits x ≤ most → length g.productions * (most + 1) < 2 ^ 128 - 1 → a < 2 ^ 128 - 1
     all_below most lt bound small =
@@ -255,35 +255,35 @@ module _ {X : Type 0} (holds : Grammar → X → Type 0) (covers : X → Product
     -- a production was opened for the first time
     pub visited_first : (no_more : ℕ → X → X → Type 0) (g' : Grammar) (index : ℕ) (p : Production) (new : X) (users' users'' : List (List ℕ)) (waiting' gained' : List Bool) (o' : ℕ → ℕ) (a' : ℕ)
         → IsGrammar g → n < length g.productions → index ≡ n → p.rule ≡ (nth_production g index).rule → p.symbols ≡ (nth_production g index).symbols
-        → OpensOne index g g' o o' a a' → Notes n (rests_on p) users users' → AddsInto holds covers bits rests_on no_more p users' x new waiting waiting'
+        → OpensOne index g g' o o' a a' → Notes n (depends_on p) users users' → AddsInto holds covers bits depends_on no_more p users' x new waiting waiting'
         → users'' ≡ users' → NoneWaits gained' → length gained' ≡ length gained
-        → Visited holds covers bits rests_on g' (n + 1) new users'' waiting' gained' o' a'
+        → Visited holds covers bits depends_on g' (n + 1) new users'' waiting' gained' o' a'
     visited_first no_more g' index p new users' users'' waiting' gained' o' a' is lt at rule symbols one notes takes same idle gains =
         let e = same_production p (nth_production g index) rule symbols ∙ ap (nth_production g) at in
-        let state = opened_first g g' n x users users' waiting gained o o' a a' lt w (subst (λ k. OpensOne k g g' o o' a a') at one) (subst (λ q. Notes n (rests_on q) users users') e notes) in
-        subst (λ h. Visited holds covers bits rests_on h (n + 1) new users'' waiting' gained' o' a') (sym one.stays)
-        (subst (λ l. Visited holds covers bits rests_on g (n + 1) new l waiting' gained' o' a') (sym same)
+        let state = opened_first g g' n x users users' waiting gained o o' a a' lt w (subst (λ k. OpensOne k g g' o o' a a') at one) (subst (λ q. Notes n (depends_on q) users users') e notes) in
+        subst (λ h. Visited holds covers bits depends_on h (n + 1) new users'' waiting' gained' o' a') (sym one.stays)
+        (subst (λ l. Visited holds covers bits depends_on g (n + 1) new l waiting' gained' o' a') (sym same)
         (opened_taken no_more g (n + 1) n x new users' waiting waiting' gained' o' a' is (omega (arith, lt)) state
-        (subst (λ q. AddsInto holds covers bits rests_on no_more q users' x new waiting waiting') e takes) idle (gains ∙ w.gains)))
+        (subst (λ q. AddsInto holds covers bits depends_on no_more q users' x new waiting waiting') e takes) idle (gains ∙ w.gains)))
 
     -- a production that waited was opened again
     pub visited_next : (no_more : ℕ → X → X → Type 0) (g' : Grammar) (index m : ℕ) (p : Production) (new : X) (users' : List (List ℕ)) (rest waiting' gained' : List Bool) (o' : ℕ → ℕ) (a' : ℕ)
         → IsGrammar g → n ≡ length g.productions → index ≡ m → p.rule ≡ (nth_production g index).rule → p.symbols ≡ (nth_production g index).symbols
-        → WaitsNoMore m waiting rest → OpensOne index g g' o o' a a' → AddsInto holds covers bits rests_on no_more p users x new rest waiting'
+        → WaitsNoMore m waiting rest → OpensOne index g g' o o' a a' → AddsInto holds covers bits depends_on no_more p users x new rest waiting'
         → users' ≡ users → NoneWaits gained' → length gained' ≡ length gained
-        → Visited holds covers bits rests_on g' (length g'.productions) new users' waiting' gained' o' a'
+        → Visited holds covers bits depends_on g' (length g'.productions) new users' waiting' gained' o' a'
     visited_next no_more g' index m p new users' rest waiting' gained' o' a' is top at rule symbols leaves one takes same idle gains =
         let e = same_production p (nth_production g index) rule symbols ∙ ap (nth_production g) at in
         let state = opened_next g g' n m x users waiting rest gained o o' a a' w leaves (subst (λ k. OpensOne k g g' o o' a a') at one) in
-        subst (λ h. Visited holds covers bits rests_on h (length h.productions) new users' waiting' gained' o' a') (sym one.stays)
-        (subst (λ k. Visited holds covers bits rests_on g k new users' waiting' gained' o' a') top
-        (subst (λ l. Visited holds covers bits rests_on g n new l waiting' gained' o' a') (sym same)
+        subst (λ h. Visited holds covers bits depends_on h (length h.productions) new users' waiting' gained' o' a') (sym one.stays)
+        (subst (λ k. Visited holds covers bits depends_on g k new users' waiting' gained' o' a') top
+        (subst (λ l. Visited holds covers bits depends_on g n new l waiting' gained' o' a') (sym same)
         (opened_taken no_more g n m x new users rest waiting' gained' o' a' is (omega (arith, top)) state
-        (subst (λ q. AddsInto holds covers bits rests_on no_more q users x new rest waiting') e takes) idle (gains ∙ w.gains))))
+        (subst (λ q. AddsInto holds covers bits depends_on no_more q users x new rest waiting') e takes) idle (gains ∙ w.gains))))
 
     -- and less is left to do
     pub visited_less : (no_more : ℕ → X → X → Type 0) (m : ℕ) (p : Production) (new : X) (rest waiting' : List Bool) → bits new ≤ g.rules * (g.tokens + 1) → WaitsNoMore m waiting rest
-        → AddsInto holds covers bits rests_on no_more p users x new rest waiting'
+        → AddsInto holds covers bits depends_on no_more p users x new rest waiting'
         → left_to_do g (bits new) waiting' < left_to_do g (bits x) waiting
     visited_less no_more m p new rest waiting' bound leaves takes =
         subst (λ k. left (g.rules * (g.tokens + 1)) k (bits new) (bits_on waiting') < left_to_do g (bits x) waiting) (sym longer)
@@ -347,7 +347,7 @@ module _ {X : Type 0} (holds : Grammar → X → Type 0) (covers : X → Product
   pub visited_none : (g : Grammar) (x : X) (o : ℕ → ℕ) (a rules positions : ℕ) (users : List (List ℕ)) (waiting gained : List Bool) → holds g x
       → rules ≡ g.rules → positions ≡ length g.productions → users ≡ replicate rules [] → waiting ≡ replicate positions false → gained ≡ replicate rules false
       → ((q : ℕ) → q < length g.productions → o q ≡ 0) → a ≡ 0
-      → Visited holds covers bits rests_on g 0 x users waiting gained o a
+      → Visited holds covers bits depends_on g 0 x users waiting gained o a
   visited_none g x o a rules positions users waiting gained sound rs ps us ws gs fresh none = record {
     sound = sound;
     rules = ap length us ∙ length-replicate rules [] ∙ rs;

@@ -12,11 +12,11 @@ pub record FirstSets : Type 0 where
 abbrev pub IsAmongFirsts : FirstSets → ℕ → ℕ → Type 0
 IsAmongFirsts x r t = HasBit x.firsts r t
 
-abbrev pub epsilon_bit : FirstSets → ℕ → Bool
-epsilon_bit x r = slice_index_or x.nullable r false
+abbrev pub nullable_bit : FirstSets → ℕ → Bool
+nullable_bit x r = slice_index_or x.nullable r false
 
-abbrev pub IsEpsilon : FirstSets → ℕ → Type 0
-IsEpsilon x r = IsTrue (epsilon_bit x r)
+abbrev pub IsNullableRule : FirstSets → ℕ → Type 0
+IsNullableRule x r = IsTrue (nullable_bit x r)
 
 -- the table has a row for each rule and a column for each token, and the list a bit for each rule
 pub record FitsGrammar (g : Grammar) (x : FirstSets) : Type 0 where
@@ -27,7 +27,7 @@ pub record FitsGrammar (g : Grammar) (x : FirstSets) : Type 0 where
 pub record AreFirsts (g : Grammar) (x : FirstSets) : Type 0 where
   pub fits : FitsGrammar g x
   pub first : (r t : ℕ) → (IsAmongFirsts x r t ↔ First (HasProduction g) r t)
-  pub empty : (r : ℕ) → (IsEpsilon x r ↔ Nullable (HasProduction g) r)
+  pub empty : (r : ℕ) → (IsNullableRule x r ↔ Nullable (HasProduction g) r)
 
 -- the sets with this token added to the rule's set
 abbrev pub with_first : FirstSets → ℕ → ℕ → FirstSets

@@ -3,9 +3,9 @@
 ghost use Rattle.std.specs.Prelude.{◌≡◌, ◌<◌, ◌^◌, ◌↔◌, ℕ, [], ◌∷◌, All, Contains, false};
 ghost use Rattle.std.specs.Prelude.{true, length, map, IfOk, IsTrue, MatchBool};
 ghost use Rattle.derivation.specs.Grammar.{Grammar, IsGrammar, IsSymbolOf, Rule};
-ghost use Rattle.cfganalysis.specs.Firsts.{AreFirsts, FitsGrammar, IsAmongFirsts, IsEpsilon, epsilon_bit, with_first};
-ghost use Rattle.cfganalysis.specs.Inner.GrowingFirsts.{BeginsBy, HasNoMoreFirsts, HaveFirstsOf, HoldsRule, SayFirsts};
-ghost use Rattle.cfganalysis.specs.Inner.GrowingFirsts.{count_firsts, is_empty_symbol, no_firsts, with_epsilon};
+ghost use Rattle.cfganalysis.specs.Firsts.{AreFirsts, FitsGrammar, IsAmongFirsts, IsNullableRule, nullable_bit, with_first};
+ghost use Rattle.cfganalysis.specs.Inner.GrowingFirsts.{BeginsBy, HasNoMoreFirsts, CoverFirstsOf, HoldsRule, AreSoundFirsts};
+ghost use Rattle.cfganalysis.specs.Inner.GrowingFirsts.{count_firsts, is_nullable_symbol, no_firsts, with_nullable};
 ghost use Rattle.cfgtables.specs.Openings.{AreOpenedAtMost, most_openings};
 ghost use Rattle.cfganalysis.specs.Inner.Growth.{CanNote, CanAddProduction, AddsProduction, shown};
 ghost use Rattle.cfgtables.specs.NumberedSymbols.{sym_of};
@@ -71,7 +71,7 @@ impl<S: Storage> YaccFirsts<S> {
 
     /// Whether the rule is nullable.
     pub fn is_epsilon_set(&self, rule: RIdx<S>) -> bool
-        ensures { IsTrue result ↔ IsEpsilon self.now (S.number rule.0) }
+        ensures { IsTrue result ↔ IsNullableRule self.now (S.number rule.0) }
     {
         self.is_empty(usize::from(rule))
     }
@@ -88,14 +88,14 @@ impl<S: Storage> YaccFirsts<S> {
 
     /// Whether the rule with this number is nullable.
     fn is_empty(&self, rule: usize) -> bool
-        ensures { result ≡ epsilon_bit self.now rule }
+        ensures { result ≡ nullable_bit self.now rule }
     {
         self.nullable.get(rule).unwrap_or(false)
     }
 
     /// Whether the symbol is a nullable rule.
-    pub(crate) fn is_empty_symbol(&self, symbol: Symbol<S>) -> bool
-        ensures { result ≡ is_empty_symbol self.now (sym_of S.number symbol) }
+    pub(crate) fn is_nullable_symbol(&self, symbol: Symbol<S>) -> bool
+        ensures { result ≡ is_nullable_symbol self.now (sym_of S.number symbol) }
     {
         match symbol {
             Symbol::Rule(rule) => self.is_empty(usize::from(rule)),
@@ -182,8 +182,8 @@ impl<S: Storage> GrowingFirsts<S> {
     }
 
     /// Whether the symbol is a nullable rule.
-    fn is_empty_symbol(&self, symbol: Symbol<S>) -> bool
-        ensures { result ≡ is_empty_symbol self.now (sym_of S.number symbol) }
+    fn is_nullable_symbol(&self, symbol: Symbol<S>) -> bool
+        ensures { result ≡ is_nullable_symbol self.now (sym_of S.number symbol) }
     {
         match symbol {
             Symbol::Rule(rule) => self.nullable.get(usize::from(rule)).unwrap_or(false),
@@ -208,25 +208,25 @@ impl<S: Storage> GrowingFirsts<S> {
     /// Marks the rule as nullable. Returns whether it wasn't marked before.
     fn put_epsilon(&mut self, rule: RIdx<S>) -> bool
         requires { S.number rule.0 < length self.old.nullable }
-        ensures bits { self.new ≡ with_epsilon self.old (S.number rule.0) }
-        ensures was { MatchBool result (epsilon_bit self.old (S.number rule.0) ≡ false)
-            (epsilon_bit self.old (S.number rule.0) ≡ true) }
+        ensures bits { self.new ≡ with_nullable self.old (S.number rule.0) }
+        ensures was { MatchBool result (nullable_bit self.old (S.number rule.0) ≡ false)
+            (nullable_bit self.old (S.number rule.0) ≡ true) }
     {
         self.nullable.set(usize::from(rule), true)
     }
 
     /// Adds what a production gives. Returns whether the rule's set grew.
     fn add_production(&mut self, rule: RIdx<S>, symbols: &[Symbol<S>]) -> bool
-        requires { (g : Grammar) × IsGrammar g × SayFirsts g self.old
+        requires { (g : Grammar) × IsGrammar g × AreSoundFirsts g self.old
             × Contains g.productions (shown S.number rule symbols.now) }
-        ensures { AddsProduction SayFirsts HaveFirstsOf count_firsts HoldsRule HasNoMoreFirsts
+        ensures { AddsProduction AreSoundFirsts CoverFirstsOf count_firsts HoldsRule HasNoMoreFirsts
             (shown S.number rule symbols.now)
             self.old self.new (λ r. (r ≡ S.number rule.0) × IsTrue result) }
     {
         let mut changed = false;
         for symbol in symbols {
             changed |= self.put_first(rule, *symbol);
-            if !self.is_empty_symbol(*symbol) {
+            if !self.is_nullable_symbol(*symbol) {
                 return changed;
             }
         }
@@ -235,13 +235,13 @@ impl<S: Storage> GrowingFirsts<S> {
 }
 
 impl<S: Storage> Analysis<S> for GrowingFirsts<S> {
-    ghost holds = { SayFirsts };
+    ghost holds = { AreSoundFirsts };
 
-    ghost covers = { HaveFirstsOf };
+    ghost covers = { CoverFirstsOf };
 
     ghost bits = { count_firsts };
 
-    ghost rests_on = { HoldsRule };
+    ghost depends_on = { HoldsRule };
 
     ghost no_more = { HasNoMoreFirsts };
 
@@ -261,8 +261,8 @@ impl<S: Storage> Analysis<S> for GrowingFirsts<S> {
     }
 
     fn visit(&mut self, rule: RIdx<S>, symbols: &[Symbol<S>], gained: &mut Waiting)
-        requires { CanAddProduction SayFirsts self.old gained.old (shown S.number rule symbols.now) }
-        ensures takes { AddsProduction SayFirsts HaveFirstsOf count_firsts HoldsRule HasNoMoreFirsts
+        requires { CanAddProduction AreSoundFirsts self.old gained.old (shown S.number rule symbols.now) }
+        ensures takes { AddsProduction AreSoundFirsts CoverFirstsOf count_firsts HoldsRule HasNoMoreFirsts
             (shown S.number rule symbols.now) self.old self.new (Waits gained.new) }
         ensures rules { length gained.new ≡ length gained.old }
     {

@@ -5,9 +5,9 @@ ghost use Rattle.derivation.specs.Grammar.{Grammar, IsGrammar, IsSymbolOf, Rule}
 ghost use Rattle.cfganalysis.specs.Firsts.{AreFirsts};
 ghost use Rattle.cfganalysis.specs.Follows.{AreFollows};
 ghost use Rattle.cfganalysis.specs.Inner.GrowingFollows.{BeginsList, FitFollows};
-ghost use Rattle.cfganalysis.specs.Inner.GrowingFollows.{PrefixGives, Gathers, HasNoMoreFollows};
-ghost use Rattle.cfganalysis.specs.Inner.GrowingFollows.{HaveFollowsOf, IsPrefixOf, IsGathered, IsOwner, Puts};
-ghost use Rattle.cfganalysis.specs.Inner.GrowingFollows.{PutsAfter, SayFollows, StepsBack, count_follows};
+ghost use Rattle.cfganalysis.specs.Inner.GrowingFollows.{LookaheadHas, Gathers, HasNoMoreFollows};
+ghost use Rattle.cfganalysis.specs.Inner.GrowingFollows.{CoverFollowsOf, IsLookaheadOf, IsGathered, IsOwner, Puts};
+ghost use Rattle.cfganalysis.specs.Inner.GrowingFollows.{PutsAfter, AreSoundFollows, LookaheadBefore, count_follows};
 ghost use Rattle.cfgtables.specs.Openings.{AreOpenedAtMost, most_openings};
 ghost use Rattle.cfganalysis.specs.Inner.Growth.{CanNote, CanAddProduction, AddsProduction, shown};
 ghost use Rattle.cfgtables.specs.NumberedSymbols.{sym_of};
@@ -76,7 +76,7 @@ impl<S: Storage> YaccFollows<S> {
 
 /// The next tokens at a position of a production.
 #[derive(Drop)]
-enum Prefix<S: Storage> {
+enum Lookahead<S: Storage> {
     /// At the end of the production: what follows the production's rule.
     End,
     /// Before a symbol that isn't nullable: what it begins with.
@@ -128,24 +128,24 @@ impl<'a, S: Storage> GrowingFollows<'a, S> {
     }
 
     /// Adds the next tokens to FOLLOW of `before`, the rule before them. Returns whether the set grew.
-    fn put_prefix(
+    fn put_lookahead(
         &mut self,
         rule: RIdx<S>,
         before: RIdx<S>,
-        prefix: &Prefix<S>,
+        lookahead: &Lookahead<S>,
         gathered: &Vob,
     ) -> bool
         requires { (g : Grammar) × FitFollows g self.old × (S.number rule.0 < g.rules)
             × (S.number before.0 < g.rules)
-            × IsPrefixOf S.number g prefix.now × (length gathered.now ≡ g.tokens) }
+            × IsLookaheadOf S.number g lookahead.now × (length gathered.now ≡ g.tokens) }
         ensures { Puts (λ r t. (r ≡ S.number before.0)
-            × PrefixGives S.number self.old (S.number rule.0) gathered.now prefix.now t)
+            × LookaheadHas S.number self.old (S.number rule.0) gathered.now lookahead.now t)
             self.old self.new result }
     {
-        match prefix {
-            Prefix::End => self.put_follows(before, rule),
-            Prefix::Symbol(symbol) => self.put_first(before, *symbol),
-            Prefix::Gathered => self.follows.join(usize::from(before), gathered),
+        match lookahead {
+            Lookahead::End => self.put_follows(before, rule),
+            Lookahead::Symbol(symbol) => self.put_first(before, *symbol),
+            Lookahead::Gathered => self.follows.join(usize::from(before), gathered),
         }
     }
 
@@ -154,21 +154,21 @@ impl<'a, S: Storage> GrowingFollows<'a, S> {
         &mut self,
         rule: RIdx<S>,
         symbol: Symbol<S>,
-        prefix: &Prefix<S>,
+        lookahead: &Lookahead<S>,
         gathered: &Vob,
         gained: &mut Waiting,
     )
         requires { (g : Grammar) × FitFollows g self.old × (length gained.old ≡ g.rules)
             × (S.number rule.0 < g.rules)
             × IsSymbolOf g (sym_of S.number symbol)
-            × IsPrefixOf S.number g prefix.now × (length gathered.now ≡ g.tokens) }
+            × IsLookaheadOf S.number g lookahead.now × (length gathered.now ≡ g.tokens) }
         ensures { PutsAfter (λ r t. (Rule r ≡ sym_of S.number symbol)
-            × PrefixGives S.number self.old (S.number rule.0) gathered.now prefix.now t)
+            × LookaheadHas S.number self.old (S.number rule.0) gathered.now lookahead.now t)
             self.old self.new gained.old gained.new }
     {
         match symbol {
             Symbol::Rule(before) => {
-                if self.put_prefix(rule, before, prefix, gathered) {
+                if self.put_lookahead(rule, before, lookahead, gathered) {
                     gained.put(usize::from(before));
                 }
             }
@@ -189,46 +189,46 @@ impl<'a, S: Storage> GrowingFollows<'a, S> {
     }
 
     /// Replaces the gathered tokens by the next tokens.
-    fn gather_prefix(&self, rule: RIdx<S>, prefix: &Prefix<S>, gathered: &mut Vob)
+    fn gather_lookahead(&self, rule: RIdx<S>, lookahead: &Lookahead<S>, gathered: &mut Vob)
         requires { (g : Grammar) × FitFollows g self.now × (S.number rule.0 < g.rules)
-            × IsPrefixOf S.number g prefix.now × (length gathered.old ≡ g.tokens) }
+            × IsLookaheadOf S.number g lookahead.now × (length gathered.old ≡ g.tokens) }
         ensures length { length gathered.new ≡ length gathered.old }
         ensures tokens { (t : ℕ) → (IsGathered gathered.new t
-            ↔ PrefixGives S.number self.now (S.number rule.0) gathered.old prefix.now t) }
+            ↔ LookaheadHas S.number self.now (S.number rule.0) gathered.old lookahead.now t) }
     {
-        match prefix {
-            Prefix::End => {
+        match lookahead {
+            Lookahead::End => {
                 gathered.set_all(false);
                 gathered.or_words(self.follows.row(usize::from(rule)));
             }
-            Prefix::Symbol(symbol) => {
+            Lookahead::Symbol(symbol) => {
                 gathered.set_all(false);
                 self.gather_first(*symbol, gathered);
             }
-            Prefix::Gathered => {}
+            Lookahead::Gathered => {}
         }
     }
 
     /// The next tokens before the symbol, given those after it. They are gathered only if the symbol is nullable.
-    fn prefix_before(
+    fn lookahead_before(
         &self,
         rule: RIdx<S>,
         symbol: Symbol<S>,
-        prefix: &Prefix<S>,
+        lookahead: &Lookahead<S>,
         gathered: &mut Vob,
-    ) -> Prefix<S>
+    ) -> Lookahead<S>
         requires { (g : Grammar) × FitFollows g self.now × (S.number rule.0 < g.rules)
             × IsSymbolOf g (sym_of S.number symbol)
-            × IsPrefixOf S.number g prefix.now × (length gathered.old ≡ g.tokens) }
-        ensures { StepsBack S.number self.now (S.number rule.0) (sym_of S.number symbol) prefix.now gathered.old
+            × IsLookaheadOf S.number g lookahead.now × (length gathered.old ≡ g.tokens) }
+        ensures { LookaheadBefore S.number self.now (S.number rule.0) (sym_of S.number symbol) lookahead.now gathered.old
             result gathered.new }
     {
-        if !self.firsts.is_empty_symbol(symbol) {
-            return Prefix::Symbol(symbol);
+        if !self.firsts.is_nullable_symbol(symbol) {
+            return Lookahead::Symbol(symbol);
         }
-        self.gather_prefix(rule, prefix, gathered);
+        self.gather_lookahead(rule, lookahead, gathered);
         self.gather_first(symbol, gathered);
-        Prefix::Gathered
+        Lookahead::Gathered
     }
 
     /// Propagates FOLLOW through a production from right to left, and queues the rules whose sets grew. Each symbol is
@@ -240,21 +240,21 @@ impl<'a, S: Storage> GrowingFollows<'a, S> {
         gathered: &mut Vob,
         gained: &mut Waiting,
     )
-        requires { (g : Grammar) × IsGrammar g × SayFollows g self.old × NoneWaits gained.old
+        requires { (g : Grammar) × IsGrammar g × AreSoundFollows g self.old × NoneWaits gained.old
             × (length gained.old ≡ g.rules)
             × (length gathered.old ≡ g.tokens)
             × Contains g.productions (shown S.number rule symbols.now) }
-        ensures takes { AddsProduction SayFollows HaveFollowsOf count_follows IsOwner HasNoMoreFollows
+        ensures takes { AddsProduction AreSoundFollows CoverFollowsOf count_follows IsOwner HasNoMoreFollows
             (shown S.number rule symbols.now) self.old self.new (Waits gained.new) }
         ensures rules { length gained.new ≡ length gained.old }
         ensures columns { self.new.follows.columns ≡ self.old.follows.columns }
         ensures gathered { length gathered.new ≡ length gathered.old }
     {
-        let mut prefix = Prefix::End;
+        let mut lookahead = Lookahead::End;
         for index in (0..symbols.len()).rev() {
             let symbol = symbols[index];
-            self.put_after(rule, symbol, &prefix, gathered, gained);
-            prefix = self.prefix_before(rule, symbol, &prefix, gathered);
+            self.put_after(rule, symbol, &lookahead, gathered, gained);
+            lookahead = self.lookahead_before(rule, symbol, &lookahead, gathered);
         }
     }
 }
@@ -302,13 +302,13 @@ impl<'a, S: Storage> FollowAnalysis<'a, S> {
 }
 
 impl<'a, S: Storage> Analysis<S> for FollowAnalysis<'a, S> {
-    ghost holds = { SayFollows };
+    ghost holds = { AreSoundFollows };
 
-    ghost covers = { HaveFollowsOf };
+    ghost covers = { CoverFollowsOf };
 
     ghost bits = { count_follows };
 
-    ghost rests_on = { IsOwner };
+    ghost depends_on = { IsOwner };
 
     ghost no_more = { HasNoMoreFollows };
 
@@ -328,8 +328,8 @@ impl<'a, S: Storage> Analysis<S> for FollowAnalysis<'a, S> {
     }
 
     fn visit(&mut self, rule: RIdx<S>, symbols: &[Symbol<S>], gained: &mut Waiting)
-        requires { CanAddProduction SayFollows self.old gained.old (shown S.number rule symbols.now) }
-        ensures takes { AddsProduction SayFollows HaveFollowsOf count_follows IsOwner HasNoMoreFollows
+        requires { CanAddProduction AreSoundFollows self.old gained.old (shown S.number rule symbols.now) }
+        ensures takes { AddsProduction AreSoundFollows CoverFollowsOf count_follows IsOwner HasNoMoreFollows
             (shown S.number rule symbols.now) self.old self.new (Waits gained.new) }
         ensures rules { length gained.new ≡ length gained.old }
     {

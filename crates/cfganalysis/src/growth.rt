@@ -23,7 +23,7 @@ pub trait Analysis<S: Storage> {
     ghost bits: { Self → ℕ };
 
     // What the production gives depends on the rule's set.
-    ghost rests_on: { Production → ℕ → Type 0 };
+    ghost depends_on: { Production → ℕ → Type 0 };
 
     // The rule's set has no more in the second sets than in the first.
     ghost no_more: { ℕ → Self → Self → Type 0 };
@@ -41,12 +41,12 @@ pub trait Analysis<S: Storage> {
         users: &mut Users,
     ) -> Result<(), AllocError>
         requires { CanNote users.old (shown S.number rule symbols.now) }
-        ensures { IfOk result (λ _. Notes production (rests_on (shown S.number rule symbols.now)) users.old users.new) };
+        ensures { IfOk result (λ _. Notes production (depends_on (shown S.number rule symbols.now)) users.old users.new) };
 
     /// Adds what a production gives, and queues the rules whose sets grew.
     fn visit(&mut self, rule: RIdx<S>, symbols: &[Symbol<S>], gained: &mut Waiting)
         requires { CanAddProduction holds self.old gained.old (shown S.number rule symbols.now) }
-        ensures takes { AddsProduction holds covers bits rests_on no_more
+        ensures takes { AddsProduction holds covers bits depends_on no_more
             (shown S.number rule symbols.now) self.old self.new (Waits gained.new) }
         ensures rules { length gained.new ≡ length gained.old };
 
@@ -65,7 +65,7 @@ pub(crate) fn add_production<S: Storage, A: Analysis<S>>(
         × NoneWaits work.old.gained × (length work.old.gained ≡ g.rules) × (length work.old.users ≡ g.rules)
         × Contains g.productions (shown S.number rule symbols.now) }
     requires within { (r p : ℕ) → Contains (users_of work.old.users r) p → p < length work.old.waiting }
-    ensures takes { AddsInto A.holds A.covers A.bits A.rests_on A.no_more
+    ensures takes { AddsInto A.holds A.covers A.bits A.depends_on A.no_more
         (shown S.number rule symbols.now)
         work.old.users analysis.old analysis.new work.old.waiting work.new.waiting }
     ensures users { work.new.users ≡ work.old.users }

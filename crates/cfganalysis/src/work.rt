@@ -2,7 +2,7 @@
 
 ghost use Rattle.std.specs.Prelude.{◌≡◌, ◌<◌, ℕ, [], false, length, replicate, Contains, IfOk};
 ghost use Rattle.cfganalysis.specs.Inner.Waiting.{NoneWaits, Waits};
-ghost use Rattle.cfganalysis.specs.Inner.Work.{LetsWait, Notes, users_of};
+ghost use Rattle.cfganalysis.specs.Inner.Work.{Queues, Notes, users_of};
 
 use crate::waiting::Waiting;
 use std::alloc::{AllocError, Global};
@@ -52,10 +52,10 @@ impl Users {
     }
 
     /// Queues the productions that depend on the rule.
-    fn let_wait(&self, rule: usize, waiting: &mut Waiting)
+    fn queue_users(&self, rule: usize, waiting: &mut Waiting)
         requires rule { rule < length self.now }
         requires within { (p : ℕ) → Contains (users_of self.now rule) p → p < length waiting.old }
-        ensures { LetsWait self.now (λ r. r ≡ rule) waiting.old waiting.new }
+        ensures { Queues self.now (λ r. r ≡ rule) waiting.old waiting.new }
     {
         for production in &self.lists[rule] {
             waiting.put(*production);
@@ -99,12 +99,12 @@ impl Work {
         requires gained { length self.old.gained ≡ length self.old.users }
         requires within { (r p : ℕ) → Contains (users_of self.old.users r) p → p < length self.old.waiting }
         ensures users { self.new.users ≡ self.old.users }
-        ensures waiting { LetsWait self.old.users (Waits self.old.gained) self.old.waiting self.new.waiting }
+        ensures waiting { Queues self.old.users (Waits self.old.gained) self.old.waiting self.new.waiting }
         ensures gained { NoneWaits self.new.gained }
         ensures rules { length self.new.gained ≡ length self.old.gained }
     {
         while let Some(rule) = self.gained.next() {
-            self.users.let_wait(rule, &mut self.waiting);
+            self.users.queue_users(rule, &mut self.waiting);
         }
     }
 }

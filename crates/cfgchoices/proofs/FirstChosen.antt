@@ -21,7 +21,7 @@ use Rattle.derivation.proofs.Sums.{plus_parts, plus_zero}
 use Rattle.cfgleast.specs.Certificate.{rule_choice}
 use Rattle.cfgchoices.specs.Inner.Choices.{ChoicesGive}
 use Rattle.cfgchoices.specs.Inner.Choices as gives
-use Rattle.cfgchoices.specs.Inner.FirstChoices.{AreFirst, IsNotAbove, Opens, Walks}
+use Rattle.cfgchoices.specs.Inner.FirstChoices.{AreFirst, IsNotAbove, IsChoiceOf, AreChosen}
 use Rattle.cfgleast.specs.Generator.{CostTables, cost_answer, choice_answer, token_cost, where_some}
 use Rattle.cfgchoices.specs.FirstSentence.{FirstMinimal, lexicographic}
 use Rattle.cfgchoices.specs.Splits.{Split, done, itself, part}
@@ -49,7 +49,7 @@ not_after u v w h k g = by_order (lexicographic u v)
     (λ equal. k (sym (ap (λ l. lexicographic l w) (exact_bytes u v equal)) ∙ g))
     h
 
-module _ (x : CostTables) (walks : Walks x) (grammar : IsGrammar x.grammar) where
+module _ (x : CostTables) (walks : AreChosen x) (grammar : IsGrammar x.grammar) where
   abbrev P : ℕ → List Sym → Type 0
   P = HasProduction x.grammar
 
@@ -65,7 +65,7 @@ module _ (x : CostTables) (walks : Walks x) (grammar : IsGrammar x.grammar) wher
   abbrev pays : (r : ℕ) (symbols : List Sym) → P r symbols → All (IsPaid cost) symbols
   pays = paid known walks.number walks.generator grammar
 
-  pub answer_is : (q p m d : ℕ) → Opens x q d p m → rule_cost x.least q ≡ Some d → d ≤ 65535 → choice_answer x q ≡ Some (p, m)
+  pub answer_is : (q p m d : ℕ) → IsChoiceOf x q d p m → rule_cost x.least q ≡ Some d → d ≤ 65535 → choice_answer x q ≡ Some (p, m)
   answer_is q p m d o e small = ap (λ c. where_some c (rule_choice x.choices q)) (some_answered (rule_cost x.least q) d e small) ∙ o.choice
 
   pub costly : (q d : ℕ) → rule_cost x.least q ≡ Some d → 0 < d → cost_answer x q ≡ Some 0 → ⊥
@@ -79,7 +79,7 @@ module _ (x : CostTables) (walks : Walks x) (grammar : IsGrammar x.grammar) wher
   gives_free : (q d : ℕ) → rule_cost x.least q ≡ Some d → d ≤ 0 → (w : List ℕ) × ChoicesGive x (Rule q ∷ []) w
   gives_free q d e none = ([], gives.free (some_answered (rule_cost x.least q) 0 (e ∙ ap Some (omega (arith, none))) (omega arith)) gives.empty)
 
-  gives_below : (k q d p m : ℕ) → m < k → rule_cost x.least q ≡ Some d → 0 < d → d ≤ 65535 → Opens x q d p m → (w : List ℕ) × ChoicesGive x (Rule q ∷ []) w
+  gives_below : (k q d p m : ℕ) → m < k → rule_cost x.least q ≡ Some d → 0 < d → d ≤ 65535 → IsChoiceOf x q d p m → (w : List ℕ) × ChoicesGive x (Rule q ∷ []) w
   gives_below zero q d p m lt e some small o = absurd (omega (arith, lt))
   gives_below (suc k) q d p m lt e some small o =
       let (u, h) = gives_sequence (nth_production x.grammar p).symbols d o.sum small
@@ -99,12 +99,12 @@ module _ (x : CostTables) (walks : Walks x) (grammar : IsGrammar x.grammar) wher
   ])
 
   -- the choice that gives something
-  pub opens_by : (q d p m : ℕ) → rule_cost x.least q ≡ Some d → d ≤ 65535 → (cost_answer x q ≡ Some 0 → ⊥) → choice_answer x q ≡ Some (p, m) → Opens x q d p m
+  pub opens_by : (q d p m : ℕ) → rule_cost x.least q ≡ Some d → d ≤ 65535 → (cost_answer x q ≡ Some 0 → ⊥) → choice_answer x q ≡ Some (p, m) → IsChoiceOf x q d p m
   opens_by q d p m e small paid answer = elim (cases_lt 0 d) [
     | inl some ↦
         let (p', m', o) = walks.chosen q d e some small in
         let pairs : ◌≡◌ {A = ℕ × ℕ} (p', m') (p, m) = same_Some _ _ (sym (answer_is q p' m' d o e small) ∙ answer) in
-        subst (λ (c : ℕ × ℕ). Opens x q d c.0 c.1) pairs o
+        subst (λ (c : ℕ × ℕ). IsChoiceOf x q d c.0 c.1) pairs o
     | inr none ↦ absurd (paid (some_answered (rule_cost x.least q) 0 (e ∙ ap Some (omega (arith, none))) (omega arith)))
   ]
 

@@ -4,7 +4,7 @@ use Rattle.derivation.specs.Grammar.{IsGrammar}
 use Rattle.cfgtables.specs.Openings.{nth_production}
 use Rattle.cfgleast.specs.Generator.{CostTables, IsGenerator, cost_answer}
 use Rattle.cfgchoices.specs.Inner.Kinds.{AreKinds, IsBaseProduction, IsTarget, IsKind, IsOptimal}
-use Rattle.cfgchoices.specs.Inner.Candidates.{IsCounted, IsKnown}
+use Rattle.cfgchoices.specs.Inner.Candidates.{IsOptimalByKind, IsKnown}
 use Rattle.cfgchoices.specs.declared.kinds.Kind.{Kind}
 use Rattle.cfgchoices.specs.declared.kinds.Kind.TheVariants as variants
 use Rattle.cfgchoices.specs.declared.kinds.Kind.TheVariants.{Suboptimal, Base}
@@ -13,7 +13,7 @@ module _ {S : Type 0} (number : S → ℕ) (x : CostTables) (kinds : List (Kind 
   within : (p : ℕ) → IsOptimal x p → p < length kinds
   within p optimal = subst (λ n. p < n) (sym are.all) optimal.index
 
-  counted : (p : ℕ) → IsOptimal x p → IsCounted kinds p
+  counted : (p : ℕ) → IsOptimal x p → IsOptimalByKind kinds p
   counted p optimal = (within p optimal, λ e. subst (IsKind number x p) e (are.each p (within p optimal)) optimal)
 
   base_or_target : (p : ℕ) → IsOptimal x p → IsBaseProduction x p ⊎ ((q : ℕ) × IsTarget x p q)
@@ -25,7 +25,7 @@ module _ {S : Type 0} (number : S → ℕ) (x : CostTables) (kinds : List (Kind 
       go (variants.ChainsTo r) is = inr (number r.0, is)
 
   pub known : (n : ℕ) → IsGenerator x n → IsGrammar x.grammar → (sole : List Bool) (limit : ℕ) → length sole ≡ x.grammar.rules
-      → ((r : ℕ) → get_or sole r false ≡ true → (p q : ℕ) → IsCounted kinds p → IsCounted kinds q → (nth_production x.grammar p).rule ≡ r → (nth_production x.grammar q).rule ≡ r → p ≡ q)
+      → ((r : ℕ) → get_or sole r false ≡ true → (p q : ℕ) → IsOptimalByKind kinds p → IsOptimalByKind kinds q → (nth_production x.grammar p).rule ≡ r → (nth_production x.grammar q).rule ≡ r → p ≡ q)
       → ((r c : ℕ) → cost_answer x r ≡ Some c → c < limit) → IsKnown (record { tables = x; sole = sole; limit = limit }) n
   known n generator grammar sole limit flags one costs = record {
     generator = generator;

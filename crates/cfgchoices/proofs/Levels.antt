@@ -10,7 +10,7 @@ use Rattle.derivation.specs.Tree.{Yields, empty, token, opened}
 use Rattle.derivation.proofs.Trees.{trees_join, trees_from_derivation, derivation_from_trees}
 use Rattle.derivation.proofs.Costs.{least_is_one, minimal_costs_least}
 use Rattle.cfgchoices.specs.Splits.{Split, done, itself, part}
-use Rattle.cfgchoices.specs.Levels.{Along, here, next, CostsAsItsRule, ChainsTo, IsMadeAlongChain}
+use Rattle.cfgchoices.specs.Levels.{Along, here, next, IsOptimalProduction, ChainsTo, IsMadeAlongChain}
 use Rattle.derivation.proofs.Made.{cost_of-token}
 use Rattle.lemmas.proofs.Contained.{contains_first, contains_later, contains_none, contains_cases}
 use Rattle.cfgchoices.proofs.Lengths.{IsPaid, positive_empty, sentence_positive, tokens_positive}
@@ -39,7 +39,7 @@ module _ (P : ℕ → List Sym → Type 0) (cost : ℕ → ℕ) where
   trees_of_cut s = trees_from_split P (Split-map (Minimal P cost) (IsYielded P) (λ r u m. trees_from_derivation P (Rule r ∷ []) u m.0) s)
 
   -- an optimal production makes minimal sentences of minimal sentences
-  pub made_minimal : (r : ℕ) (symbols : List Sym) (c : ℕ) (w : List ℕ) → CostsAsItsRule P cost r symbols c → Cut symbols w → Minimal P cost r w
+  pub made_minimal : (r : ℕ) (symbols : List Sym) (c : ℕ) (w : List ℕ) → IsOptimalProduction P cost r symbols c → Cut symbols w → Minimal P cost r w
   made_minimal r symbols c w optimal s = (
     derivation_from_trees P (opened optimal.has (trees_of_cut s) empty (sym (append-nil w))),
     (λ v d. let least = optimal.least.1 v d in let same = same_cost s optimal.parts in omega (arith, least, same, optimal.is)),
@@ -189,7 +189,7 @@ module _ (P : ℕ → List Sym → Type 0) (cost : ℕ → ℕ) where
         let up = λ (v : List ℕ) (t : Yields P symbols v). m.1 v (derivation_from_trees P (opened has t empty (sym (append-nil v)))) in
         let parts = minimal_parts Comes s up in
         let cut = Split-map (IsMinimalAnd Comes) (Minimal P cost) (λ r u k. k.0) parts in
-        let optimal : CostsAsItsRule P cost r symbols (cost_of cost w) = record { has = has; least = minimal_costs_least P cost r w m; word = w; parts = cut; is = refl } in
+        let optimal : IsOptimalProduction P cost r symbols (cost_of cost w) = record { has = has; least = minimal_costs_least P cost r w m; word = w; parts = cut; is = refl } in
         elim (target_or_less Comes (cost_of cost w) parts (paid r symbols has) (omega arith)) [
           | inl target ↦
               let down = target.holds.1 target.holds.0 in

@@ -15,7 +15,7 @@ use Rattle.cfgchoices.specs.Inner.Choices.{ChoicesGive}
 use Rattle.cfgleast.specs.Generator.{CostTables}
 use Rattle.cfgchoices.specs.FirstSentence.{lexicographic}
 use Rattle.cfgchoices.specs.Inner.Kinds.{positions_of}
-use Rattle.cfgchoices.specs.Inner.Candidates.{Adds, Handles, HasChoice, IsHandled, IsCandidate, Known, Level, NotAfter, Nominating, Candidates, StandsFor, Waits, by, is_sole, owner, position_of, sequence}
+use Rattle.cfgchoices.specs.Inner.Candidates.{Adds, Handles, HasChoice, IsHandled, IsCandidate, Known, Level, NotAfter, Nominating, Candidates, GivesNoMore, Waits, by, is_sole, owner, position_of, sequence}
 use Rattle.lemmas.proofs.Contained.{contains_cases, contains_first, contains_later}
 use Rattle.cfgchoices.proofs.Nominated.{IsGiven, handled_wider, not_after_both, nominated_given, holds_itself}
 use Rattle.cfgchoices.proofs.SequencesInOrder.{insert_in_order}
@@ -114,12 +114,12 @@ module _ (k : Known) (f : Candidates) (o : Nominating k f) (p : ℕ) (nominated 
   abbrev level : Level k f
   level = o.level
 
-  itself : StandsFor k.tables f.choices p p
+  itself : GivesNoMore k.tables f.choices p p
   itself = holds_itself k.tables f.choices p (nominated_given k f.choices f.number level.choosing f.cost p nominated)
 
   one_more : (f' : Candidates) → f'.choices ≡ f.choices → ((q : ℕ) → Waits f q → Waits f' q) → Waits f' p → Handles k.tables (λ q. q ≡ p) f f'
   one_more f' same wider now q (inl old) = handled_wider k.tables f f' same wider q old
-  one_more f' same wider now q (inr is) = subst (IsHandled k.tables f') (sym is) (inr (p, now, subst (λ l. StandsFor k.tables l p p) (sym same) itself))
+  one_more f' same wider now q (inr is) = subst (IsHandled k.tables f') (sym is) (inr (p, now, subst (λ l. GivesNoMore k.tables l p p) (sym same) itself))
 
   pub covered_adds : IsHandled k.tables f p → Adds k.tables (λ q. q ≡ p) 1 f f
   covered_adds handled = record {

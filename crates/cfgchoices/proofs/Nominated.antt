@@ -14,7 +14,7 @@ use Rattle.cfgchoices.specs.Inner.Choices as gives
 use Rattle.cfgleast.specs.Generator.{CostTables, cost_answer, token_cost}
 use Rattle.cfgchoices.specs.Inner.Kinds.{IsTarget, IsOptimal}
 use Rattle.cfgchoices.specs.FirstSentence.{lexicographic}
-use Rattle.cfgchoices.specs.Inner.Candidates.{Choices, Choosing, Handles, HasChoice, IsDone, IsFloor, IsHandled, IsKnown, IsNext, IsCandidate, IsReady, Known, Level, NotAfter, Nominating, Candidates, StandsFor, Waits, by, is_sole, owner, sequence}
+use Rattle.cfgchoices.specs.Inner.Candidates.{Choices, Choosing, Handles, HasChoice, IsDone, IsFloor, IsHandled, IsKnown, IsNext, IsCandidate, IsReady, Known, Level, NotAfter, Nominating, Candidates, GivesNoMore, Waits, by, is_sole, owner, sequence}
 use Rattle.cfgchoices.proofs.Choices.{choices_once}
 use Rattle.cfgchoices.proofs.ChoosingFirsts.{answer_chosen, choosing_more, chosen_now, gives_ready, target_gives, target_ready, later, paid_chosen, ready_kept}
 use Rattle.lemmas.proofs.Contained.{contains_one}
@@ -39,17 +39,17 @@ module _ (x : CostTables) where
   pub not_after_both : (l : Choices) (a b c : List Sym) → IsGiven l b → NotAfter x l a b → NotAfter x l b c → NotAfter x l a c
   not_after_both l a b c (v, g) h k u w f i = not_after u v w (h u v f g) (k v w g i)
 
-  pub holds_itself : (l : Choices) (p : ℕ) → IsGiven l (sequence x p) → StandsFor x l p p
+  pub holds_itself : (l : Choices) (p : ℕ) → IsGiven l (sequence x p) → GivesNoMore x l p p
   holds_itself l p given = record { same = refl; given = given; before = λ u v h k. not_greater u v (choices_once (by x l) h k) }
 
-  pub holds_kept : (l l' : Choices) → Keeps l l' → (p q : ℕ) → IsGiven l (sequence x p) → StandsFor x l p q → StandsFor x l' p q
+  pub holds_kept : (l l' : Choices) → Keeps l l' → (p q : ℕ) → IsGiven l (sequence x p) → GivesNoMore x l p q → GivesNoMore x l' p q
   holds_kept l l' keeps p q given s = record {
     same = s.same;
     given = (s.given.0, gives_kept x l l' keeps s.given.1);
     before = not_after_kept l l' keeps (sequence x p) (sequence x q) given s.given s.before;
   }
 
-  pub holds_done : (l : Choices) (p q : ℕ) → IsDone x l p → StandsFor x l p q → IsDone x l q
+  pub holds_done : (l : Choices) (p q : ℕ) → IsDone x l p → GivesNoMore x l p q → IsDone x l q
   holds_done l p q d s = record {
     chosen = subst (HasChoice l) s.same d.chosen;
     given = s.given;
@@ -59,7 +59,7 @@ module _ (x : CostTables) where
   -- what waits still waits
   pub handled_wider : (f f' : Candidates) → f'.choices ≡ f.choices → ((q : ℕ) → Waits f q → Waits f' q) → (q : ℕ) → IsHandled x f q → IsHandled x f' q
   handled_wider f f' same wider q (inl done) = inl (subst (λ l. IsDone x l q) (sym same) done)
-  handled_wider f f' same wider q (inr (p, waits, holds)) = inr (p, wider p waits, subst (λ l. StandsFor x l p q) (sym same) holds)
+  handled_wider f f' same wider q (inr (p, waits, holds)) = inr (p, wider p waits, subst (λ l. GivesNoMore x l p q) (sym same) holds)
 
   module _ (l : Choices) (n : ℕ) (state : Choosing x l n) where
     pub chosen_ready : (r : ℕ) → HasChoice l r → IsReady x l n r
@@ -220,13 +220,13 @@ module _ (k : Known) (n : ℕ) (is : IsKnown k n) where
           ];
     }
 
-    pub handled_chosen : (q : ℕ) → IsHandled x f q ⊎ StandsFor x l p q → IsHandled x with_choice q
+    pub handled_chosen : (q : ℕ) → IsHandled x f q ⊎ GivesNoMore x l p q → IsHandled x with_choice q
     handled_chosen q (inl (inl old)) = inl (done_kept x l f.number level.choosing chosen keeps q old)
     handled_chosen q (inl (inr (r, waits, holds))) = inr (r, waits, holds_kept x l chosen keeps r q (given r waits) holds)
     handled_chosen q (inr holds) = inl (holds_done x chosen p q done (holds_kept x l chosen keeps p q mine holds))
 
     pub chains_chosen : (f' : Candidates) → f'.choices ≡ chosen → Handles x (λ q. IsTarget x q (owner x p)) with_choice f'
-        → ((q r : ℕ) → IsTarget x q r → HasChoice l r → IsHandled x f q ⊎ StandsFor x l p q) → (q r : ℕ) → IsTarget x q r → HasChoice f'.choices r → IsHandled x f' q
+        → ((q r : ℕ) → IsTarget x q r → HasChoice l r → IsHandled x f q ⊎ GivesNoMore x l p q) → (q r : ℕ) → IsTarget x q r → HasChoice f'.choices r → IsHandled x f' q
     chains_chosen f' same handles chains q r target has = elim (cases r (subst (λ m. HasChoice m r) same has)) [
       | inl old ↦ handles q (inl (handled_chosen q (chains q r target old)))
       | inr is ↦ handles q (inr (subst (IsTarget x q) is target))

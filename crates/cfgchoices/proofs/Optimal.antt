@@ -19,7 +19,7 @@ use Rattle.derivation.specs.CostLists.{rule_cost}
 use Rattle.derivation.proofs.Sums.{plus_parts, plus_both}
 use Rattle.derivation.proofs.Made.{cost_of-token}
 use Rattle.cfgleast.specs.Generator.{CostTables, IsGenerator, cost_answer, token_cost}
-use Rattle.cfgchoices.specs.Levels.{Along, here, next, CostsAsItsRule, ChainsTo, IsBase}
+use Rattle.cfgchoices.specs.Levels.{Along, here, next, IsOptimalProduction, ChainsTo, IsBase}
 use Rattle.cfgchoices.specs.Inner.Kinds.{AreKinds, HasTarget, IsBaseProduction, HasRulesAsTargets, IsTarget, IsKind, IsSequenceKind, IsOptimal, IsMinimal, IsBaseBelow}
 use Rattle.cfgleast.specs.Inner.Open.{StopsAt}
 use Rattle.cfgchoices.specs.Splits.{Split, done, itself, part}
@@ -203,7 +203,7 @@ module _ (x : CostTables) (n : ℕ) (is : IsGenerator x n) (grammar : IsGrammar 
       plus_both (rule_cost x.least r) (sum_of sums a) (cost_of cost u) (cost_of cost w) (answered_some (rule_cost x.least r) (cost_of cost u) known).0
       (sum_of_cut s (omega (arith, both, small))) ∙ ap Some (sym both)
 
-  optimal_reported : (p : ℕ) (optimal : IsOptimal x p) → CostsAsItsRule P cost (nth_production x.grammar p).rule (nth_production x.grammar p).symbols optimal.cost
+  optimal_reported : (p : ℕ) (optimal : IsOptimal x p) → IsOptimalProduction P cost (nth_production x.grammar p).rule (nth_production x.grammar p).symbols optimal.cost
   optimal_reported p optimal =
       let known = answered_some (rule_cost x.least (nth_production x.grammar p).rule) optimal.cost optimal.rule in
       let (w, cut, costs) = cut_of_sum (nth_production x.grammar p).symbols optimal.cost optimal.sum known.1 in record {
@@ -221,7 +221,7 @@ module _ (x : CostTables) (n : ℕ) (is : IsGenerator x n) (grammar : IsGrammar 
     pub optimal : IsOptimal x index
     pub costs : optimal.cost ≡ c
 
-  pub optimal_located : (r : ℕ) (symbols : List Sym) (c : ℕ) → CostsAsItsRule P cost r symbols c → 0 < c → c ≤ 65535 → Located r symbols c
+  pub optimal_located : (r : ℕ) (symbols : List Sym) (c : ℕ) → IsOptimalProduction P cost r symbols c → 0 < c → c ≤ 65535 → Located r symbols c
   optimal_located r symbols c optimal some small =
       let has = optimal.has in
       let costs = optimal.is in

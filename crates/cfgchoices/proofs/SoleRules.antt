@@ -5,7 +5,7 @@ use Rattle.std.proofs.lemmas.List.{get_or_default, get_or-set_same, length-set}
 use Rattle.lemmas.proofs.Elements.{get_or-set}
 use Rattle.derivation.specs.Grammar.{Grammar}
 use Rattle.cfgtables.specs.Openings.{nth_production}
-use Rattle.cfgchoices.specs.Inner.Candidates.{IsCounted}
+use Rattle.cfgchoices.specs.Inner.Candidates.{IsOptimalByKind}
 use Rattle.cfgchoices.specs.declared.kinds.Kind.{Kind}
 
 module _ {S : Type 0} (kinds : List (Kind S)) (g : Grammar) where
@@ -16,8 +16,8 @@ module _ {S : Type 0} (kinds : List (Kind S)) (g : Grammar) where
   pub record SoleSoFar (n : ℕ) (sole seen : List Bool) : Type 0 where
     pub flags : length sole ≡ g.rules
     pub rules : length seen ≡ g.rules
-    pub none : (r : ℕ) → get_or seen r false ≡ false → (p : ℕ) → p < n → IsCounted kinds p → (nth_production g p).rule ≡ r → ⊥
-    pub one : (r : ℕ) → get_or sole r false ≡ true → (p q : ℕ) → p < n → q < n → IsCounted kinds p → IsCounted kinds q
+    pub none : (r : ℕ) → get_or seen r false ≡ false → (p : ℕ) → p < n → IsOptimalByKind kinds p → (nth_production g p).rule ≡ r → ⊥
+    pub one : (r : ℕ) → get_or sole r false ≡ true → (p q : ℕ) → p < n → q < n → IsOptimalByKind kinds p → IsOptimalByKind kinds q
         → (nth_production g p).rule ≡ r → (nth_production g q).rule ≡ r → p ≡ q
 
   pub sole_none : (sole seen : List Bool) → length sole ≡ g.rules → length seen ≡ g.rules → SoleSoFar 0 sole seen
@@ -33,14 +33,14 @@ module _ {S : Type 0} (kinds : List (Kind S)) (g : Grammar) where
     old_or_new p lt = elim (cases_lt p n) [ inl less ↦ inl less | inr ge ↦ inr (omega (arith, lt, ge)) ]
 
     -- the new one isn't of the rule, or isn't optimal
-    other : (r p : ℕ) → (IsCounted kinds n → rule_of n ≡ r → ⊥) → p < n + 1 → IsCounted kinds p → rule_of p ≡ r → p < n
-    other r p not lt counts is = elim (old_or_new p lt) [ inl less ↦ less | inr same ↦ absurd (not (subst (IsCounted kinds) same counts) (ap rule_of (sym same) ∙ is)) ]
+    other : (r p : ℕ) → (IsOptimalByKind kinds n → rule_of n ≡ r → ⊥) → p < n + 1 → IsOptimalByKind kinds p → rule_of p ≡ r → p < n
+    other r p not lt counts is = elim (old_or_new p lt) [ inl less ↦ less | inr same ↦ absurd (not (subst (IsOptimalByKind kinds) same counts) (ap rule_of (sym same) ∙ is)) ]
 
-    one_other : (r : ℕ) → (IsCounted kinds n → rule_of n ≡ r → ⊥) → get_or sole r false ≡ true → (p q : ℕ) → p < n + 1 → q < n + 1 → IsCounted kinds p → IsCounted kinds q
+    one_other : (r : ℕ) → (IsOptimalByKind kinds n → rule_of n ≡ r → ⊥) → get_or sole r false ≡ true → (p q : ℕ) → p < n + 1 → q < n + 1 → IsOptimalByKind kinds p → IsOptimalByKind kinds q
         → rule_of p ≡ r → rule_of q ≡ r → p ≡ q
     one_other r not e p q lt lt' i j h k = a.one r e p q (other r p not lt i h) (other r q not lt' j k) i j h k
 
-    pub sole_suboptimal : (IsCounted kinds n → ⊥) → SoleSoFar (n + 1) sole seen
+    pub sole_suboptimal : (IsOptimalByKind kinds n → ⊥) → SoleSoFar (n + 1) sole seen
     sole_suboptimal suboptimal = record {
       flags = a.flags;
       rules = a.rules;

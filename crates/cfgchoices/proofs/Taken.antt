@@ -6,7 +6,7 @@ use Rattle.std.proofs.lemmas.List.Elements.{Contains-append_left, Contains-push,
 use Rattle.cfgleast.specs.Certificate.{choice_of, rule_choice}
 use Rattle.cfgchoices.specs.Inner.Kinds.{IsTarget, positions_of}
 use Rattle.cfgindex.specs.declared.idxnewtype.PIdx.{PIdx}
-use Rattle.cfgchoices.specs.Inner.Candidates.{Adds, Going, HasChoice, IsDone, IsHandled, IsKnown, Known, Level, NotAfter, Nominating, Candidates, StandsFor, Takes, Waits, left_to_choose, owner, sequence, waiting}
+use Rattle.cfgchoices.specs.Inner.Candidates.{Adds, HandlesChains, HasChoice, IsDone, IsHandled, IsKnown, Known, Level, NotAfter, Nominating, Candidates, GivesNoMore, Takes, Waits, left_to_choose, owner, sequence, waiting}
 use Rattle.cfgchoices.proofs.ChoosingFirsts.{few}
 use Rattle.lemmas.proofs.Contained.{contains_none}
 use Rattle.cfgchoices.proofs.Pending.{choice_shown}
@@ -91,11 +91,11 @@ module _ (k : Known) (p : ℕ) (f f' : Candidates) (t : Takes k p f f') where
   same : f'.choices ≡ f.choices
   same = ap (λ (f : Candidates). f.choices) t.others
 
-  taken_handled : (q : ℕ) → IsHandled k.tables f q → IsHandled k.tables f' q ⊎ StandsFor k.tables f'.choices p q
+  taken_handled : (q : ℕ) → IsHandled k.tables f q → IsHandled k.tables f' q ⊎ GivesNoMore k.tables f'.choices p q
   taken_handled q (inl done) = inl (inl (subst (λ l. IsDone k.tables l q) (sym same) done))
   taken_handled q (inr (r, waits, holds)) =
-      let now = subst (λ l. StandsFor k.tables l r q) (sym same) holds in
-      elim (t.waits r waits) [ inl still ↦ inl (inr (r, still, now)) | inr is ↦ inr (subst (λ i. StandsFor k.tables f'.choices i q) is now) ]
+      let now = subst (λ l. GivesNoMore k.tables l r q) (sym same) holds in
+      elim (t.waits r waits) [ inl still ↦ inl (inr (r, still, now)) | inr is ↦ inr (subst (λ i. GivesNoMore k.tables f'.choices i q) is now) ]
 
   pub taken_cost : f'.cost ≡ f.cost
   taken_cost = ap (λ (f : Candidates). f.cost) t.others
@@ -108,8 +108,8 @@ module _ (k : Known) (p : ℕ) (f f' : Candidates) (t : Takes k p f f') where
       let same = ap (λ n. (k.tables.grammar.rules - n) * (length k.tables.grammar.productions + 1)) taken_number in
       omega (arith, t.together, same)
 
-  module _ (g : Going k f) where
-    chains : (q r : ℕ) → IsTarget k.tables q r → HasChoice f'.choices r → IsHandled k.tables f' q ⊎ StandsFor k.tables f'.choices p q
+  module _ (g : HandlesChains k f) where
+    chains : (q r : ℕ) → IsTarget k.tables q r → HasChoice f'.choices r → IsHandled k.tables f' q ⊎ GivesNoMore k.tables f'.choices p q
     chains q r target has = taken_handled q (g.chains q r target (subst (λ l. HasChoice l r) same has))
 
     foremost : (r q : ℕ) → get_or f'.foremost r None ≡ Some q → (owner k.tables q ≡ r) × (Waits f' q ⊎ HasChoice f'.choices r ⊎ (q ≡ p))
@@ -128,14 +128,14 @@ module _ (k : Known) (p : ℕ) (f f' : Candidates) (t : Takes k p f f') where
     module _ (n : ℕ) (is : IsKnown k n) where
       -- the rule has a choice
       module _ (has : HasChoice f'.choices (owner k.tables p)) where
-        passed : (q : ℕ) → IsHandled k.tables f' q ⊎ StandsFor k.tables f'.choices p q → IsHandled k.tables f' q
+        passed : (q : ℕ) → IsHandled k.tables f' q ⊎ GivesNoMore k.tables f'.choices p q → IsHandled k.tables f' q
         passed q (inl h) = h
         passed q (inr holds) = inl (holds_done k.tables f'.choices p q (was_chosen k n is f' p t.level t.next.nominated has) holds)
 
         pub passed_handles : (q : ℕ) → IsHandled k.tables f q → IsHandled k.tables f' q
         passed_handles q h = passed q (taken_handled q h)
 
-        pub passed_going : Going k f'
+        pub passed_going : HandlesChains k f'
         passed_going = record {
           nominating = record {
             level = t.level;
@@ -168,7 +168,7 @@ module _ (k : Known) (p : ℕ) (f f' : Candidates) (t : Takes k p f f') where
           pub chosen_handles : (q : ℕ) → IsHandled k.tables f q → IsHandled k.tables f'' q
           chosen_handles q h = adds.handles q (inl (handled_chosen k n is f' p t.level t.next unset within q (taken_handled q h)))
 
-          pub chosen_going : Nominating k f'' → Going k f''
+          pub chosen_going : Nominating k f'' → HandlesChains k f''
           chosen_going nominating = record {
             nominating = nominating;
             chains = chains_chosen k n is f' p t.level t.next unset within f'' adds.choices adds.handles chains;

@@ -13,7 +13,7 @@ pub data Along (Link : ℕ → ℕ → Type 0) : ℕ → ℕ → Type 0 where
 
 module _ (P : ℕ → List Sym → Type 0) (cost : ℕ → ℕ) where
   -- an optimal production: its rule's least cost is c, and minimal sentences of its symbols cost c in total
-  pub record CostsAsItsRule (r : ℕ) (symbols : List Sym) (c : ℕ) : Type 0 where
+  pub record IsOptimalProduction (r : ℕ) (symbols : List Sym) (c : ℕ) : Type 0 where
     pub has : P r symbols
     pub least : Least P cost r c
     pub word : List ℕ
@@ -24,14 +24,14 @@ module _ (P : ℕ → List Sym → Type 0) (cost : ℕ → ℕ) where
   pub record ChainsTo (a b : ℕ) : Type 0 where
     pub symbols : List Sym
     pub level : ℕ
-    pub optimal : CostsAsItsRule a symbols level
+    pub optimal : IsOptimalProduction a symbols level
     pub among : Contains symbols (Rule b)
     pub same : Least P cost b level
 
   -- a base production: optimal, and each rule in it costs less
   pub record IsBase (r : ℕ) (symbols : List Sym) : Type 0 where
     pub level : ℕ
-    pub optimal : CostsAsItsRule r symbols level
+    pub optimal : IsOptimalProduction r symbols level
     pub less : (q d : ℕ) → Contains symbols (Rule q) → Least P cost q d → d < level
 
   -- zero or more chain productions lead from r to `owner`, and w consists of minimal sentences of the symbols of its base production

@@ -17,7 +17,7 @@ use Rattle.cfgleast.specs.Generator.{CostTables, cost_answer, choice_answer, tok
 use Rattle.cfgleast.proofs.Generated.{answered_some}
 use Rattle.cfgchoices.specs.Inner.Choices.{ChoicesGive}
 use Rattle.cfgchoices.specs.Inner.Choices as gives
-use Rattle.cfgchoices.specs.Inner.FirstChoices.{IsNotAbove, Opens, Walks}
+use Rattle.cfgchoices.specs.Inner.FirstChoices.{IsNotAbove, IsChoiceOf, AreChosen}
 use Rattle.cfgchoices.proofs.FirstChosen.{answered_choice, known, minimal_given, opens_by}
 use Rattle.cfgchoices.proofs.Optimal.{answered_within, least_of}
 
@@ -26,7 +26,7 @@ pub record Chosen (x : CostTables) (q p m : ℕ) : Type 0 where
   pub cost : ℕ
   pub answer : cost_answer x q ≡ Some cost
   pub some : 0 < cost
-  pub opens : Opens x q cost p m
+  pub opens : IsChoiceOf x q cost p m
 
 -- What is pending, starting with the next symbol; the tokens that will be collected; and how many productions will be opened.
 pub data Planned (x : CostTables) : List Sym → List ℕ → ℕ → Type 0 where
@@ -41,7 +41,7 @@ pub record Plan (x : CostTables) (a : List Sym) (w : List ℕ) (most : ℕ) : Ty
   pub plan : Planned x a w openings
   pub few : openings ≤ most
 
-module _ (x : CostTables) (walks : Walks x) (grammar : IsGrammar x.grammar) where
+module _ (x : CostTables) (walks : AreChosen x) (grammar : IsGrammar x.grammar) where
   chosen_by : (q p m : ℕ) → (cost_answer x q ≡ Some 0 → ⊥) → choice_answer x q ≡ Some (p, m) → Chosen x q p m
   chosen_by q p m paid choice =
       let (d, e) = answered_choice x walks grammar q p m choice in

@@ -21,7 +21,7 @@ use Rattle.cfgleast.specs.Certificate.{choice_of, rule_choice}
 use Rattle.cfgleast.specs.Generator.{CostTables, cost_answer, token_cost}
 use Rattle.cfgleast.proofs.Generated.{answered_some}
 use Rattle.cfgchoices.specs.Inner.Choices.{ChoicesGive}
-use Rattle.cfgchoices.specs.Inner.FirstChoices.{AreFirst, Walks}
+use Rattle.cfgchoices.specs.Inner.FirstChoices.{AreFirst, AreChosen}
 use Rattle.cfgchoices.specs.Splits.{Split, done, itself, part}
 use Rattle.cfgchoices.proofs.Pending.{last_shown, map_reverse}
 use Rattle.cfgchoices.proofs.FirstChosen.{first_given, gives_some, known}
@@ -39,7 +39,7 @@ derives_more g p (next t d) s = next t (derives_more g p d s)
 
 -- where a walk goes: to what the choices give for a rule, which is its first minimal sentence
 pub record LeadsTo (x : CostTables) (r : ℕ) (sentence : List ℕ) : Type 0 where
-  pub walks : Walks x
+  pub walks : AreChosen x
   pub grammar : IsGrammar x.grammar
   pub first : AreFirst x
   pub rule : r < x.grammar.rules
@@ -62,7 +62,7 @@ pub record IsOnTheWay (x : CostTables) (r : ℕ) (HasOpened : List ℕ → Type 
   pub between : Split (IsFree x.grammar (token_cost x)) suffix (reverse word)
 
 module _ (x : CostTables) (r : ℕ) (HasOpened : List ℕ → Type 0) where
-  pub begins : (c : ℕ) → Walks x → IsGrammar x.grammar → AreFirst x → r < x.grammar.rules → cost_answer x r ≡ Some c → HasOpened []
+  pub begins : (c : ℕ) → AreChosen x → IsGrammar x.grammar → AreFirst x → r < x.grammar.rules → cost_answer x r ≡ Some c → HasOpened []
       → (pending : List Sym) (word : List ℕ) → pending ≡ Rule r ∷ [] → word ≡ [] → IsOnTheWay x r HasOpened pending word
   begins c walks grammar first rule answer fresh pending word e f =
       let read = answered_some (rule_cost x.least r) c answer in

@@ -11,7 +11,7 @@ use Rattle.cfgtables.specs.NumberedSymbols.{sym_of}
 use Rattle.derivation.specs.Grammar.{Sym, Rule, Token}
 use Rattle.cfgtables.specs.Openings.{nth_production}
 use Rattle.cfgleast.specs.Certificate.{rule_choice}
-use Rattle.cfgchoices.specs.Inner.FirstChoices.{IsNotAbove, Walks}
+use Rattle.cfgchoices.specs.Inner.FirstChoices.{IsNotAbove, AreChosen}
 use Rattle.cfgleast.specs.Generator.{CostTables}
 
 -- if each production has fewer symbols than `many`
@@ -52,7 +52,7 @@ module _ (x : CostTables) (many : ℕ) (some : 0 < many) where
       go (Some choice) low = pow-le-pow_right some low
 
   -- a rule that is replaced
-  pub lighter_opened : (walks : Walks x) (rest : List Sym) (q p m : ℕ) → rule_choice x.choices q ≡ Some (p, m) → length (nth_production x.grammar p).symbols < many
+  pub lighter_opened : (walks : AreChosen x) (rest : List Sym) (q p m : ℕ) → rule_choice x.choices q ≡ Some (p, m) → length (nth_production x.grammar p).symbols < many
       → weigh x many (rest ++ (nth_production x.grammar p).symbols) < weigh x many (rest ++ Rule q ∷ [])
   lighter_opened walks rest q p m choice short =
       let symbols = (nth_production x.grammar p).symbols in

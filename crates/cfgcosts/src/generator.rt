@@ -65,7 +65,7 @@ pub struct SentenceGenerator<'a, S: Storage, T: Tables<S>> {
 impl<'a, S: Storage, T: Tables<S>> Model for SentenceGenerator<'a, S, T> {
     ghost use Rattle.std.specs.Prelude.{slice_index};
     ghost use Rattle.cfggreatest.specs.GreatestCosts.{AreGreatestCosts};
-    ghost use Rattle.cfgchoices.specs.Inner.FirstChoices.{AreFirst, Walks};
+    ghost use Rattle.cfgchoices.specs.Inner.FirstChoices.{AreFirst, AreChosen};
     ghost use Rattle.cfgleast.specs.Generator.{CostTables, IsGeneratorOf, settled_tables, tables_of};
     ghost use Rattle.cfgcosts.specs.Inner.Targets.{AreTargets, rules_of};
     ghost use Rattle.cfgchoices.specs.Inner.Kinds.{AreKinds};
@@ -77,7 +77,7 @@ impl<'a, S: Storage, T: Tables<S>> Model for SentenceGenerator<'a, S, T> {
     ghost invariant = { λ x. IsGeneratorOf S.number (T.grammar x.tables.now) x.costs.items x.settled
         × AreGreatestCosts (T.grammar x.tables.now) (slice_index x.costs.items) x.greatest.items
         × AreKinds S.number (settled_tables S.number (T.grammar x.tables.now) x.costs.items x.settled) x.kinds.items
-        × Walks (tables_of S.number (T.grammar x.tables.now) x.costs.items x.settled.least.items x.firsts.items)
+        × AreChosen (tables_of S.number (T.grammar x.tables.now) x.costs.items x.settled.least.items x.firsts.items)
         × AreFirst (tables_of S.number (T.grammar x.tables.now) x.costs.items x.settled.least.items x.firsts.items)
         × AreTargets S.number (T.grammar x.tables.now) x.kinds.items (rules_of S.number x.last_targets.items) };
 }

@@ -136,13 +136,13 @@ module _ (g : Grammar) (cost : ℕ → ℕ) (is : IsGrammar g) (root : ℕ) wher
   unmarked marked = missing 1 (λ r. bit (marked r)) g.rules
 
   -- the walk is at a, below marked rules, and fewer than n rules aren't marked
-  record Walks (a : List Sym) (n : ℕ) : Type 0 where
+  record AreChosen (a : List Sym) (n : ℕ) : Type 0 where
     marked : ℕ → Bool
     leads : (r : ℕ) → marked r ≡ true → Leads (HasProduction g) cost r a 1
     above : Around (HasProduction g) cost (Rule root ∷ []) a 0
     room : unmarked marked < n
 
-  abbrev moved : (a b : List Sym) (m n : ℕ) → Moves (HasProduction g) cost a b m → Walks a n → Walks b n
+  abbrev moved : (a b : List Sym) (m n : ℕ) → Moves (HasProduction g) cost a b m → AreChosen a n → AreChosen b n
   moved a b m n move s = record {
     marked = s.marked;
     leads = λ r h. let t = s.leads r h in (t.0, t.1, move t.0 1 1 (omega arith) t.2);
@@ -169,7 +169,7 @@ module _ (g : Grammar) (cost : ℕ → ℕ) (is : IsGrammar g) (root : ℕ) wher
     leads_also a leads t x true e h = subst (λ y. Leads (HasProduction g) cost y a 1) (sym (eqb-true x r e)) t
     leads_also a leads t x false e h = leads x h
 
-  mark : (a : List Sym) (n r : ℕ) (s : Walks a (suc n)) → s.marked r ≡ false → Leads (HasProduction g) cost r a 1 → Walks a n
+  mark : (a : List Sym) (n r : ℕ) (s : AreChosen a (suc n)) → s.marked r ≡ false → Leads (HasProduction g) cost r a 1 → AreChosen a n
   mark a n r s new t = record {
     marked = mark_also r s.marked new;
     leads = λ x. leads_also r s.marked new a s.leads t x (eqb x r) refl;
@@ -186,11 +186,11 @@ module _ (g : Grammar) (cost : ℕ → ℕ) (is : IsGrammar g) (root : ℕ) wher
   Finds a w n c = Found ⊎ ((cost_of cost w ≤ weight (most n) a) ⊎ ((c ≡ 0) × (cost_of cost w ≤ most (suc n))))
 
   abbrev Searched : List Sym → List ℕ → Type 0
-  Searched a w = (n : ℕ) (s : Walks a (suc n)) (r c : ℕ) → s.marked r ≡ false → Leads (HasProduction g) cost r a c → Finds a w n c
+  Searched a w = (n : ℕ) (s : AreChosen a (suc n)) (r c : ℕ) → s.marked r ≡ false → Leads (HasProduction g) cost r a c → Finds a w n c
 
   -- a rule is entered: it was marked, or bounds what its symbols cost
   enter : (x : ℕ) (symbols : List Sym) (u : List ℕ) → HasProduction g x symbols → Yields (HasProduction g) symbols u → Searched symbols u
-      → (n : ℕ) → Walks (Rule x ∷ []) n → Found ⊎ (cost_of cost u ≤ most n)
+      → (n : ℕ) → AreChosen (Rule x ∷ []) n → Found ⊎ (cost_of cost u ≤ most n)
   enter x symbols u has tree below zero s = let room = s.room in absurd (omega (arith, room))
   enter x symbols u has tree below (suc n) s = elim (cases_Bool (s.marked x)) [
     | inl old ↦ inl (closes (HasProduction g) cost root x u s.above (s.leads x old) (opened has tree empty (sym (append-nil u))))
@@ -203,7 +203,7 @@ module _ (g : Grammar) (cost : ℕ → ℕ) (is : IsGrammar g) (root : ℕ) wher
 
   -- skips the first symbol, which costs at most what it may
   past : (x : Sym) (a : List Sym) (u w : List ℕ) → Yields (HasProduction g) (x ∷ []) u → Searched a w → (n : ℕ) → cost_of cost u ≤ weigh cost (λ r. most n) x
-      → (s : Walks (x ∷ a) (suc n)) (r c : ℕ) → s.marked r ≡ false → Leads (HasProduction g) cost r (x ∷ a) c → Finds (x ∷ a) (u ++ w) n c
+      → (s : AreChosen (x ∷ a) (suc n)) (r c : ℕ) → s.marked r ≡ false → Leads (HasProduction g) cost r (x ∷ a) c → Finds (x ∷ a) (u ++ w) n c
   past x a u w tree rest n le s r c new t =
       let move : Moves (HasProduction g) cost (x ∷ a) a (cost_of cost u) = to_second (HasProduction g) cost (x ∷ []) a u tree in
       elim (rest n (moved (x ∷ a) a (cost_of cost u) (suc n) move s) r (c + cost_of cost u) new (t.0, t.1, move t.0 c (c + cost_of cost u) (omega arith) t.2)) [
@@ -217,7 +217,7 @@ module _ (g : Grammar) (cost : ℕ → ℕ) (is : IsGrammar g) (root : ℕ) wher
       → Yields (HasProduction g) a w → Searched a w → Searched (Rule x ∷ a) (u ++ w)
   through x symbols a u w has tree below later rest n s r c new t =
       let move : Moves (HasProduction g) cost (Rule x ∷ a) (Rule x ∷ []) (cost_of cost w) = to_first (HasProduction g) cost (Rule x ∷ []) a w later in
-      let down : Walks (Rule x ∷ []) (suc n) = moved (Rule x ∷ a) (Rule x ∷ []) (cost_of cost w) (suc n) move s in
+      let down : AreChosen (Rule x ∷ []) (suc n) = moved (Rule x ∷ a) (Rule x ∷ []) (cost_of cost w) (suc n) move s in
       elim (cases_eq (c + cost_of cost w) 0) [
         | inl alone ↦ elim (enter x symbols u has tree below (suc n) down) [
           | inl found ↦ inl found
@@ -239,7 +239,7 @@ module _ (g : Grammar) (cost : ℕ → ℕ) (is : IsGrammar g) (root : ℕ) wher
       subst (Searched (Rule x ∷ a)) (sym e) (through x symbols a u w has h (search_below h) k (search_below k))
 
   -- at first no rule is marked
-  begin : Walks (Rule root ∷ []) (suc (unmarked (λ r. false)))
+  begin : AreChosen (Rule root ∷ []) (suc (unmarked (λ r. false)))
   begin = record { marked = λ r. false; leads = λ r h. absurd (cc); above = here (HasProduction g) cost (Rule root ∷ []); room = omega arith }
 
   finds_or_bounds : {w : List ℕ} → Yields (HasProduction g) (Rule root ∷ []) w → Found ⊎ (cost_of cost w ≤ most (suc (unmarked (λ r. false))))

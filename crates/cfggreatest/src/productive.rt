@@ -95,7 +95,7 @@ impl<S: Storage> Analysis<S> for Productive {
 
     ghost bits = { bits_on };
 
-    ghost rests_on = { HoldsRule };
+    ghost depends_on = { HoldsRule };
 
     ghost no_more = { IsNoMoreProductive };
 

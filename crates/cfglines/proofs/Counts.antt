@@ -5,7 +5,7 @@ use Rattle.std.proofs.lemmas.Bool.{cases_lt}
 use Rattle.std.proofs.lemmas.List.{drop-drop, drop_all, take_all, get_or_append_left, get_or_push, length_push, nil_from_length}
 use Rattle.std.proofs.lemmas.List.Sums.{count_by-le-length, sum_by-append}
 use Rattle.std.specs.List.{slice_range}
-use Rattle.cfglines.specs.Characters.{IsCounted, begins_character, step}
+use Rattle.cfglines.specs.Characters.{IsOptimalByKind, begins_character, step}
 
 abbrev begun : List ℕ → ℕ
 begun bytes = count_by begins_character bytes
@@ -78,7 +78,7 @@ counted_more text rest counts last piece left counted parts size =
           (get_or_push counts (last + begun piece) 0 (length counts) refl ∙ more));
     }
 
-pub counted_all : (text rest counts : List ℕ) (last : ℕ) → CountedTo text rest counts last → length rest ≡ 0 → IsCounted text counts
+pub counted_all : (text rest counts : List ℕ) (last : ℕ) → CountedTo text rest counts last → length rest ≡ 0 → IsOptimalByKind text counts
 counted_all text rest counts last counted none = record {
   reach =
       let some = counted.some in

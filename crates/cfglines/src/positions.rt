@@ -3,7 +3,7 @@
 ghost use Rattle.std.specs.Prelude.{◌≡◌, ◌≤◌, length, take, IfOk, SomeIff};
 ghost use Rattle.std.specs.List.{count_by};
 ghost use Rattle.std.specs.Str.{IsCharBoundary};
-ghost use Rattle.cfglines.specs.Characters.{IsCounted, begins_character};
+ghost use Rattle.cfglines.specs.Characters.{IsOptimalByKind, begins_character};
 ghost use Rattle.cfglines.specs.Lines.{character_count, column, line_end, line_number, line_start};
 
 use crate::newlinecache::{FeedError, NewlineCache, ends_crlf};
@@ -26,7 +26,7 @@ pub struct Positions<'a> {
 impl<'a> Model for Positions<'a> {
     ghost use Rattle.std.specs.Prelude.{List, ℕ};
     ghost use Rattle.std.specs.Str.{IsUtf8};
-    ghost use Rattle.cfglines.specs.Characters.{IsCounted};
+    ghost use Rattle.cfglines.specs.Characters.{IsOptimalByKind};
     ghost use Rattle.cfglines.specs.Lines.{StandsFor};
 
     ghost Value = { List ℕ };
@@ -34,7 +34,7 @@ impl<'a> Model for Positions<'a> {
     ghost view = { λ positions. positions.text.now };
 
     ghost invariant = { λ positions. IsUtf8 positions.text.now × StandsFor positions.lines positions.text.now
-        × IsCounted positions.text.now positions.counts.items };
+        × IsOptimalByKind positions.text.now positions.counts.items };
 }
 
 impl<'a> Positions<'a> {
@@ -121,7 +121,7 @@ impl<'a> Positions<'a> {
 
 /// How many characters begin before each `STEP`th byte, and how many the text has.
 fn counts_of(alloc: Global, text: &[u8]) -> Result<Vec<usize>, AllocError>
-    ensures { IfOk result (λ counts. IsCounted text.now counts.items) }
+    ensures { IfOk result (λ counts. IsOptimalByKind text.now counts.items) }
 {
     let mut begun = 0;
     let mut counts = Vec::new(alloc);

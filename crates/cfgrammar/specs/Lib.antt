@@ -37,11 +37,11 @@ pub use Rattle.derivation.specs.CostLists
 pub use Rattle.derivation.specs.CostErrorTexts
 pub use Rattle.cfgtables.specs.NumberedSymbols
 pub use Rattle.cfgtables.specs.Openings
-pub use Rattle.cycles.specs.UnitPaths
-pub use Rattle.cycles.specs.StepLists
-pub use Rattle.cycles.specs.StepPaths
-pub use Rattle.cycles.specs.UnitSteps
-pub use Rattle.cycles.specs.Uses
+pub use Rattle.cfgcycles.specs.UnitPaths
+pub use Rattle.cfgcycles.specs.StepLists
+pub use Rattle.cfgcycles.specs.StepPaths
+pub use Rattle.cfgcycles.specs.UnitSteps
+pub use Rattle.cfgcycles.specs.Uses
 pub use Rattle.cfganalysis.specs.Table
 pub use Rattle.cfganalysis.specs.Firsts
 pub use Rattle.cfganalysis.specs.Follows
@@ -145,7 +145,7 @@ pub use Rattle.cfgmarks.specs.declared.markmap.fault.MergeError
 pub use Rattle.cfgmarks.specs.declared.markmap.fault.MergeFault
 pub use Rattle.derivation.specs.declared.errors.CostError
 pub use Rattle.cfgcosts.specs.declared.errors.SentenceError
-pub use Rattle.cycles.specs.declared.step_paths.Step
+pub use Rattle.cfgcycles.specs.declared.step_paths.Step
 pub use Rattle.cfgerrors.specs.declared.header.HeaderErrorKind
 pub use Rattle.cfgerrors.specs.declared.header.HeaderError
 pub use Rattle.cfgerrors.specs.declared.error.YaccGrammarErrorKind

@@ -6,12 +6,12 @@ pub use cfgcosts::laws::{
     certificates_show_least, first_sentences_make_the_first, minimal_sentences_follow_chains,
     no_minimal_sentence_begins_another, sentences_cost_their_length,
 };
+pub use cfgcycles::laws::{
+    cycles_are_derivations, unit_paths_are_derivations, usable_productions_hold_sentences,
+};
 pub use cfggreatest::laws::{
     bounded_rules_have_a_greatest_cost, sets_that_grow_are_unbounded,
     unbounded_rules_meet_growing_cycles,
-};
-pub use cycles::laws::{
-    cycles_are_derivations, unit_paths_are_derivations, usable_productions_hold_sentences,
 };
 pub use derivation::{
     a_greatest_cost_bounds, closed_sets_hold_before_derivations, closed_sets_hold_first,
@@ -45,6 +45,7 @@ pub use cfgbase::laws::{
     locations_are_what_they_show, spans_are_their_ends, spans_kinds_are_distinct,
 };
 pub use cfgcosts::laws::sentence_errors_are_distinct;
+pub use cfgcycles::laws::steps_are_copied;
 pub use cfgerrors::laws::{
     error_kinds_are_what_they_show, header_error_kinds_are_what_they_show,
     header_errors_are_cloned, warning_kinds_are_distinct,
@@ -59,5 +60,4 @@ pub use cfgkinds::laws::{
 };
 pub use cfgmarks::laws::{merge_behaviors_are_bits, merge_behaviors_are_distinct};
 pub use cfgsyntax::laws::kind_sources_are_distinct;
-pub use cycles::laws::steps_are_copied;
 pub use derivation::errors::cost_errors_are_distinct;

@@ -1,7 +1,7 @@
 //! The lines that print FIRST sets.
 
 ghost use Rattle.std.specs.Prelude.{◌≡◌, ◌<◌, length, IfOk, OnOk, string_bytes};
-ghost use Rattle.cfgrammar.specs.Firsts.{epsilon_bit};
+ghost use Rattle.cfgrammar.specs.Firsts.{nullable_bit};
 ghost use Rattle.cfgrammar.specs.Table.{bit};
 ghost use Rattle.cfgrammar.specs.Accessors.{rule_part};
 ghost use Rattle.cfgtool.specs.FirstLines.{empty_word, first_line, first_lines};
@@ -21,7 +21,7 @@ pub fn first_lines(
     firsts: &YaccFirsts<u32>,
 ) -> Result<String, AllocError>
     ensures { IfOk result (λ lines. string_bytes lines
-        ≡ first_lines grammar.now (bit firsts.now.firsts) (epsilon_bit firsts.now)) }
+        ≡ first_lines grammar.now (bit firsts.now.firsts) (nullable_bit firsts.now)) }
 {
     let mut lines = String::new(alloc);
     for ridx in grammar.iter_rules() {
@@ -39,7 +39,7 @@ fn write_line(
 ) -> Result<(), AllocError>
     requires { ridx.0 < length grammar.now.rules }
     ensures { OnOk result (Adds (rule_part
-        (λ rule. first_line grammar.now (bit firsts.now.firsts) (epsilon_bit firsts.now)
+        (λ rule. first_line grammar.now (bit firsts.now.firsts) (nullable_bit firsts.now)
         (ridx.0, rule)) grammar.now ridx.0)
         (string_bytes lines.old) (string_bytes lines.new)) }
 {

@@ -5,17 +5,17 @@ use Rattle.derivation.specs.Grammar.{Sym, Rule, Token, Grammar, Production, HasP
 use Rattle.derivation.specs.First.{First, Nullable}
 use Rattle.derivation.specs.FirstSets.{AreNullable, Begins, Covers}
 use Rattle.cfganalysis.specs.Table.{no_bits, bits_on, count_of}
-use Rattle.cfganalysis.specs.Firsts.{FirstSets, FitsGrammar, IsAmongFirsts, IsEpsilon, epsilon_bit}
+use Rattle.cfganalysis.specs.Firsts.{FirstSets, FitsGrammar, IsAmongFirsts, IsNullableRule, nullable_bit}
 
 -- the sets contain nothing but what derivations show
-pub record SayFirsts (g : Grammar) (x : FirstSets) : Type 0 where
+pub record AreSoundFirsts (g : Grammar) (x : FirstSets) : Type 0 where
   pub fits : FitsGrammar g x
   pub first : (r t : ℕ) → IsAmongFirsts x r t → First (HasProduction g) r t
-  pub empty : (r : ℕ) → IsEpsilon x r → Nullable (HasProduction g) r
+  pub empty : (r : ℕ) → IsNullableRule x r → Nullable (HasProduction g) r
 
 -- the sets contain all that the production gives
-abbrev pub HaveFirstsOf : FirstSets → Production → Type 0
-HaveFirstsOf x p = Covers (IsEpsilon x) (IsAmongFirsts x) p.rule p.symbols
+abbrev pub CoverFirstsOf : FirstSets → Production → Type 0
+CoverFirstsOf x p = Covers (IsNullableRule x) (IsAmongFirsts x) p.rule p.symbols
 
 -- rule r is in the production; what the production gives depends on r's set
 abbrev pub HoldsRule : Production → ℕ → Type 0
@@ -24,7 +24,7 @@ HoldsRule p r = Contains p.symbols (Rule r)
 -- the rule's set gained no token, and the rule didn't become nullable
 pub record HasNoMoreFirsts (r : ℕ) (old new : FirstSets) : Type 0 where
   pub first : (t : ℕ) → IsAmongFirsts new r t → IsAmongFirsts old r t
-  pub empty : IsEpsilon new r → IsEpsilon old r
+  pub empty : IsNullableRule new r → IsNullableRule old r
 
 -- how many bits are on
 abbrev pub count_firsts : FirstSets → ℕ
@@ -34,17 +34,17 @@ abbrev pub no_firsts : ℕ → ℕ → FirstSets
 no_firsts rules tokens = record { firsts = no_bits rules tokens; nullable = replicate rules false }
 
 -- the sets with this rule added to the nullable ones
-abbrev pub with_epsilon : FirstSets → ℕ → FirstSets
-with_epsilon x r = record { firsts = x.firsts; nullable = slice_set x.nullable r true }
+abbrev pub with_nullable : FirstSets → ℕ → FirstSets
+with_nullable x r = record { firsts = x.firsts; nullable = slice_set x.nullable r true }
 
 -- by the sets, the list may begin with the token
 abbrev pub BeginsBy : FirstSets → List Sym → ℕ → Type 0
-BeginsBy x a t = Begins (IsEpsilon x) (IsAmongFirsts x) a t
+BeginsBy x a t = Begins (IsNullableRule x) (IsAmongFirsts x) a t
 
 abbrev pub AreNullableBy : FirstSets → List Sym → Type 0
-AreNullableBy x a = AreNullable (IsEpsilon x) a
+AreNullableBy x a = AreNullable (IsNullableRule x) a
 
 -- whether the symbol is a nullable rule
-abbrev pub is_empty_symbol : FirstSets → Sym → Bool
-is_empty_symbol x (Rule r) = epsilon_bit x r
-is_empty_symbol x (Token u) = false
+abbrev pub is_nullable_symbol : FirstSets → Sym → Bool
+is_nullable_symbol x (Rule r) = nullable_bit x r
+is_nullable_symbol x (Token u) = false

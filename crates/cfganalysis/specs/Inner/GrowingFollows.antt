@@ -8,9 +8,9 @@ use Rattle.derivation.specs.FollowSets.{Flows}
 use Rattle.cfganalysis.specs.Table.{Table, IsTable, HasBit, Joins, count_of}
 use Rattle.cfgtables.specs.NumberedSymbols.{sym_of}
 use Rattle.cfganalysis.specs.Inner.Waiting.{Waits}
-use Rattle.cfganalysis.specs.Firsts.{FirstSets, FitsGrammar, AreFirsts, IsAmongFirsts, IsEpsilon}
-use Rattle.cfganalysis.specs.declared.follows.Prefix.{Prefix}
-use Rattle.cfganalysis.specs.declared.follows.Prefix.TheVariants as prefixes
+use Rattle.cfganalysis.specs.Firsts.{FirstSets, FitsGrammar, AreFirsts, IsAmongFirsts, IsNullableRule}
+use Rattle.cfganalysis.specs.declared.follows.Lookahead.{Lookahead}
+use Rattle.cfganalysis.specs.declared.follows.Lookahead.TheVariants as prefixes
 
 -- the FIRST sets, and for each rule a row of bits that says which tokens follow it
 pub record FollowSets : Type 0 where
@@ -23,7 +23,7 @@ pub record FitFollows (g : Grammar) (x : FollowSets) : Type 0 where
   pub follows : IsTable g.rules g.tokens x.follows
 
 -- the sets contain nothing but what derivations show; the end token follows the start rule
-pub record SayFollows (g : Grammar) (x : FollowSets) : Type 0 where
+pub record AreSoundFollows (g : Grammar) (x : FollowSets) : Type 0 where
   pub firsts : AreFirsts g x.firsts
   pub fits : IsTable g.rules g.tokens x.follows
   pub finish : (t : ℕ) → t + 1 ≡ g.tokens → HasBit x.follows 0 t
@@ -31,11 +31,11 @@ pub record SayFollows (g : Grammar) (x : FollowSets) : Type 0 where
 
 -- each rule in the list is followed by what the rest of the list begins with and, if the rest is nullable, by what follows `rule`
 abbrev pub FlowIn : FollowSets → ℕ → List Sym → Type 0
-FlowIn x rule a = Flows (IsEpsilon x.firsts) (IsAmongFirsts x.firsts) (HasBit x.follows) a (HasBit x.follows rule)
+FlowIn x rule a = Flows (IsNullableRule x.firsts) (IsAmongFirsts x.firsts) (HasBit x.follows) a (HasBit x.follows rule)
 
 -- the sets contain all that the production gives
-abbrev pub HaveFollowsOf : FollowSets → Production → Type 0
-HaveFollowsOf x p = FlowIn x p.rule p.symbols
+abbrev pub CoverFollowsOf : FollowSets → Production → Type 0
+CoverFollowsOf x p = FlowIn x p.rule p.symbols
 
 -- r is the production's rule; what the production gives depends on r's set
 abbrev pub IsOwner : Production → ℕ → Type 0
@@ -51,10 +51,10 @@ count_follows x = count_of x.follows
 
 -- by the FIRST sets, the list may begin with the token
 abbrev pub BeginsList : FollowSets → List Sym → ℕ → Type 0
-BeginsList x a t = Begins (IsEpsilon x.firsts) (IsAmongFirsts x.firsts) a t
+BeginsList x a t = Begins (IsNullableRule x.firsts) (IsAmongFirsts x.firsts) a t
 
 abbrev pub NullableList : FollowSets → List Sym → Type 0
-NullableList x a = AreNullable (IsEpsilon x.firsts) a
+NullableList x a = AreNullable (IsNullableRule x.firsts) a
 
 -- the tokens that follow a symbol in a production of `rule`: FIRST of the rest and, if the rest is nullable, FOLLOW of `rule`
 abbrev pub After : FollowSets → ℕ → List Sym → ℕ → Type 0
@@ -87,28 +87,28 @@ pub record Gathers (gives : ℕ → Type 0) (old new : List Bool) : Type 0 where
   pub tokens : (t : ℕ) → (IsGathered new t ↔ (IsGathered old t ⊎ gives t))
 
 -- the next tokens (the lookahead) at a position in a production of `rule`: FOLLOW of `rule`, FIRST of the next symbol, or what was gathered
-abbrev pub PrefixGives : {S : Type 0} → (S → ℕ) → FollowSets → ℕ → List Bool → Prefix S → ℕ → Type 0
-PrefixGives number x rule tokens prefixes.End t = HasBit x.follows rule t
-PrefixGives number x rule tokens (prefixes.Symbol symbol) t = BeginsList x (sym_of number symbol ∷ []) t
-PrefixGives number x rule tokens prefixes.Gathered t = IsGathered tokens t
+abbrev pub LookaheadHas : {S : Type 0} → (S → ℕ) → FollowSets → ℕ → List Bool → Lookahead S → ℕ → Type 0
+LookaheadHas number x rule tokens prefixes.End t = HasBit x.follows rule t
+LookaheadHas number x rule tokens (prefixes.Symbol symbol) t = BeginsList x (sym_of number symbol ∷ []) t
+LookaheadHas number x rule tokens prefixes.Gathered t = IsGathered tokens t
 
 -- if the prefix has a symbol, it is a symbol of the grammar
-abbrev pub IsPrefixOf : {S : Type 0} → (S → ℕ) → Grammar → Prefix S → Type 0
-IsPrefixOf number g prefixes.End = ⊤
-IsPrefixOf number g (prefixes.Symbol symbol) = IsSymbolOf g (sym_of number symbol)
-IsPrefixOf number g prefixes.Gathered = ⊤
+abbrev pub IsLookaheadOf : {S : Type 0} → (S → ℕ) → Grammar → Lookahead S → Type 0
+IsLookaheadOf number g prefixes.End = ⊤
+IsLookaheadOf number g (prefixes.Symbol symbol) = IsSymbolOf g (sym_of number symbol)
+IsLookaheadOf number g prefixes.Gathered = ⊤
 
-abbrev pub IsEnd : {S : Type 0} → Prefix S → Type 0
+abbrev pub IsEnd : {S : Type 0} → Lookahead S → Type 0
 IsEnd prefixes.End = ⊤
 IsEnd (prefixes.Symbol symbol) = ⊥
 IsEnd prefixes.Gathered = ⊥
 
 -- prefix' and tokens' give the next tokens before symbol s: what s begins with and, if it is nullable, the next tokens after it, which
 -- prefix and tokens give
-pub record StepsBack {S : Type 0} (number : S → ℕ) (x : FollowSets) (rule : ℕ) (s : Sym) (prefix : Prefix S) (tokens : List Bool)
-    (prefix' : Prefix S) (tokens' : List Bool) : Type 0 where
-  pub past : (t : ℕ) → (PrefixGives number x rule tokens' prefix' t
-      ↔ (BeginsList x (s ∷ []) t ⊎ (NullableList x (s ∷ []) × PrefixGives number x rule tokens prefix t)))
-  pub begun : IsEnd prefix' → ⊥
-  pub fits : (g : Grammar) → IsSymbolOf g s → IsPrefixOf number g prefix'
+pub record LookaheadBefore {S : Type 0} (number : S → ℕ) (x : FollowSets) (rule : ℕ) (s : Sym) (lookahead : Lookahead S) (tokens : List Bool)
+    (lookahead' : Lookahead S) (tokens' : List Bool) : Type 0 where
+  pub past : (t : ℕ) → (LookaheadHas number x rule tokens' lookahead' t
+      ↔ (BeginsList x (s ∷ []) t ⊎ (NullableList x (s ∷ []) × LookaheadHas number x rule tokens lookahead t)))
+  pub begun : IsEnd lookahead' → ⊥
+  pub fits : (g : Grammar) → IsSymbolOf g s → IsLookaheadOf number g lookahead'
   pub long : length tokens' ≡ length tokens

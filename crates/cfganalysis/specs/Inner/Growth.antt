@@ -7,7 +7,7 @@ use Rattle.cfgtables.specs.NumberedSymbols.{sym_of}
 use Rattle.cfgtables.specs.Openings.{most_openings, most_openings_all, nth_production}
 use Rattle.cfganalysis.specs.Table.{bits_on}
 use Rattle.cfganalysis.specs.Inner.Waiting.{waits, Waits, NoneWaits}
-use Rattle.cfganalysis.specs.Inner.Work.{users_of, RestsOnGained}
+use Rattle.cfganalysis.specs.Inner.Work.{users_of, DependsOnGrown}
 
 -- a production with this rule and these symbols
 abbrev pub shown : {S : Type 0} → (S → ℕ) → RIdx S → List (Symbol S) → Production
@@ -22,8 +22,8 @@ abbrev pub CanAddProduction : {X : Type 0} → (Grammar → X → Type 0) → X 
 CanAddProduction holds x gained p = (g : Grammar) × IsGrammar g × holds g x × NoneWaits gained × (length gained ≡ g.rules) × Contains g.productions p
 
 -- `holds`: what the sets say of the grammar is true; `covers`: they contain all that the production gives; `bits`: how many bits are on;
--- `rests_on`: what the production gives depends on the rule's set
-module _ {X : Type 0} (holds : Grammar → X → Type 0) (covers : X → Production → Type 0) (bits : X → ℕ) (rests_on : Production → ℕ → Type 0) where
+-- `depends_on`: what the production gives depends on the rule's set
+module _ {X : Type 0} (holds : Grammar → X → Type 0) (covers : X → Production → Type 0) (bits : X → ℕ) (depends_on : Production → ℕ → Type 0) where
   -- The first n productions were visited: each waits or is covered. Production q was opened `opened q` times, all together `all` times.
   pub record Visited (g : Grammar) (n : ℕ) (x : X) (users : List (List ℕ)) (waiting gained : List Bool) (opened : ℕ → ℕ) (all : ℕ) : Type 0 where
     pub sound : holds g x
@@ -31,7 +31,7 @@ module _ {X : Type 0} (holds : Grammar → X → Type 0) (covers : X → Product
     pub gains : length gained ≡ g.rules
     pub positions : length waiting ≡ length g.productions
     pub idle : NoneWaits gained
-    pub noted : (q r : ℕ) → q < n → rests_on (nth_production g q) r → Contains (users_of users r) q
+    pub noted : (q r : ℕ) → q < n → depends_on (nth_production g q) r → Contains (users_of users r) q
     pub within : (q r : ℕ) → Contains (users_of users r) q → q < n
     pub known : (q : ℕ) → Waits waiting q → q < n
     pub covered : (q : ℕ) → q < n → waits waiting q ≡ false → covers x (nth_production g q)
@@ -48,8 +48,8 @@ module _ {X : Type 0} (holds : Grammar → X → Type 0) (covers : X → Product
       pub no_less : bits old ≤ bits new
       pub more : (r : ℕ) → gained r → bits old < bits new
       pub gains : (r : ℕ) → (gained r ↔ (no_more r old new → ⊥))
-      pub closed : ((r : ℕ) → rests_on p r → gained r → ⊥) → covers new p
-      pub stays : (q : Production) → ((r : ℕ) → rests_on q r → gained r → ⊥) → covers old q → covers new q
+      pub closed : ((r : ℕ) → depends_on p r → gained r → ⊥) → covers new p
+      pub stays : (q : Production) → ((r : ℕ) → depends_on q r → gained r → ⊥) → covers old q → covers new q
 
     -- what p gives was added, and the productions that depend on a rule whose set grew were queued; those that waited before still do
     pub record AddsInto (p : Production) (users : List (List ℕ)) (old new : X) (waiting waiting' : List Bool) : Type 0 where
@@ -57,9 +57,9 @@ module _ {X : Type 0} (holds : Grammar → X → Type 0) (covers : X → Product
       pub no_less : bits old ≤ bits new
       pub more : (r : ℕ) → (no_more r old new → ⊥) → bits old < bits new
       pub shape : length waiting' ≡ length waiting
-      pub again : (q : ℕ) → (Waits waiting' q ↔ (Waits waiting q ⊎ RestsOnGained users (λ r. no_more r old new → ⊥) q))
-      pub closed : (n : ℕ) → ((r : ℕ) → rests_on p r → Contains (users_of users r) n) → waits waiting' n ≡ false → covers new p
-      pub stays : (q : Production) (n : ℕ) → ((r : ℕ) → rests_on q r → Contains (users_of users r) n) → waits waiting' n ≡ false
+      pub again : (q : ℕ) → (Waits waiting' q ↔ (Waits waiting q ⊎ DependsOnGrown users (λ r. no_more r old new → ⊥) q))
+      pub closed : (n : ℕ) → ((r : ℕ) → depends_on p r → Contains (users_of users r) n) → waits waiting' n ≡ false → covers new p
+      pub stays : (q : Production) (n : ℕ) → ((r : ℕ) → depends_on q r → Contains (users_of users r) n) → waits waiting' n ≡ false
           → covers old q → covers new q
 
 -- there are at most `most` productions, and the openings that may be needed fit into 64 bits for each, and into 128 bits in total

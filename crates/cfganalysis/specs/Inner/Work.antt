@@ -12,12 +12,12 @@ pub record Notes (p : ℕ) (rests : ℕ → Type 0) (old new : List (List ℕ)) 
   pub users : (r q : ℕ) → (Contains (users_of new r) q ↔ (Contains (users_of old r) q ⊎ ((q ≡ p) × rests r)))
 
 -- the production depends on a rule whose set grew
-pub record RestsOnGained (users : List (List ℕ)) (gained : ℕ → Type 0) (q : ℕ) : Type 0 where
+pub record DependsOnGrown (users : List (List ℕ)) (gained : ℕ → Type 0) (q : ℕ) : Type 0 where
   pub rule : ℕ
   pub gains : gained rule
   pub noted : Contains (users_of users rule) q
 
 -- the productions that depend on a rule whose set grew were queued; those that waited before still do
-pub record LetsWait (users : List (List ℕ)) (gained : ℕ → Type 0) (old new : List Bool) : Type 0 where
+pub record Queues (users : List (List ℕ)) (gained : ℕ → Type 0) (old new : List Bool) : Type 0 where
   pub shape : length new ≡ length old
-  pub waits : (q : ℕ) → (Waits new q ↔ (Waits old q ⊎ RestsOnGained users gained q))
+  pub waits : (q : ℕ) → (Waits new q ↔ (Waits old q ⊎ DependsOnGrown users gained q))

@@ -99,7 +99,7 @@ pub record IsDone (x : CostTables) (l : Choices) (p : ℕ) : Type 0 where
   pub first : NotAfter x l (Rule (owner x p) ∷ []) (sequence x p)
 
 -- p and q are productions of one rule, and p gives nothing greater than q
-pub record StandsFor (x : CostTables) (l : Choices) (p q : ℕ) : Type 0 where
+pub record GivesNoMore (x : CostTables) (l : Choices) (p q : ℕ) : Type 0 where
   pub same : owner x p ≡ owner x q
   pub given : (w : List ℕ) × ChoicesGive (by x l) (sequence x q) w
   pub before : NotAfter x l (sequence x p) (sequence x q)
@@ -131,8 +131,8 @@ pub record IsKnown (k : Known) (n : ℕ) : Type 0 where
   pub costs : (r c : ℕ) → cost_answer k.tables r ≡ Some c → c < k.limit
 
 -- by its kind, production p is optimal
-abbrev pub IsCounted : {S : Type 0} → List (Kind S) → ℕ → Type 0
-IsCounted kinds p = (p < length kinds) × (slice_index_or kinds p Suboptimal ≡ Suboptimal → ⊥)
+abbrev pub IsOptimalByKind : {S : Type 0} → List (Kind S) → ℕ → Type 0
+IsOptimalByKind kinds p = (p < length kinds) × (slice_index_or kinds p Suboptimal ≡ Suboptimal → ⊥)
 
 -- the production's number
 abbrev pub position_of : {S : Type 0} → (S → ℕ) → Option (PIdx S) → Option ℕ
@@ -172,7 +172,7 @@ waiting f = length f.ready + length f.level
 
 -- production q is done, or a candidate of its rule waits that gives nothing greater
 abbrev pub IsHandled : CostTables → Candidates → ℕ → Type 0
-IsHandled x f q = IsDone x f.choices q ⊎ ((p : ℕ) × Waits f p × StandsFor x f.choices p q)
+IsHandled x f q = IsDone x f.choices q ⊎ ((p : ℕ) × Waits f p × GivesNoMore x f.choices p q)
 
 -- p gives nothing less than the choice of any rule that costs c and has more than one optimal production
 abbrev pub IsFloor : Known → Choices → ℕ → ℕ → Type 0
@@ -201,7 +201,7 @@ pub record Nominating (k : Known) (f : Candidates) : Type 0 where
   pub foremost : (r p : ℕ) → slice_index_or f.foremost r None ≡ Some p → (owner k.tables p ≡ r) × (Waits f p ⊎ HasChoice f.choices r)
 
 -- the chain productions that lead to a rule with a choice are handled
-pub record Going (k : Known) (f : Candidates) : Type 0 where
+pub record HandlesChains (k : Known) (f : Candidates) : Type 0 where
   pub nominating : Nominating k f
   pub chains : (p q : ℕ) → IsTarget k.tables p q → HasChoice f.choices q → IsHandled k.tables f p
 
@@ -239,8 +239,8 @@ abbrev pub left_to_choose : Known → Candidates → ℕ
 left_to_choose k f = (k.tables.grammar.rules - f.number) * (length k.tables.grammar.productions + 1) + waiting f
 
 -- All rules that cost less than c have choices, which give their lexicographically first minimal sentences; no other rule has a choice.
-pub record Climbed (k : Known) (f : Candidates) (c : ℕ) : Type 0 where
-  pub going : Going k f
+pub record ChosenBelow (k : Known) (f : Candidates) (c : ℕ) : Type 0 where
+  pub going : HandlesChains k f
   pub none : waiting f ≡ 0
   pub base : (p : ℕ) (base : IsBaseProduction k.tables p) → base.optimal.cost < c → IsDone k.tables f.choices p
-  pub younger : (r d : ℕ) → HasChoice f.choices r → cost_answer k.tables r ≡ Some d → d < c
+  pub cheaper : (r d : ℕ) → HasChoice f.choices r → cost_answer k.tables r ≡ Some d → d < c

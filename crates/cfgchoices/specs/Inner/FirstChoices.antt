@@ -17,7 +17,7 @@ IsNotAbove choices n (Token t) = Unit {0}
 IsNotAbove choices n (Rule r) = IfSome (rule_choice choices r) (λ choice. choice.1 < n)
 
 -- the choice of rule q, which costs d: production p costs d too, and each rule in it has no choice or one with a number less than m
-pub record Opens (x : CostTables) (q d p m : ℕ) : Type 0 where
+pub record IsChoiceOf (x : CostTables) (q d p m : ℕ) : Type 0 where
   pub choice : rule_choice x.choices q ≡ Some (p, m)
   pub index : p < length x.grammar.productions
   pub owner : (nth_production x.grammar p).rule ≡ q
@@ -28,13 +28,13 @@ pub record Opens (x : CostTables) (q d p m : ℕ) : Type 0 where
   pub deep : m < x.grammar.rules
 
 -- the least costs are a generator's; rules that cost 1 to 65535 have choices, rules that cost 0 have none
-pub record Walks (x : CostTables) : Type 0 where
+pub record AreChosen (x : CostTables) : Type 0 where
   pub settled : List (Option (ℕ × ℕ))
   pub number : ℕ
   pub generator : IsGenerator (record { grammar = x.grammar; costs = x.costs; least = x.least; choices = settled }) number
   pub listed : length x.choices ≡ x.grammar.rules
   pub free : (q : ℕ) → rule_cost x.least q ≡ Some 0 → rule_choice x.choices q ≡ None
-  pub chosen : (q d : ℕ) → rule_cost x.least q ≡ Some d → 0 < d → d ≤ 65535 → (p : ℕ) × (m : ℕ) × Opens x q d p m
+  pub chosen : (q d : ℕ) → rule_cost x.least q ≡ Some d → 0 < d → d ≤ 65535 → (p : ℕ) × (m : ℕ) × IsChoiceOf x q d p m
   pub below : (q p m : ℕ) → rule_choice x.choices q ≡ Some (p, m) → All (IsNotAbove x.choices m) (nth_production x.grammar p).symbols
 
 -- no optimal production gives anything lexicographically less than its rule's choice

@@ -4,7 +4,7 @@ ghost use Rattle.std.specs.Prelude.{◌≡◌, ℕ, ◌<◌, ◌≤◌, IfOk, Ma
 ghost use Rattle.std.specs.Prelude.{slice_index_or, true};
 ghost use Rattle.cfgchoices.specs.Inner.Kinds.{IsTarget};
 ghost use Rattle.cfgchoices.specs.Inner.Lists.{IsIn};
-ghost use Rattle.cfgchoices.specs.Inner.Candidates.{Adds, Going, HasList, IsDrained, IsHandled, IsKnown, IsCandidate};
+ghost use Rattle.cfgchoices.specs.Inner.Candidates.{Adds, HandlesChains, HasList, IsDrained, IsHandled, IsKnown, IsCandidate};
 ghost use Rattle.cfgchoices.specs.Inner.Candidates.{Known, Level, NotAfter, Nominating};
 ghost use Rattle.cfgchoices.specs.Inner.Candidates.{Takes, is_sole, left_to_choose};
 ghost use Rattle.cfgchoices.specs.Inner.Candidates.{candidates_of, owner, sequence, waiting};
@@ -218,8 +218,8 @@ impl<S: Storage> Firsts<S> {
     ///
     /// Out of memory.
     fn choose<T: Tables<S>>(&mut self, optimal: &OptimalTables<S, T>) -> Result<bool, AllocError>
-        requires { Going optimal.now (candidates_of S.number self.old) }
-        ensures going { OnOk result (Going optimal.now (candidates_of S.number self.new)) }
+        requires { HandlesChains optimal.now (candidates_of S.number self.old) }
+        ensures going { OnOk result (HandlesChains optimal.now (candidates_of S.number self.new)) }
         ensures handles { OnOk result ((q : ℕ) → IsHandled optimal.now.tables (candidates_of S.number self.old) q
             → IsHandled optimal.now.tables (candidates_of S.number self.new) q) }
         ensures cost { OnOk result (self.new.cost ≡ self.old.cost) }
@@ -251,8 +251,8 @@ impl<S: Storage> Firsts<S> {
         &mut self,
         optimal: &OptimalTables<S, T>,
     ) -> Result<(), AllocError>
-        requires { Going optimal.now (candidates_of S.number self.old) }
-        ensures going { OnOk result (Going optimal.now (candidates_of S.number self.new)) }
+        requires { HandlesChains optimal.now (candidates_of S.number self.old) }
+        ensures going { OnOk result (HandlesChains optimal.now (candidates_of S.number self.new)) }
         ensures none { OnOk result (waiting (candidates_of S.number self.new) ≡ 0) }
         ensures handles { OnOk result ((q : ℕ) → IsHandled optimal.now.tables (candidates_of S.number self.old) q
             → IsHandled optimal.now.tables (candidates_of S.number self.new) q) }

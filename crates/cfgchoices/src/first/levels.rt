@@ -3,9 +3,9 @@
 ghost use Rattle.std.specs.Prelude.{◌≡◌, ◌+◌, ◌<◌, IfOk, OnOk, map};
 ghost use Rattle.cfgleast.specs.Certificate.{choice_of};
 ghost use Rattle.cfgleast.specs.Generator.{IsGeneratorOf, settled_tables, tables_of};
-ghost use Rattle.cfgchoices.specs.Inner.FirstChoices.{AreFirst, Walks};
+ghost use Rattle.cfgchoices.specs.Inner.FirstChoices.{AreFirst, AreChosen};
 ghost use Rattle.cfgchoices.specs.Inner.Kinds.{AreKinds};
-ghost use Rattle.cfgchoices.specs.Inner.Candidates.{Climbed, by, chosen_tables, candidates_of};
+ghost use Rattle.cfgchoices.specs.Inner.Candidates.{ChosenBelow, by, chosen_tables, candidates_of};
 
 use crate::first::candidates::Firsts;
 use crate::first::lists::{Listed, no_productions};
@@ -28,9 +28,9 @@ impl<S: Storage> Firsts<S> {
         optimal: &OptimalTables<S, T>,
         cost: usize,
     ) -> Result<(), AllocError>
-        requires climbed { Climbed optimal.now (candidates_of S.number self.old) cost }
+        requires climbed { ChosenBelow optimal.now (candidates_of S.number self.old) cost }
         requires within { cost < optimal.now.limit }
-        ensures { OnOk result (Climbed optimal.now (candidates_of S.number self.new) (cost + 1)) }
+        ensures { OnOk result (ChosenBelow optimal.now (candidates_of S.number self.new) (cost + 1)) }
     {
         optimal.invariant_holds();
         self.cost = cost;
@@ -48,8 +48,8 @@ impl<S: Storage> Firsts<S> {
         &mut self,
         optimal: &OptimalTables<S, T>,
     ) -> Result<(), AllocError>
-        requires { Climbed optimal.now (candidates_of S.number self.old) 1 }
-        ensures walks { OnOk result (Walks (chosen_tables optimal.now.tables (candidates_of S.number self.new))) }
+        requires { ChosenBelow optimal.now (candidates_of S.number self.old) 1 }
+        ensures walks { OnOk result (AreChosen (chosen_tables optimal.now.tables (candidates_of S.number self.new))) }
         ensures first { OnOk result (AreFirst (chosen_tables optimal.now.tables (candidates_of S.number self.new))) }
     {
         optimal.invariant_holds();
@@ -71,7 +71,7 @@ fn choices_by_cost<S: Storage, T: Tables<S>>(
     rules_len: usize,
 ) -> Result<Vec<Option<(PIdx<S>, u32)>>, AllocError>
     requires { rules_len ≡ optimal.now.tables.grammar.rules }
-    ensures walks { IfOk result (λ firsts. Walks (by optimal.now.tables (map (choice_of S.number) firsts.items))) }
+    ensures walks { IfOk result (λ firsts. AreChosen (by optimal.now.tables (map (choice_of S.number) firsts.items))) }
     ensures first { IfOk result (λ firsts. AreFirst (by optimal.now.tables (map (choice_of S.number) firsts.items))) }
 {
     let choices = no_choices(alloc, rules_len)?;
@@ -105,7 +105,7 @@ pub fn first_choices<S: Storage, T: Tables<S>>(
     requires generator { IsGeneratorOf S.number (T.grammar tables.now) costs.now settled.now }
     requires kinds { AreKinds S.number (settled_tables S.number (T.grammar tables.now) costs.now settled.now)
         kinds.now }
-    ensures walks { IfOk result (λ firsts. Walks (tables_of S.number (T.grammar tables.now) costs.now
+    ensures walks { IfOk result (λ firsts. AreChosen (tables_of S.number (T.grammar tables.now) costs.now
         settled.now.least.items firsts.items)) }
     ensures first { IfOk result (λ firsts. AreFirst (tables_of S.number (T.grammar tables.now) costs.now
         settled.now.least.items firsts.items)) }

@@ -7,7 +7,7 @@ ghost use Rattle.cfgtables.specs.NumberedSymbols.{sym_of};
 ghost use Rattle.cfgleast.specs.Generator.{IsGeneratorOf, settled_tables};
 ghost use Rattle.cfgchoices.specs.Inner.Kinds.{AreKinds, IsTarget, positions_of};
 ghost use Rattle.cfgchoices.specs.Inner.Lists.{IsFirstFrom, IsIn, IsBaseAt};
-ghost use Rattle.cfgchoices.specs.Inner.Candidates.{HasList, IsCounted, IsKnown, is_sole, owner, sequence};
+ghost use Rattle.cfgchoices.specs.Inner.Candidates.{HasList, IsOptimalByKind, IsKnown, is_sole, owner, sequence};
 ghost use Rattle.cfgchoices.specs.declared.kinds.Kind.TheVariants.{Suboptimal};
 
 use crate::first::lists::{Listed, Lists};
@@ -31,7 +31,7 @@ fn sole_rules<S: Storage, T: Tables<S>>(
     requires { length kinds.now ≡ length (T.grammar tables.now).productions }
     ensures flags { IfOk result (λ sole. length sole.items ≡ (T.grammar tables.now).rules) }
     ensures sole { IfOk result (λ sole. (r : ℕ) → slice_index_or sole.items r false ≡ true
-        → (p q : ℕ) → IsCounted kinds.now p → IsCounted kinds.now q
+        → (p q : ℕ) → IsOptimalByKind kinds.now p → IsOptimalByKind kinds.now q
         → (nth_production (T.grammar tables.now) p).rule ≡ r → (nth_production (T.grammar tables.now) q).rule ≡ r
         → p ≡ q) }
 {

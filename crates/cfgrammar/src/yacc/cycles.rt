@@ -1,3 +1,3 @@
 //! Cyclic rules, and shortest cycles.
 
-pub use cycles::{Step, Steps, shortest_cycle, shortest_cycles, unit_steps};
+pub use cfgcycles::{Step, Steps, shortest_cycle, shortest_cycles, unit_steps};

@@ -1,5 +1,5 @@
 use Rattle.std.proofs.Common.{sym, subst, ◌∙◌}
-use Rattle.cfganalysis.specs.Inner.GrowingFirsts.{SayFirsts}
+use Rattle.cfganalysis.specs.Inner.GrowingFirsts.{AreSoundFirsts}
 use Rattle.cfganalysis.proofs.Fitting.{openings_fit, still_few}
 use Rattle.cfganalysis.proofs.FirstVisits.{are_firsts, say_none}
 use Rattle.cfganalysis.proofs.firsts.grow_all.Goals as goal
@@ -13,7 +13,7 @@ visit_all-requires-clause-small g c =
 pub visit_all-requires-clause-holds : goal.visit_all-requires-clause-holds
 visit_all-requires-clause-holds g c =
     let grammar = g.P.Productions.content c.args.productions.now in
-    subst (SayFirsts grammar) (sym c.in_ok-firsts.ensures) (say_none grammar c.to_usize-rules.result c.to_usize-tokens.result
+    subst (AreSoundFirsts grammar) (sym c.in_ok-firsts.ensures) (say_none grammar c.to_usize-rules.result c.to_usize-tokens.result
     (c.to_usize-rules.ensures.value ∙ c.rules_len.ensures.value) (c.to_usize-tokens.ensures.value ∙ c.tokens_len.ensures))
 
 pub returns-clause-firsts : goal.returns-clause-firsts

@@ -1,6 +1,6 @@
 use Rattle.std.proofs.Common.{sym, ap, ◌∙◌, subst}
 use Rattle.cfganalysis.specs.Follows.{AreFollows}
-use Rattle.cfganalysis.specs.Inner.GrowingFollows.{SayFollows}
+use Rattle.cfganalysis.specs.Inner.GrowingFollows.{AreSoundFollows}
 use Rattle.cfganalysis.proofs.Fitting.{openings_fit, still_few}
 use Rattle.cfganalysis.proofs.FollowVisits.{are_follows, say_start}
 use Rattle.cfganalysis.proofs.follows.grow_all.Goals as goal
@@ -12,7 +12,7 @@ visit_all-requires g c =
       grammar = c.rules_len.ensures.content;
       small = openings_fit (g.P.Productions.content c.args.productions.now) c.to_usize-rules.result c.to_usize-tokens.result _ rules tokens
           c.to_usize-rules.ensures.range c.to_usize-tokens.ensures.range c.to_usize-rules.ensures.limit;
-      holds = subst (SayFollows (g.P.Productions.content c.args.productions.now)) (sym c.in_ok-analysis.ensures)
+      holds = subst (AreSoundFollows (g.P.Productions.content c.args.productions.now)) (sym c.in_ok-analysis.ensures)
           (say_start _ _ _ _ c.rules_len.ensures.content c.requires.firsts rules tokens);
       fresh = c.requires.fresh;
       all_fresh = c.requires.all_fresh;

@@ -22,7 +22,7 @@ loop-init g c =
     let all = c.to_usize-prods_len.ensures.value ∙ c.prods_len.ensures ∙ sym (ap (λ h. length h.productions) same) in
     record {
       content = same;
-      visited = subst (λ n. Visited g.A.Analysis.holds g.A.Analysis.covers g.A.Analysis.bits g.A.Analysis.rests_on (g.P.Productions.content c.visit_each.new.productions) n
+      visited = subst (λ n. Visited g.A.Analysis.holds g.A.Analysis.covers g.A.Analysis.bits g.A.Analysis.depends_on (g.P.Productions.content c.visit_each.new.productions) n
           c.visit_each.new.analysis c.visit_each.new.work.users c.visit_each.new.work.waiting c.visit_each.new.work.gained
           (g.P.Productions.opened c.visit_each.new.productions) (g.P.Productions.opened_all c.visit_each.new.productions)) all c.in_ok-visit_each.ensures.visited;
     }

@@ -5,7 +5,7 @@ use Rattle.cfganalysis.proofs.visits.visit_all.Given as goal
 abbrev pub invariant-loop : goal.invariant-loop
 invariant-loop g l = record {
   content : g.P.Productions.content l.productions ≡ g.P.Productions.content l.fn.productions;
-  visited : Visited g.A.Analysis.holds g.A.Analysis.covers g.A.Analysis.bits g.A.Analysis.rests_on (g.P.Productions.content l.productions)
+  visited : Visited g.A.Analysis.holds g.A.Analysis.covers g.A.Analysis.bits g.A.Analysis.depends_on (g.P.Productions.content l.productions)
       (length (g.P.Productions.content l.productions).productions) l.analysis
       l.work.users l.work.waiting l.work.gained (g.P.Productions.opened l.productions) (g.P.Productions.opened_all l.productions);
 }

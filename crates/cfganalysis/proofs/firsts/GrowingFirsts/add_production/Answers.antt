@@ -16,13 +16,13 @@ put_first-changed-requires g c = (
       (all_symbols c.requires.0 _ c.requires.1 c.requires.3),
 )
 
-pub returns-then-not-is_empty_symbol : goal.returns-then-not-is_empty_symbol
-returns-then-not-is_empty_symbol g c =
+pub returns-then-not-is_nullable_symbol : goal.returns-then-not-is_nullable_symbol
+returns-then-not-is_nullable_symbol g c =
     let lt : c.loop-symbol.symbol-index < length c.args.symbols.now = omega (arith, c.loop-symbol-test.true) in
     visits_end _ _ _ _ _ _ _ _ _ (mapped_within (sym_of g.S.Storage.number) _ _ _ c.symbol-item.is lt)
     (mapped_at (sym_of g.S.Storage.number) _ _ _ c.symbol-item.is lt) c.loop-symbol.invariant
     (record { nullable = c.put_first-changed.ensures.nullable; joins = c.put_first-changed.ensures.joins })
-    (sym c.is_empty_symbol.ensures ∙ c.if-not-is_empty_symbol.true)
+    (sym c.is_nullable_symbol.ensures ∙ c.if-not-is_nullable_symbol.true)
 
 pub loop-symbol-preserved : goal.loop-symbol-preserved
 loop-symbol-preserved g c =
@@ -30,7 +30,7 @@ loop-symbol-preserved g c =
     visits_one _ _ _ _ _ _ _ _ _ (mapped_within (sym_of g.S.Storage.number) _ _ _ c.symbol-item.is lt)
     (mapped_at (sym_of g.S.Storage.number) _ _ _ c.symbol-item.is lt) c.loop-symbol.invariant
     (record { nullable = c.put_first-changed.ensures.nullable; joins = c.put_first-changed.ensures.joins })
-    (sym c.is_empty_symbol.ensures ∙ c.if-not-is_empty_symbol.false)
+    (sym c.is_nullable_symbol.ensures ∙ c.if-not-is_nullable_symbol.false)
 
 pub put_epsilon-requires : goal.put_epsilon-requires
 put_epsilon-requires g c = subst (λ n. g.S.Storage.number c.args.rule.0 < n)

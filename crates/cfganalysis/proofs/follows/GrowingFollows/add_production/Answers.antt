@@ -2,7 +2,7 @@ use Rattle.std.proofs.Common.{◌≡◌, ◌+◌, ◌-◌, ◌<◌, map, length,
 use Rattle.std.proofs.lemmas.List.{length-map}
 use Rattle.derivation.specs.Grammar.{IsSymbolOf}
 use Rattle.cfganalysis.specs.Firsts.{FitsGrammar}
-use Rattle.cfganalysis.specs.Inner.GrowingFollows.{After, PrefixGives}
+use Rattle.cfganalysis.specs.Inner.GrowingFollows.{After, LookaheadHas}
 use Rattle.cfgtables.specs.NumberedSymbols.{sym_of}
 use Rattle.cfgtables.proofs.Located.{owner, all_symbols}
 use Rattle.cfgtables.proofs.Slices.{mapped_all, mapped_drop, mapped_rest}
@@ -30,8 +30,8 @@ put_after-requires g c =
       c.loop-index.invariant.fronting.long ∙ c.requires.5,
     )
 
-pub prefix_before-prefix-requires : goal.prefix_before-prefix-requires
-prefix_before-prefix-requires g c =
+pub lookahead_before-lookahead-requires : goal.lookahead_before-lookahead-requires
+lookahead_before-lookahead-requires g c =
     let lt : c.loop-index.index - 1 < length c.args.symbols.now = omega (arith, c.loop-index-test.true, c.loop-index.auto.index) in
     let all = all_symbols c.requires.0 _ c.requires.1 c.requires.6 in
     let say = c.loop-index.invariant.flowing.sound c.requires.0 c.requires.1 c.requires.6 c.requires.2 in (
@@ -58,15 +58,15 @@ loop-index-preserved g c =
     let flowing = subst (λ n. Flowing rule symbols n c.args.self.now c.loop-index.self c.args.gained.now c.loop-index.gained)
     back c.loop-index.invariant.flowing in
     let fronting = subst (λ n. Fronting number rule symbols n (length c.args.gathered.now) c.args.self.now c.loop-index.self
-    c.loop-index.prefix c.loop-index.gathered) back c.loop-index.invariant.fronting in
+    c.loop-index.lookahead c.loop-index.gathered) back c.loop-index.invariant.fronting in
     record {
-      flowing = flowing_one _ _ _ _ _ (PrefixGives number c.loop-index.self rule c.loop-index.gathered c.loop-index.prefix) _ _ _ _ _ _ at after flowing
+      flowing = flowing_one _ _ _ _ _ (LookaheadHas number c.loop-index.self rule c.loop-index.gathered c.loop-index.lookahead) _ _ _ _ _ _ at after flowing
           (λ t h. fronting.below c.loop-index.self flowing.firsts (λ r u i. i) t (subst (λ l. After c.args.self.now rule l t) after h))
           (λ t h. subst (λ l. After c.loop-index.self rule l t) (sym after) (fronting.above c.loop-index.self flowing.firsts (λ r u i. i) t h))
           c.put_after.ensures;
       fronting = fronting_one number rule symbols _ _ _ _ _ _ _ _ _ _ _ at after
           (λ grm all. mapped_all (sym_of number) _ _ _ c.index-symbols-index.is lt (IsSymbolOf grm) all) fronting
-          (c.put_after.ensures.firsts ∙ flowing.firsts) (λ r t h. (c.put_after.ensures.bits r t).1 (inl h)) c.prefix_before-prefix.ensures;
+          (c.put_after.ensures.firsts ∙ flowing.firsts) (λ r t h. (c.put_after.ensures.bits r t).1 (inl h)) c.lookahead_before-lookahead.ensures;
     }
 
 pub returns-clause-takes : goal.returns-clause-takes

@@ -8,5 +8,5 @@ abbrev pub invariant-loop-index : goal.invariant-loop-index
 invariant-loop-index g l = record {
   flowing : Flowing (g.S.Storage.number l.rule.0) (map (sym_of g.S.Storage.number) l.symbols) l.index l.fn.self l.self l.fn.gained l.gained;
   fronting : Fronting g.S.Storage.number (g.S.Storage.number l.rule.0) (map (sym_of g.S.Storage.number) l.symbols) l.index (length l.fn.gathered)
-      l.fn.self l.self l.prefix l.gathered;
+      l.fn.self l.self l.lookahead l.gathered;
 }

@@ -2,7 +2,7 @@ use Rattle.std.proofs.Common.{◌≡◌, ℕ, zero, suc, ◌∷◌, Option, None
 use Rattle.cfgindex.specs.declared.idxnewtype.PIdx.{PIdx}
 use Rattle.cfgchoices.specs.Inner.Kinds.{positions_of}
 use Rattle.cfgchoices.specs.Inner.Candidates.{candidates_of, position_of}
-use Rattle.cfgchoices.proofs.Climbed.{climbed_begins}
+use Rattle.cfgchoices.proofs.ChosenBelow.{climbed_begins}
 use Rattle.cfgchoices.proofs.first.levels.choices_by_cost.Goals as goal
 
 no_positions : {S : Type 0} (number : S → ℕ) (n : ℕ) → map (position_of number) (replicate {A = Option (PIdx S)} n None) ≡ replicate n None

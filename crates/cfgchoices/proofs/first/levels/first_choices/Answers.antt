@@ -1,7 +1,7 @@
 use Rattle.std.proofs.Common.{◌≡◌, ℕ, Option, Result, Vec, Global, IfOk, map, sym, ap, subst, ◌∙◌}
 use Rattle.cfgindex.specs.declared.idxnewtype.PIdx.{PIdx}
 use Rattle.cfgleast.specs.Certificate.{choice_of}
-use Rattle.cfgchoices.specs.Inner.FirstChoices.{AreFirst, Walks}
+use Rattle.cfgchoices.specs.Inner.FirstChoices.{AreFirst, AreChosen}
 use Rattle.cfgleast.specs.Generator.{CostTables}
 use Rattle.cfgchoices.specs.Inner.Candidates.{by}
 use Rattle.cfgchoices.proofs.first.levels.first_choices.Goals as goal
@@ -15,6 +15,6 @@ reported number x y same Is result is = subst (λ z. IfOk result (λ firsts. Is 
 
 pub returns : goal.returns
 returns g c = record {
-  walks = reported g.S.Storage.number _ _ c.in_ok-optimal.ensures Walks c.choices_by_cost.result c.choices_by_cost.ensures.walks;
+  walks = reported g.S.Storage.number _ _ c.in_ok-optimal.ensures AreChosen c.choices_by_cost.result c.choices_by_cost.ensures.walks;
   first = reported g.S.Storage.number _ _ c.in_ok-optimal.ensures AreFirst c.choices_by_cost.result c.choices_by_cost.ensures.first;
 }

@@ -2,7 +2,7 @@ use Rattle.std.proofs.Common.{◌≡◌, ◌<◌, List, ℕ, All, length, arith,
 use Rattle.std.specs.Prelude.{slice_index}
 use Rattle.cfggreatest.specs.GreatestCosts.{AreGreatestCosts}
 use Rattle.cfgleast.specs.Generator.{IsGeneratorOf, tables_of}
-use Rattle.cfgchoices.specs.Inner.FirstChoices.{AreFirst, Walks}
+use Rattle.cfgchoices.specs.Inner.FirstChoices.{AreFirst, AreChosen}
 use Rattle.cfgchoices.specs.Inner.Kinds.{AreKinds, HasRulesAsTargets}
 use Rattle.cfgcosts.specs.Inner.Targets.{AreTargets, rules_of}
 use Rattle.cfgcosts.proofs.generator.SentenceGenerator.new.Given.{Over}
@@ -58,7 +58,7 @@ invariant_of-result g c =
       subst (λ (costs : List ℕ). IsGeneratorOf number grammar costs settled) c.as_slice-by_token.ensures.value (generator g (goal.at.invariant_of-result g c).In_ok-settled),
       subst (λ (costs : List ℕ). AreGreatestCosts grammar (slice_index costs) c.in_ok-greatest.greatest.items) c.as_slice-by_token.ensures.value c.in_ok-greatest.ensures,
       subst (λ (costs : List ℕ). AreKinds number (tables_of number grammar costs least settled.choices.items) c.in_ok-kinds.kinds.items) c.as_slice-by_token.ensures.value c.in_ok-kinds.ensures.kinds,
-      subst (λ (costs : List ℕ). Walks (tables_of number grammar costs least firsts)) c.as_slice-by_token.ensures.value c.in_ok-firsts.ensures.walks,
+      subst (λ (costs : List ℕ). AreChosen (tables_of number grammar costs least firsts)) c.as_slice-by_token.ensures.value c.in_ok-firsts.ensures.walks,
       subst (λ (costs : List ℕ). AreFirst (tables_of number grammar costs least firsts)) c.as_slice-by_token.ensures.value c.in_ok-firsts.ensures.first,
       subst (λ kinds. AreTargets number grammar kinds (rules_of number c.in_ok-last_targets.last_targets.items)) c.as_slice-by_production.ensures.value c.in_ok-last_targets.ensures,
     )

@@ -1,7 +1,7 @@
 use Rattle.std.proofs.Common.{◌≡◌, ◌<◌, ◌+◌, None, Some, length, map, slice_set, refl, sym, ap, subst, ◌∙◌, arith}
 use Rattle.cfgleast.specs.Certificate.{choice_of, rule_choice}
 use Rattle.cfgchoices.specs.Inner.Kinds.{IsTarget}
-use Rattle.cfgchoices.specs.Inner.Candidates.{Adds, Going, IsHandled, IsCandidate, Nominating, Candidates, Takes, candidates_of, owner, waiting}
+use Rattle.cfgchoices.specs.Inner.Candidates.{Adds, HandlesChains, IsHandled, IsCandidate, Nominating, Candidates, Takes, candidates_of, owner, waiting}
 use Rattle.cfgchoices.proofs.Nominated.{target_nominated}
 use Rattle.cfgchoices.proofs.Taken.{chosen_going, chosen_handles, chosen_left, chosen_shown, entry_within, has_shown, now, now_nominating, number_fits, passed_going, passed_handles, taken_cost, taken_less, unset_shown}
 use Rattle.cfgchoices.proofs.first.candidates.Firsts.choose.Given.{Over}
@@ -58,7 +58,7 @@ nominate_listed-requires-clause-nominated g c =
 pub returns-in_default : goal.returns-in_default
 returns-in_default g c =
     let d = c.in_default.ensures c.args.optimal.now c.requires.nominating.level in record {
-      going = subst (Going c.args.optimal.now) (sym d.1) c.requires;
+      going = subst (HandlesChains c.args.optimal.now) (sym d.1) c.requires;
       handles = λ q h. subst (λ f. IsHandled c.args.optimal.now.tables f q) (sym d.1) h;
       cost = ap (λ (f : Candidates). f.cost) d.1;
       left = ap waiting d.1 ∙ d.0;

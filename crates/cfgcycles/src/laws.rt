@@ -1,0 +1,37 @@
+//! What cycles, and paths of unit steps, say of derivations; which productions can be used; and what `clone` of steps
+//! copies. That is derived, so the law names the impl, as in `⟦<Step as Clone>⟧`.
+
+ghost use Rattle.std.specs.Prelude.{◌≡◌, ◌↔◌, ℕ, List, Contains};
+ghost use Rattle.derivation.specs.Grammar.{Grammar, HasProduction, Sym, Rule};
+ghost use Rattle.derivation.specs.Sentence.{Sentence};
+ghost use Rattle.cfgcycles.specs.UnitPaths.{UnitPath, DerivesRule, IsCyclic};
+ghost use Rattle.cfgcycles.specs.StepPaths.{IsCycle};
+ghost use Rattle.cfgcycles.specs.UnitSteps.{IsStep};
+ghost use Rattle.cfgcycles.specs.Uses.{IsUsable};
+ghost use Rattle.cfgcycles.specs.declared.step_paths.Step.{Step};
+
+use crate::step_paths::Step;
+
+/// A rule has a path of unit steps to another exactly if, in one or more steps, it derives the list of only that rule.
+pub fn unit_paths_are_derivations()
+    ensures { (g : Grammar) (a b : ℕ) → UnitPath (HasProduction g) a b ↔ DerivesRule (HasProduction g) a b }
+{}
+
+/// A rule has a cycle of unit steps exactly if it is cyclic.
+pub fn cycles_are_derivations()
+    ensures { (g : Grammar) (r : ℕ)
+        → IsCyclic (HasProduction g) r ↔ ((path : List Step) × IsCycle (IsStep g) r path) }
+{}
+
+/// Some sentence of a rule uses a production of the rule exactly if each rule in the production is productive.
+pub fn usable_productions_hold_sentences()
+    ensures { (g : Grammar) (r : ℕ) (symbols : List Sym) → HasProduction g r symbols
+        → IsUsable (HasProduction g) r symbols ↔ ((q : ℕ) → Contains symbols (Rule q)
+        → (v : List ℕ) × Sentence (HasProduction g) q v) }
+{}
+
+/// A clone of a step equals its source, and allocates nothing.
+pub fn steps_are_copied()
+    ensures clone { (a b : Step) → ⟦<Step as Clone>⟧.is_clone a b → b ≡ a }
+    ensures cloned { (a : Step) → ⟦<Step as Clone>⟧.is_infallible a }
+{}

@@ -1,5 +1,0 @@
-use Rattle.cycles.proofs.Paths.{derivation_of_cycle, cycle_of_derivation}
-use Rattle.cycles.proofs.laws.cycles_are_derivations.Goals as goal
-
-pub returns : goal.returns
-returns c = λ g r. (cycle_of_derivation g r, derivation_of_cycle g r)

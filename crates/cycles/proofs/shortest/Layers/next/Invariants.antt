@@ -1,9 +1,0 @@
-use Rattle.std.proofs.Common.{◌≡◌, []}
-use Rattle.cycles.specs.StepLists.{HasStep}
-use Rattle.cycles.proofs.Finding.{FindsLayer}
-use Rattle.cycles.proofs.shortest.Layers.next.Given as goal
-
-abbrev pub invariant-loop-from : goal.invariant-loop-from
-invariant-loop-from l =
-    (l.self.steps.now ≡ l.fn.self.steps.now)
-    × FindsLayer l.fn.count (HasStep l.fn.self.steps.now) l.fn.layer l.from-index l.fn.self.found.items [] l.self.found.items l.next.items
