@@ -1,7 +1,7 @@
 """The tables of tools/bench --beside: how long the phases take here and in the Rust crate, side by side.
 
-Both programs go through the phases in a process for each run, and the least time counts. Where a phase takes the crate too long, a
-further run goes on after it. Where shapes are named, their tables are printed, and no page is written."""
+Both programs run the phases, each run in its own process, and the least time counts. If a phase takes the crate too long, a further
+run continues after it. If shapes are named, their tables are printed, and no page is written."""
 import itertools
 import os
 import re
@@ -15,9 +15,9 @@ from explained import rows as rows_by_rules
 
 PAGE, README = f"{ROOT}/docs/PERFORMANCE.md", f"{ROOT}/README.md"
 BEGIN, END = "<!-- tools/bench --beside -->\n", "<!-- end of tools/bench --beside -->\n"
-THERE = ["reading", "tables", "firsts", "follows", "path", "greatest", "least", "min_sentence", "min_sentences", "every"]
+OF_CRATE = ["reading", "tables", "firsts", "follows", "path", "greatest", "least", "min_sentence", "min_sentences", "every"]
 NEED_LEAST = {"min_sentence", "min_sentences", "every"}
-# the phases that a column takes together, here and in the crate, which finds costs when they are asked for
+# the phases that a column adds up, here and in the crate, which finds costs on request
 PARTS = {
     "reading": (["reading"], ["reading"]), "tables": (["tables"], ["tables"]), "FIRST": (["firsts"], ["firsts"]),
     "FOLLOW": (["follows"], ["follows"]), "path": (["path"], ["path"]),
@@ -39,11 +39,11 @@ class Crate:
     def __init__(self, program, seconds, before):
         self.program, self.seconds, self.before = program, seconds, before
 
-    def run(self, words):
-        """What a run wrote, line by line, and why it ended, unless it ended well."""
+    def run(self, command):
+        """The lines that a run wrote, and why it failed, or an empty text."""
         with tempfile.TemporaryFile("w+") as out:
             try:
-                ran = subprocess.run(words, stdout=out, stderr=subprocess.DEVNULL, timeout=self.seconds, preexec_fn=self.before)
+                ran = subprocess.run(command, stdout=out, stderr=subprocess.DEVNULL, timeout=self.seconds, preexec_fn=self.before)
                 why = {0: "", 101: "panics"}.get(ran.returncode, "no memory or stack")
             except subprocess.TimeoutExpired:
                 why = f"over {self.seconds} s"
@@ -51,15 +51,15 @@ class Crate:
             return out.read().splitlines(), why
 
     def once(self, file, phases):
-        """What one run wrote of these phases, and why it ended before the last."""
+        """What one run wrote about these phases, and why it ended before the last."""
         lines, why = self.run([self.program, "time", file, *phases])
         return {it[0]: int(it[2]) / 1000 for it in map(str.split, lines[1:])}, why
 
     def least(self, file, phases, runs):
         """The least of some runs for each phase, or why there is none."""
-        least, asked = {}, list(phases)
+        least, selected = {}, list(phases)
         for _ in range(runs):
-            left = list(asked)
+            left = list(selected)
             while left:
                 found, why = self.once(file, left)
                 least.update({phase: min(it, least.get(phase, it)) for phase, it in found.items()})
@@ -67,8 +67,8 @@ class Crate:
                     break
                 stopped = next(it for it in left if it not in found)
                 gone = {stopped, *(NEED_LEAST if stopped == "least" else ())}
-                least.update({it: why if it == stopped else "-" for it in asked if it in gone})
-                left, asked = ([it for it in those if it not in gone] for those in (left[left.index(stopped):], asked))
+                least.update({it: why if it == stopped else "-" for it in selected if it in gone})
+                left, selected = ([it for it in those if it not in gone] for those in (left[left.index(stopped):], selected))
         return least
 
 
@@ -90,8 +90,8 @@ class CountedCrate(Crate):
 def together(times, phases):
     """What these phases take together, or why that isn't known."""
     found = [times.get(phase) for phase in phases]
-    words = [it for it in found if isinstance(it, str)]
-    return words[0] if words else None if None in found else sum(found)
+    reasons = [it for it in found if isinstance(it, str)]
+    return reasons[0] if reasons else None if None in found else sum(found)
 
 
 def cell(ours, theirs, number):
@@ -108,7 +108,7 @@ def ratio(times):
 
 
 def texts(bench, shapes):
-    """The texts of these shapes: the shape, what it is called, and the text."""
+    """The texts of these shapes: for each its shape, its title and the text."""
     for name in shapes:
         make, smallest, unit = bench.SHAPES[name]
         if name == "languages":
@@ -125,16 +125,15 @@ def to_count(grammars):
 
 
 def measured(bench, crate, given, grammars):
-    """Of each text the shape, what it is called, how many bytes it has, and for each column what it takes here and in
-    the crate."""
+    """For each text its shape, its title, how many bytes it has, and for each column what it takes here and in the crate."""
     for shape, title, text in grammars:
         print(f"bench: {title}", file=sys.stderr, flush=True)
         mine = {phase: it for phase, it in zip(bench.PHASES, bench.measure(shape, text, given)[0]) if it != "no answer"}
-        asked = [it for it in THERE if it != "every" or shape in bench.ASKED_EVERY and not given.instructions]
+        selected = [it for it in OF_CRATE if it != "every" or shape in bench.WITH_EVERY and not given.instructions]
         with tempfile.NamedTemporaryFile("w", suffix=".y", encoding="utf-8") as it:
             it.write(text)
             it.flush()
-            crates = crate.least(it.name, asked, given.runs)
+            crates = crate.least(it.name, selected, given.runs)
         both = {column: (together(mine, ours), together(crates, theirs)) for column, (ours, theirs) in COLUMNS.items()}
         yield shape, title, len(text.encode()), both
 
@@ -146,7 +145,7 @@ def table(bench, found, columns):
 
 
 def slower(bench, rows):
-    """Where the crate is quicker, phase by phase."""
+    """The grammars for which the crate is quicker, phase by phase."""
     head, *rest = rows
     found = {column: [f"{row[0]} {it[0]}" for row in rest for it in [SLOWER.search(row[at])] if it]
              for at, column in enumerate(head)}
@@ -157,7 +156,7 @@ def slower(bench, rows):
 
 
 def headline(found):
-    """How many times as long the crate takes for grammars that people wrote."""
+    """How many times as long the crate takes for grammars of languages."""
     pairs = [both["whole"] for shape, _, _, both in found if shape == "languages"]
     if not pairs or not all(isinstance(it, float) for pair in pairs for it in pair):
         return ""
@@ -189,17 +188,17 @@ def put(file, text):
     with open(file, encoding="utf-8") as it:
         before, begin, rest = it.read().partition(BEGIN)
     if not begin or END not in rest:
-        sys.exit(f"bench: {file} has no marks for what is measured beside the crate")
+        sys.exit(f"bench: {file} has no marks for the comparison with the crate")
     with open(file, "w", encoding="utf-8") as out:
         out.write(f"{before}{BEGIN}{text}{END}{rest.partition(END)[2]}")
 
 
 def write(bench, given):
     """Puts the tables into docs/PERFORMANCE.md and the headline into README.md, and draws the picture."""
-    told, paragraphs = page(bench, given)
+    first_line, paragraphs = page(bench, given)
     if given.shapes:
         print("\n\n".join(paragraphs))
         return
     put(PAGE, "".join(f"\n{it.rstrip()}\n" for it in paragraphs) + "\n")
-    put(README, f"{told}\n" if told else "")
+    put(README, f"{first_line}\n" if first_line else "")
     subprocess.run([f"{ROOT}/tools/picture"], check=True)

@@ -20,7 +20,7 @@ def build(original):
     """Builds tools/original over the crate, and returns the program's path."""
     shutil.rmtree(f'{COPY}/project', ignore_errors=True)
     shutil.copytree(f'{ROOT}/tools/original', f'{COPY}/project')
-    words, folder = ['cargo', 'build', '--release', '--quiet', '--target-dir', f'{COPY}/target'], ROOT
+    command, folder = ['cargo', 'build', '--release', '--quiet', '--target-dir', f'{COPY}/target'], ROOT
     if original != 'registry':
         folder = os.path.realpath(original)
         crate = folder if is_crate(folder) else f'{folder}/cfgrammar'
@@ -28,9 +28,9 @@ def build(original):
             sys.exit(f'{original} has no cfgrammar 0.15.0')
         with open(f'{COPY}/project/Cargo.toml', 'a', encoding='utf-8') as it:
             it.write(f'\n[patch.crates-io]\ncfgrammar = {{ path = "{crate}" }}\n')
-        words.append('--offline')
+        command.append('--offline')
     # cargo reads the configuration of the folder in which it runs
-    ran = subprocess.run([*words, '--manifest-path', f'{COPY}/project/Cargo.toml'], cwd=folder, capture_output=True, text=True)
+    ran = subprocess.run([*command, '--manifest-path', f'{COPY}/project/Cargo.toml'], cwd=folder, capture_output=True, text=True)
     if ran.returncode:
         sys.exit(f'{ran.stderr}tools/original is not built')
     return f'{COPY}/target/release/original'
@@ -64,20 +64,20 @@ def parts(written, count):
     return [part.rstrip('\n').split('\n') for part in found] if len(found) == count else None
 
 
-def written(words, rows):
-    """The lines that a program prints for each row. If it fails, the rows are halved, until the one is found."""
+def written(command, rows):
+    """The lines that a program prints for each row. If it fails, the rows are halved until the one that fails is found."""
     with tempfile.NamedTemporaryFile('w', suffix='.rows', encoding='utf-8', newline='') as file:
         file.writelines(rows)
         file.flush()
         os.chmod(file.name, 0o644)
-        ran = subprocess.run([*words, file.name], capture_output=True, check=False)
+        ran = subprocess.run([*command, file.name], capture_output=True, check=False)
     found = parts(ran.stdout.decode(), len(rows)) if ran.returncode == 0 else None
     if found is not None:
         return found
     if len(rows) == 1:
         return [[f'status {ran.returncode}: {ran.stderr.decode()[-300:]}']]
     half = len(rows) // 2
-    return written(words, rows[:half]) + written(words, rows[half:])
+    return written(command, rows[:half]) + written(command, rows[half:])
 
 
 class Both:
@@ -93,22 +93,22 @@ class Both:
         return [normal(row_of(spelled), answered) for spelled, answered in zip(rows, written([self.program], rows))]
 
     def answers(self, rows, milliseconds=None):
-        """Each row, with the requests of the answers, and the answers of the crate and of the port. The minimal sentences of a rule are
-        only requested from the port if the crate lists them."""
+        """Each row as it is given to the port, and the answers of the crate and of the port. A row requests the minimal sentences of a rule
+        only if the crate lists them."""
         by_crate = self.of_crate(rows, milliseconds)
-        asked = [spelled + listed(answered) if spelled.startswith('generator ') else spelled for spelled, answered in zip(rows, by_crate)]
-        return list(zip(asked, by_crate, self.of_port(asked)))
+        requested = [it + listed(answered) if it.startswith('generator ') else it for it, answered in zip(rows, by_crate)]
+        return list(zip(requested, by_crate, self.of_port(requested)))
 
     def explained(self, rows):
         """The same, each with the names of the differences, or None. What isn't explained is tried again with ten times the time, since
         on a busy machine a call may look endless."""
         found = []
-        for spelled, (asked, crate, port) in zip(rows, self.answers(rows)):
-            names = explained(row_of(asked), crate, port)
+        for spelled, (requested, crate, port) in zip(rows, self.answers(rows)):
+            names = explained(row_of(requested), crate, port)
             if names is None:
-                asked, crate, port = self.answers([spelled], 10 * self.milliseconds)[0]
-                names = explained(row_of(asked), crate, port)
-            found.append((asked, crate, port, names))
+                requested, crate, port = self.answers([spelled], 10 * self.milliseconds)[0]
+                names = explained(row_of(requested), crate, port)
+            found.append((requested, crate, port, names))
         return found
 
 

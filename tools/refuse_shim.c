@@ -1,13 +1,14 @@
 /* Preloaded by tools/refuse: refuses a program's requests for memory, one in each run.
 
-   The program of rows asks for a block of ROOM bytes for the answers of each row. So the run of a row begins there, and ends where
-   the row is written. The tool repeats a row as often as it has requests to refuse, and a table says which one is refused in which
-   run. How much is written in the block by then shows at which call that is. After the line `without memory` all requests are
-   refused from that one on, and the row has to be answered as ever.
+   The program of rows requests a block of ROOM bytes for the results of each row. With that request the run of a row begins, and it
+   ends when the row is written. The tool repeats a row once for each request that is to be refused, and a table has the request that
+   is refused in each run. How much the block holds by then shows at which call that is. After the line `without memory` all requests
+   are refused from that one on, and the row has to print what it prints with ample memory.
 
-   A row that takes long isn't repeated: the program is forked at each of the requests. The child's request is refused, and what it
-   writes from there on is judged; its parent, whose request is granted, counts how that ended. So what comes before a request is
-   run once, and not again for each one. Another program is forked at each of its requests. Nothing here asks for memory by malloc. */
+   A row that takes long isn't repeated: the program is forked at each of the requests. The child's request is refused, and what the
+   child writes from then on is judged; the parent, whose request is granted, counts how the child ended. So what comes before a
+   request is run once, and not again for each one. cfgtool and cfglint are forked at each of their requests. Nothing here calls
+   malloc. */
 #define _GNU_SOURCE
 #include <fcntl.h>
 #include <signal.h>
@@ -23,25 +24,25 @@
 
 /* ROOM is that of crates/vectors_rows/src/files.rt. */
 enum { ROOM = 1048573, MOST_WRITTEN = 1 << 26, RUN_SECONDS = 60 };
-enum { TOLD = 41, UNNEEDED = 42, WRONG = 43 };
+enum { REPORTED = 41, UNNEEDED = 42, WRONG = 43 };
 
 void *__libc_malloc(size_t), *__libc_realloc(void *, size_t), *__libc_calloc(size_t, size_t), *__libc_memalign(size_t, size_t);
 void __libc_free(void *);
 
-static const char WANT[] = "out of memory\n", WITHOUT[] = "\nwithout memory\n";
+static const char OUT_OF_MEMORY[] = "out of memory\n", WITHOUT[] = "\nwithout memory\n";
 
-/* Of a row whose requests are counted: how many there are, the bytes of its answers, how long it takes, and how many requests come
-   after the line `without memory`, or -1 where there is no such line. */
+/* A row whose requests are counted: how many there are, the bytes of its results, how many microseconds it takes, and how many
+   requests come after the line `without memory`, or -1 if there is no such line. */
 typedef struct { long requests, bytes, micros, without; } counted_row;
 
-/* Of a row whose requests are refused: where its answers begin, and their bytes; whether the program is forked; and which requests
-   are refused, in order. */
+/* A row whose requests are refused: the offset of its results, and their bytes; whether the program is forked; and which requests are
+   refused, in order. */
 typedef struct { long at, bytes, forks, count, refused[]; } tried_row;
 
-/* What the tool asks for: to count the requests of rows, to refuse those of rows, or to refuse those of a program. */
+/* What to do: count the requests of rows, refuse those of rows, or refuse those of a program. */
 static enum { NOTHING, COUNT, ROWS, PROGRAM } mode;
-static int results = -1, counts = -1, is_armed, is_child, rows_begun, wanted_status, is_without, refuses_all;
-static long request, requests_without, written, begun_at, tried, told, unneeded, wrong;
+static int results = -1, counts = -1, is_armed, is_child, rows_begun, expected_status, is_without, refuses_all;
+static long request, requests_without, written, begun_at, tried, reported, unneeded, wrong;
 static char *block, *answers, *taken, *taken_errors;
 static size_t block_used, answers_len, taken_len, taken_errors_len;
 static const tried_row *here, *following, *end_of_table;
@@ -73,7 +74,7 @@ static void *contents(const char *path, size_t *len)
     return it;
 }
 
-/* Sees how much of the row's answers is written, and whether memory may still be taken. */
+/* Finds how many bytes of the row's results are written, and whether calls may still request memory. */
 static void look(void)
 {
     if (!block) return;
@@ -84,7 +85,7 @@ static void look(void)
 
 static int is_text(const char *at, size_t len, const char *text) { return len == strlen(text) && !memcmp(at, text, len); }
 
-/* Tells of a run that went wrong: which row, which request, where, and what was written from there on. */
+/* Reports a run that is wrong: the row, the request, how many bytes were written before it, and what was written after them. */
 static int is_wrong(const char *why, const char *from, size_t len)
 {
     char line[512];
@@ -98,8 +99,8 @@ static int is_wrong(const char *why, const char *from, size_t len)
     return WRONG;
 }
 
-/* What a run says of a row: its answers, or their beginning up to the refused call, want of memory, some of the last lines again
-   that stood before that call, and all that is answered from there on. */
+/* Judges what a run printed for a row: its results; or their prefix up to the refused call, `out of memory`, some of the last lines
+   before that call again, and all results from that call on. */
 static int judge_row(void)
 {
     const char *whole = answers + here->at, *got = taken;
@@ -107,32 +108,32 @@ static int judge_row(void)
     if (got_len == len && !memcmp(got, whole, len)) return UNNEEDED;
     size_t begins = 0;
     while (begins < got_len && begins < len && got[begins] == whole[begins]) begins++;
-    if (is_without) return is_wrong("memory is wanted where none is taken", got + begins, got_len - begins);
-    if (got_len < head || begins < head) return is_wrong("other answers before the call", got + begins, got_len - begins);
+    if (is_without) return is_wrong("a call needs memory after `without memory`", got + begins, got_len - begins);
+    if (got_len < head || begins < head) return is_wrong("other results before the call", got + begins, got_len - begins);
     const char *rest = got + head;
-    size_t rest_len = got_len - head, want = strlen(WANT);
-    if (rest_len < want || memcmp(rest, WANT, want)) return is_wrong("no want of memory at the call", rest, rest_len);
-    rest += want, rest_len -= want;
+    size_t rest_len = got_len - head, report_len = strlen(OUT_OF_MEMORY);
+    if (rest_len < report_len || memcmp(rest, OUT_OF_MEMORY, report_len)) return is_wrong("no `out of memory` at the call", rest, rest_len);
+    rest += report_len, rest_len -= report_len;
     if (rest_len < len - head) return is_wrong("it doesn't go on", rest, rest_len);
     size_t again = rest_len - (len - head);
     if (again > head || memcmp(rest, whole + head - again, again))
-        return is_wrong("what was before the call is another", rest, rest_len);
+        return is_wrong("the lines before the call are not repeated", rest, rest_len);
     if (again < head && whole[head - again - 1] != '\n' && again) return is_wrong("no whole lines again", rest, rest_len);
-    if (memcmp(rest + again, whole + head, len - head)) return is_wrong("other answers behind the call", rest + again, len - head);
-    return TOLD;
+    if (memcmp(rest + again, whole + head, len - head)) return is_wrong("other results after the call", rest + again, len - head);
+    return REPORTED;
 }
 
-/* Whether a program said that memory ended, and nothing else. */
-static int wants_memory(void)
+/* Whether a program printed that it ran out of memory, and nothing else. */
+static int ran_out_of_memory(void)
 {
     return is_text(taken_errors, taken_errors_len, "cfgtool: out of memory\n") || is_text(taken_errors, taken_errors_len, "cfglint: out of memory\n");
 }
 
-/* How a run of a program ended: with want of memory and nothing on standard output, or as ever. */
+/* Judges how a run of a program ended: out of memory with nothing on standard output, or as with ample memory. */
 static int judge_program(int status)
 {
-    if (status == 3 && !taken_len && wants_memory()) return TOLD;
-    if (status == wanted_status && !taken_errors_len && taken_len == answers_len && !memcmp(taken, answers, answers_len)) return UNNEEDED;
+    if (status == 3 && !taken_len && ran_out_of_memory()) return REPORTED;
+    if (status == expected_status && !taken_errors_len && taken_len == answers_len && !memcmp(taken, answers, answers_len)) return UNNEEDED;
     char why[64];
     snprintf(why, sizeof why, "status %d, %zu bytes on standard output", status, taken_len);
     return is_wrong(why, taken_errors, taken_errors_len);
@@ -140,12 +141,12 @@ static int judge_program(int status)
 
 static void count(int judged)
 {
-    if (judged == TOLD) told++;
+    if (judged == REPORTED) reported++;
     else if (judged == UNNEEDED) unneeded++;
     else wrong++;
 }
 
-/* A request is refused, and those after it only where no call takes memory any more. */
+/* Refuses a request, and those after it only if no call may request memory any more. */
 static int refuse(void)
 {
     is_armed = 0, refuses_all = is_without;
@@ -153,7 +154,7 @@ static int refuse(void)
     return 1;
 }
 
-/* Refuses a request in a child, and waits for what comes of it. Answers whether this is the child. */
+/* Refuses a request in a child, and waits until the child ends. Returns whether this is the child. */
 static int refuse_in_child(void)
 {
     pid_t child = fork();
@@ -162,7 +163,7 @@ static int refuse_in_child(void)
     while (waitpid(child, &status, 0) < 0) ;
     int judged = WIFEXITED(status) ? WEXITSTATUS(status) : 0;
     count(judged);
-    if (child < 0 || (judged != TOLD && judged != UNNEEDED && judged != WRONG)) {
+    if (child < 0 || (judged != REPORTED && judged != UNNEEDED && judged != WRONG)) {
         char why[64];
         snprintf(why, sizeof why, "the run ended with %#x", status);
         is_wrong(why, "", 0);
@@ -170,7 +171,7 @@ static int refuse_in_child(void)
     return 0;
 }
 
-/* Notes a request. Answers whether it is to be refused. */
+/* Counts a request. Returns whether it is to be refused. */
 static int is_refused(void)
 {
     if (!is_armed) return refuses_all;
@@ -184,7 +185,7 @@ static int is_refused(void)
     return here->forks ? refuse_in_child() : refuse();
 }
 
-/* A row is written, or all of them: notes what was counted, or judges what was written. */
+/* A row has been written, or all of them: writes what was counted, or judges what was written. */
 static void row_ends(void)
 {
     if (is_child) _exit(judge_row());
@@ -196,7 +197,7 @@ static void row_ends(void)
     else if (!here->forks) count(judge_row());
 }
 
-/* The block for a row's answers is asked for. */
+/* The program requests the block for a row's results. */
 static void *row_begins(void)
 {
     row_ends();
@@ -224,7 +225,7 @@ void free(void *it)
 
 void *realloc(void *from, size_t size)
 {
-    if (from && from == block) say("wrong: a row has more answers than there is room for\n"), _exit(WRONG);
+    if (from && from == block) say("wrong: a row has more results than there is room for\n"), _exit(WRONG);
     return is_refused() ? 0 : __libc_realloc(from, size);
 }
 
@@ -258,7 +259,7 @@ ssize_t write(int file, const void *bytes, size_t count)
 
 ssize_t __write(int file, const void *bytes, size_t count) { return write(file, bytes, count); }
 
-/* The program ends: a child is judged, and else it is told how many runs ended in which way. */
+/* The program ends: judges it if it is a child, and otherwise writes how many runs ended in which way. */
 static void ends(int status, void *unused)
 {
     (void)unused;
@@ -268,11 +269,11 @@ static void ends(int status, void *unused)
     row_ends();
     if (following != end_of_table) _exit(is_wrong("fewer rows than the table has", "", 0));
     char line[128];
-    snprintf(line, sizeof line, "runs %ld %ld %ld\n", told, unneeded, wrong);
+    snprintf(line, sizeof line, "runs %ld %ld %ld\n", reported, unneeded, wrong);
     say(line);
 }
 
-/* A signal ends a run that isn't a child's, and with it the process. */
+/* A signal ends a run, and with it the process: reports the run. */
 static void dies(int number)
 {
     char why[64];
@@ -290,14 +291,14 @@ static void catch_signals(void)
 
 __attribute__((constructor)) static void begins(void)
 {
-    const char *asked = getenv("REFUSE"), *to = getenv("REFUSE_RESULTS");
-    if (!asked || !to) return;
+    const char *task = getenv("REFUSE"), *to = getenv("REFUSE_RESULTS");
+    if (!task || !to) return;
     results = open(to, O_WRONLY | O_CREAT | O_APPEND | O_CLOEXEC, 0600);
     const char *whole = getenv("REFUSE_ANSWERS"), *table = getenv("REFUSE_ROWS"), *status = getenv("REFUSE_STATUS");
     if (whole) answers = contents(whole, &answers_len);
-    if (status) wanted_status = atoi(status);
+    if (status) expected_status = atoi(status);
     size_t len;
-    mode = !strcmp(asked, "count") ? COUNT : !strcmp(asked, "rows") ? ROWS : PROGRAM;
+    mode = !strcmp(task, "count") ? COUNT : !strcmp(task, "rows") ? ROWS : PROGRAM;
     is_armed = mode == PROGRAM;
     if (mode != PROGRAM) block = room(ROOM + 1);
     if (mode == COUNT) counts = open(table, O_WRONLY | O_CREAT | O_APPEND | O_CLOEXEC, 0600);

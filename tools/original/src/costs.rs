@@ -17,7 +17,7 @@ const WRITTEN: usize = 20;
 type OfRules = Result<Vec<String>, &'static str>;
 
 /// A question to a generator about a rule.
-type Question = fn(&Asked, &SentenceGenerator<'_, u32>, RIdx<u32>) -> String;
+type Question = fn(&Costed, &SentenceGenerator<'_, u32>, RIdx<u32>) -> String;
 
 /// The cost of each token, by a row.
 fn costs(row: &Row, tokens: usize) -> Vec<u8> {
@@ -31,18 +31,19 @@ fn costs(row: &Row, tokens: usize) -> Vec<u8> {
 /// Lines of the costs of each rule and of its minimal sentences. Those of all rules are found at once, so a call that
 /// doesn't end or panics does so for each.
 pub fn lines(row: &Row, grammar: YaccGrammar<u32>, limit: Duration) -> Vec<String> {
-    let asked = Arc::new(Asked { costs: costs(row, usize::from(grammar.tokens_len())), grammar });
-    let greatest = asked
+    let costed = Arc::new(Costed { costs: costs(row, usize::from(grammar.tokens_len())), grammar });
+    let greatest = costed
         .of_rules(limit, |_, it, rule| it.max_sentence_cost(rule).map_or("unbounded".to_string(), |it| it.to_string()));
-    let least = asked.of_rules(limit, |_, it, rule| it.min_sentence_cost(rule).to_string());
-    let sentence = least.clone().and_then(|_| asked.of_rules(limit, |_, it, rule| tokens_text(&it.min_sentence(rule))));
-    let all = least.clone().and_then(|_| asked.of_rules(limit, Asked::sentences));
-    let mut lines = vec![asked.tokens_line()];
-    for (number, rule) in asked.grammar.iter_rules().enumerate() {
+    let least = costed.of_rules(limit, |_, it, rule| it.min_sentence_cost(rule).to_string());
+    let sentence =
+        least.clone().and_then(|_| costed.of_rules(limit, |_, it, rule| tokens_text(&it.min_sentence(rule))));
+    let all = least.clone().and_then(|_| costed.of_rules(limit, Costed::sentences));
+    let mut lines = vec![costed.tokens_line()];
+    for (number, rule) in costed.grammar.iter_rules().enumerate() {
         let of_rule = |answers: &OfRules| answers.as_ref().map_or_else(|why| why.to_string(), |it| it[number].clone());
         lines.push(format!(
             "    rule {number} {}: least {}, greatest {}; sentence {}{}",
-            asked.grammar.rule_name_str(rule),
+            costed.grammar.rule_name_str(rule),
             of_rule(&least),
             of_rule(&greatest),
             of_rule(&sentence),
@@ -53,18 +54,18 @@ pub fn lines(row: &Row, grammar: YaccGrammar<u32>, limit: Duration) -> Vec<Strin
 }
 
 /// A grammar, and what its tokens cost.
-struct Asked {
+struct Costed {
     grammar: YaccGrammar<u32>,
     costs: Vec<u8>,
 }
 
-impl Asked {
+impl Costed {
     /// The answer to a question for each rule, within this time.
-    fn of_rules(self: &Arc<Self>, limit: Duration, ask: Question) -> OfRules {
-        let asked = Arc::clone(self);
+    fn of_rules(self: &Arc<Self>, limit: Duration, question: Question) -> OfRules {
+        let costed = Arc::clone(self);
         within(limit, move || {
-            let generator = asked.grammar.sentence_generator(|token| asked.costs[usize::from(token)]);
-            asked.grammar.iter_rules().map(|rule| ask(&asked, &generator, rule)).collect()
+            let generator = costed.grammar.sentence_generator(|token| costed.costs[usize::from(token)]);
+            costed.grammar.iter_rules().map(|rule| question(&costed, &generator, rule)).collect()
         })
     }
 

@@ -35,24 +35,24 @@ struct Watch<'a> {
 }
 
 impl Watch<'_> {
-    fn asks(&self, phase: &str) -> bool {
+    fn selects(&self, phase: &str) -> bool {
         self.phases.contains(&phase)
     }
 
-    /// Makes a call, and prints how long it took if that is requested.
+    /// Makes a call, and prints how long it took if its phase is selected.
     fn time<T>(&self, phase: &str, call: impl FnOnce() -> T, found: impl FnOnce(&T) -> usize) -> T {
         let began = Instant::now();
         let answer = black_box(call());
         let took = began.elapsed().as_micros();
-        if self.asks(phase) {
+        if self.selects(phase) {
             println!("{phase} {} {took}", found(&answer));
         }
         answer
     }
 
-    /// Makes a call on which nothing else depends, if it is requested.
-    fn time_if_asked<T>(&self, phase: &str, call: impl FnOnce() -> T, found: impl FnOnce(&T) -> usize) {
-        if self.asks(phase) {
+    /// Makes a call on which nothing else depends, if its phase is selected.
+    fn time_if_selected<T>(&self, phase: &str, call: impl FnOnce() -> T, found: impl FnOnce(&T) -> usize) {
+        if self.selects(phase) {
             self.time(phase, call, found);
         }
     }
@@ -60,9 +60,9 @@ impl Watch<'_> {
 
 fn analyse(watch: &Watch<'_>, grammar: &YaccGrammar<u32>) {
     let (start, end) = (grammar.start_rule_idx(), grammar.eof_token_idx());
-    watch.time_if_asked("firsts", || grammar.firsts(), |it| usize::from(it.is_epsilon_set(start)));
-    watch.time_if_asked("follows", || grammar.follows(), |it| usize::from(it.is_set(start, end)));
-    watch.time_if_asked("path", || grammar.has_path(start, start), |it| usize::from(*it));
+    watch.time_if_selected("firsts", || grammar.firsts(), |it| usize::from(it.is_epsilon_set(start)));
+    watch.time_if_selected("follows", || grammar.follows(), |it| usize::from(it.is_set(start, end)));
+    watch.time_if_selected("path", || grammar.has_path(start, start), |it| usize::from(*it));
 }
 
 /// Costs are computed when the first of them is requested.
@@ -70,8 +70,8 @@ fn generate(watch: &Watch<'_>, grammar: &YaccGrammar<u32>) {
     let rules: Vec<RIdx<u32>> = grammar.iter_rules().collect();
     let generator = grammar.sentence_generator(|_| 1);
     let greatest = || rules.iter().filter(|rule| generator.max_sentence_cost(**rule).is_some()).count();
-    watch.time_if_asked("greatest", greatest, |count| *count);
-    if ["least", "min_sentence", "min_sentences", "every"].iter().any(|phase| watch.asks(phase)) {
+    watch.time_if_selected("greatest", greatest, |count| *count);
+    if ["least", "min_sentence", "min_sentences", "every"].iter().any(|phase| watch.selects(phase)) {
         let start = grammar.start_rule_idx();
         watch.time("least", || generator.min_sentence_cost(start), |_| rules.len());
         find_sentences(watch, &generator, start, &rules);
@@ -79,8 +79,8 @@ fn generate(watch: &Watch<'_>, grammar: &YaccGrammar<u32>) {
 }
 
 fn find_sentences(watch: &Watch<'_>, generator: &SentenceGenerator<'_, u32>, start: RIdx<u32>, rules: &[RIdx<u32>]) {
-    watch.time_if_asked("min_sentence", || generator.min_sentence(start), Vec::len);
-    watch.time_if_asked("min_sentences", || generator.min_sentences(start), Vec::len);
+    watch.time_if_selected("min_sentence", || generator.min_sentence(start), Vec::len);
+    watch.time_if_selected("min_sentences", || generator.min_sentences(start), Vec::len);
     let every = || rules.iter().map(|rule| generator.min_sentences(*rule).len()).sum::<usize>();
-    watch.time_if_asked("every", every, |count| *count);
+    watch.time_if_selected("every", every, |count| *count);
 }
