@@ -101,7 +101,7 @@ module _ (x : CostTables) (r : ℕ) where
     below = λ p h. absurd (contains_none p h);
   }
 
-  pub level_goes_on : (b : ℕ) (old mid new : SearchState) (base base' : List ℕ) → Level base old → mid.reached ≡ old.reached → old.waiting ≡ mid.waiting ++ b ∷ []
+  pub level_goes_on : (b : ℕ) (old mid new : SearchState) (base base' : List ℕ) → Level base old → mid.reachable ≡ old.reachable → old.waiting ≡ mid.waiting ++ b ∷ []
       → Reaches (HasTarget x b) mid new → Lists (λ p. ((nth_production x.grammar p).rule ≡ b) × IsBaseProduction x p) base base' → Level base' new
   level_goes_on b old mid new base base' l same popped w lists = record {
     search = search_goes_on x.grammar.rules (λ q. q ≡ r) (HasTarget x) (BaseListed base) b old mid l.search popped new (BaseListed base')

@@ -34,16 +34,16 @@ module _ (x : CostTables) (r : ℕ) where
   pub record Asking (listed : List (ℕ × ℕ)) (s : SearchState) : Type 0 where
     pub search : Searching x.grammar.rules (λ q. q ≡ r) Asks (IsListed listed) s
     pub costs : (c q : ℕ) → Contains listed (c, q) → cost_answer x q ≡ Some c
-    pub reached : (c q : ℕ) → Contains listed (c, q) → Reachable (λ q. q ≡ r) Asks q
+    pub reachable : (c q : ℕ) → Contains listed (c, q) → Reachable (λ q. q ≡ r) Asks q
 
   pub asking_begins : (s : SearchState) → Begun x.grammar.rules (λ q. q ≡ r) s → Asking [] s
   asking_begins s b = record {
     search = search_begins x.grammar.rules (λ q. q ≡ r) Asks (IsListed []) s b;
     costs = λ c q h. absurd (contains_none (c, q) h);
-    reached = λ c q h. absurd (contains_none (c, q) h);
+    reachable = λ c q h. absurd (contains_none (c, q) h);
   }
 
-  pub asking_goes_on : (b c : ℕ) (old mid new : SearchState) (base : List ℕ) (listed listed' : List (ℕ × ℕ)) → Asking listed old → mid.reached ≡ old.reached
+  pub asking_goes_on : (b c : ℕ) (old mid new : SearchState) (base : List ℕ) (listed listed' : List (ℕ × ℕ)) → Asking listed old → mid.reachable ≡ old.reachable
       → old.waiting ≡ mid.waiting ++ b ∷ [] → ((p : ℕ) → Contains base p ↔ IsBaseBelow x b p) → Reaches (FoundBy (HeldIn x.grammar) base) mid new
       → cost_answer x b ≡ Some c → IsPermutation ((c, b) ∷ listed) listed' → Asking listed' new
   asking_goes_on b c old mid new base listed listed' a same popped all w answer moved =
@@ -59,10 +59,10 @@ module _ (x : CostTables) (r : ℕ) where
           | inl e ↦ subst (λ (y : ℕ × ℕ). cost_answer x y.1 ≡ Some y.0) e answer
           | inr old ↦ a.costs d q old
         ];
-        reached = λ d q h. elim (contains_cases (c, b) (d, q) listed (from (d, q) h)) [
+        reachable = λ d q h. elim (contains_cases (c, b) (d, q) listed (from (d, q) h)) [
           | inl e ↦ subst (Reachable (λ q. q ≡ r) Asks) (ap (λ (y : ℕ × ℕ). y.1) e)
               (a.search.sound b (popped_reachable x.grammar.rules (λ q. q ≡ r) Asks (IsListed listed) b old mid a.search popped))
-          | inr before ↦ a.reached d q before
+          | inr before ↦ a.reachable d q before
         ];
       }
 
@@ -72,5 +72,5 @@ module _ (x : CostTables) (r : ℕ) where
       record {
         costs = a.costs;
         first = ends r (seed refl);
-        below = λ c q p t h below holds. ends t (led (a.reached c q h) (record { index = p; below = below; holds = holds }));
+        below = λ c q p t h below holds. ends t (led (a.reachable c q h) (record { index = p; below = below; holds = holds }));
       }

@@ -26,7 +26,7 @@ impl<'a, S: Storage, T: Tables<S>> SentenceGenerator<'a, S, T> {
         base: &mut Vec<PIdx<S>>,
     ) -> Result<(), AllocError>
         requires index { S.number p.0 < length self.now.grammar.productions }
-        requires rules { length search.old.reached ≡ self.now.grammar.rules }
+        requires rules { length search.old.reachable ≡ self.now.grammar.rules }
         ensures target { OnOk result (Reaches (IsTarget self.now (S.number p.0)) search.old search.new) }
         ensures base { OnOk result (Lists (λ q. (q ≡ S.number p.0) × IsBaseProduction self.now q)
             (positions_of S.number base.old.items) (positions_of S.number base.new.items)) }
@@ -56,7 +56,7 @@ impl<'a, S: Storage, T: Tables<S>> SentenceGenerator<'a, S, T> {
         base: &mut Vec<PIdx<S>>,
     ) -> Result<(), AllocError>
         requires rule { S.number rule.0 < self.now.grammar.rules }
-        requires rules { length search.old.reached ≡ self.now.grammar.rules }
+        requires rules { length search.old.reachable ≡ self.now.grammar.rules }
         ensures targets { OnOk result (Reaches (HasTarget self.now (S.number rule.0)) search.old search.new) }
         ensures base { OnOk result (Lists
             (λ p. ((nth_production self.now.grammar p).rule ≡ S.number rule.0) × IsBaseProduction self.now p)

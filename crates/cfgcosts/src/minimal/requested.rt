@@ -39,10 +39,10 @@ impl<'a, S: Storage, T: Tables<S>> SentenceGenerator<'a, S, T> {
         let mut search = Search::through_few(alloc, self.tables.rules_len().0.to_usize());
         search.reach(usize::from(rule))?;
         while let Some(node) = search.next() {
-            let reached = RIdx(to_storage(node));
-            let base = self.base_productions(alloc, reached)?;
+            let reachable = RIdx(to_storage(node));
+            let base = self.base_productions(alloc, reachable)?;
             reach_held(&mut search, self.tables, &base)?;
-            requested.push(self.known_cost(reached), reached.0.to_usize() as u32)?;
+            requested.push(self.known_cost(reachable), reachable.0.to_usize() as u32)?;
         }
         Ok(requested)
     }

@@ -20,7 +20,7 @@ pub reach-requires : goal.reach-requires
 reach-requires g c =
     let target = kind g (goal.at.reach-requires g c).After-index _ c.in-ChainsTo.is in
     let is = subst (λ (x : CostTables). IsGenerator x c.self.inside.settled.number) c.self.view_is c.self.invariant.0 in
-    subst (λ n. n < length c.args.search.now.reached) (sym c.from-in-ChainsTo.ensures)
+    subst (λ n. n < length c.args.search.now.reachable) (sym c.from-in-ChainsTo.ensures)
     (subst (λ m. g.S.Storage.number c.in-ChainsTo.rule.0 < m) (sym c.requires.rules) (answered_within c.args.self.now _ is _ target.optimal.cost target.same))
 
 pub returns-in-Suboptimal : goal.returns-in-Suboptimal
@@ -50,8 +50,8 @@ returns-in_ok-reach-in-ChainsTo g c =
     let p = g.S.Storage.number c.args.p.0 in
     let r = g.S.Storage.number c.in-ChainsTo.rule.0 in
     let target = kind g (goal.at.returns-in_ok-reach-in-ChainsTo g c).After-index _ c.in-ChainsTo.is in
-    let reached = subst (λ r. Reaches (λ q. q ≡ r) c.args.search.now c.reach.new.self) c.from-in-ChainsTo.ensures c.in_ok-reach-in-ChainsTo.ensures in
+    let reachable = subst (λ r. Reaches (λ q. q ≡ r) c.args.search.now c.reach.new.self) c.from-in-ChainsTo.ensures c.in_ok-reach-in-ChainsTo.ensures in
     record {
-      target = reaches_as (λ q. q ≡ r) (IsTarget x p) _ _ (λ q is. subst (IsTarget x p) (sym is) target) (λ q h. one_target x p q r h target) reached;
+      target = reaches_as (λ q. q ≡ r) (IsTarget x p) _ _ (λ q is. subst (IsTarget x p) (sym is) target) (λ q h. one_target x p q r h target) reachable;
       base = lists_none _ (λ q. (q ≡ p) × IsBaseProduction x q) (λ q h. h.1.none r (subst (λ n. IsTarget x n r) (sym h.0) target));
     }

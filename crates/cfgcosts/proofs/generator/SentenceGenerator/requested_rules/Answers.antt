@@ -14,7 +14,7 @@ use Rattle.cfgcosts.proofs.generator.SentenceGenerator.requested_rules.Goals as 
 pub reach-requires : goal.reach-requires
 reach-requires g c =
     let rules = c.to_usize.ensures.value ∙ c.rules_len.ensures.value ∙ ap (λ (x : CostTables). x.grammar.rules) c.self.view_is in
-    let long = ap (λ (s : SearchState). length s.reached) c.through_few-search.ensures ∙ length-replicate _ _ ∙ rules in
+    let long = ap (λ (s : SearchState). length s.reachable) c.through_few-search.ensures ∙ length-replicate _ _ ∙ rules in
     omega (arith, c.from.ensures, c.requires.rule, long)
 
 pub loop-node-init : goal.loop-node-init
