@@ -54,14 +54,14 @@ module _ (s : Syntax) where
 
   pub no_token : (name : List ℕ) (positions : BTreeSet (ℕ × ℕ)) → position (bytes_eq name) s.tokens ≡ None → Notes s name positions positions
   no_token name positions nowhere = unnoted name positions (λ span located.
-      let within = slice_get_within s.tokens located.located name located.token in
-      let is = get_or_from_slice_get s.tokens located.located name name located.token in
-      let found = first_position (bytes_eq name) s.tokens (list_any_at (bytes_eq name) s.tokens located.located name within (ap (bytes_eq name) is ∙ nat_list_eq_equiv.refl name)) in
+      let within = slice_get_within s.tokens located.index name located.token in
+      let is = get_or_from_slice_get s.tokens located.index name name located.token in
+      let found = first_position (bytes_eq name) s.tokens (list_any_at (bytes_eq name) s.tokens located.index name within (ap (bytes_eq name) is ∙ nat_list_eq_equiv.refl name)) in
       let no : None ≡ Some _ = sym nowhere ∙ found in cc)
 
   module _ (distinct : IsDistinct bytes_eq s.tokens) (name : List ℕ) (index : ℕ) (found : position (bytes_eq name) s.tokens ≡ Some index) where
-    only : (span : Span) (located : IsPositionOf s name span) → located.located ≡ index
-    only span located = same_Some _ _ (sym (position-distinct nat_list_eq_equiv s.tokens located.located name distinct located.token) ∙ found)
+    only : (span : Span) (located : IsPositionOf s name span) → located.index ≡ index
+    only span located = same_Some _ _ (sym (position-distinct nat_list_eq_equiv s.tokens located.index name distinct located.token) ∙ found)
 
     pub no_span : (positions : BTreeSet (ℕ × ℕ)) → slice_get s.spans index ≡ None → Notes s name positions positions
     no_span positions none = unnoted name positions (λ span located.
@@ -85,7 +85,7 @@ module _ (s : Syntax) where
 
         go : (b : Bool) → is_at (position_cmp (position_at span)) (position_at other) ≡ b → Goal (has_span new other)
         go true at = subst Goal (sym (updates (position_at other) ∙ ap (λ b. cond b true (has_span positions other)) at))
-            (inr (subst (IsPositionOf s name) (same_span span other at) (record { located = index; token = holds; there = there })))
+            (inr (subst (IsPositionOf s name) (same_span span other at) (record { index = index; token = holds; there = there })))
         go false apart = subst Goal (sym (updates (position_at other) ∙ ap (λ b. cond b true (has_span positions other)) apart))
             (old (has_span positions other) refl (λ located.
             let same : span ≡ other = same_Some _ _ (sym there ∙ sym (ap (slice_get s.spans) (only other located)) ∙ located.there) in
@@ -113,7 +113,7 @@ module _ (s : Syntax) where
               ((contains_taken productions n production within is held).1 (inl among)));
           name = requested.name;
           requested = requested.requested;
-          located = requested.located;
+          index = requested.index;
         }
 
     -- what is named is named by an earlier production's `%prec` or by this one's
@@ -126,9 +126,9 @@ module _ (s : Syntax) where
             listed = subst (Contains before) same (contains_mapped production_view (take n productions) held earlier);
             name = requested.name;
             requested = requested.requested;
-            located = requested.located;
+            index = requested.index;
           })
-          | inr here ↦ inr (requested.name, ap (λ (p : Production). p.precedence) (sym (ap production_view here) ∙ same) ∙ requested.requested, requested.located)
+          | inr here ↦ inr (requested.name, ap (λ (p : Production). p.precedence) (sym (ap production_view here) ∙ same) ∙ requested.requested, requested.index)
         ]
 
     this : (name : List ℕ) (span : Span) → (production_view production).precedence ≡ Some name → IsPositionOf s name span → IsRequestedBy s after span
@@ -137,7 +137,7 @@ module _ (s : Syntax) where
       listed = contains_mapped production_view (take (n + 1) productions) production ((contains_taken productions n production within is production).1 (inr refl));
       name = name;
       requested = names;
-      located = located;
+      index = located;
     }
 
     abbrev Reported : Bool → Span → Type 0

@@ -10,13 +10,13 @@ use Rattle.cfglint.proofs.cyclic_rules.CyclicRulesReporter.report.Goals as goal
 pub cyclic_rule-requires-clause-steps : goal.cyclic_rule-requires-clause-steps
 cyclic_rule-requires-clause-steps c =
     let g = c.self.inside.grammar.now in
-    let found = found_at g _ c.self.view_is _ c.self.invariant c.args.number c.requires _ (Some c.in-Some.row) c.index.ensures c.in-Some.is in
-    subst (All (IsSomeStep g)) (sym c.deref.ensures.value) (steps_of_path g c.args.number c.in-Some.row.items c.args.number found.itself.leads)
+    let found = found_at g _ c.self.view_is _ c.self.invariant c.args.number c.requires _ (Some c.in-Some.path) c.index.ensures c.in-Some.is in
+    subst (All (IsSomeStep g)) (sym c.deref.ensures.value) (steps_of_path g c.args.number c.in-Some.path.items c.args.number found.itself.leads)
 
 pub returns-in_ok-cyclic_rule-in-Some : goal.returns-in_ok-cyclic_rule-in-Some
 returns-in_ok-cyclic_rule-in-Some c =
     let g = c.self.inside.grammar.now in
-    let found = found_at g _ c.self.view_is _ c.self.invariant c.args.number c.requires _ (Some c.in-Some.row) c.index.ensures c.in-Some.is in
+    let found = found_at g _ c.self.view_is _ c.self.invariant c.args.number c.requires _ (Some c.in-Some.path) c.index.ensures c.in-Some.is in
     let shortest = subst (IsShortestCycle (IsStep (core g)) c.args.number) (sym c.deref.ensures.value) found in
     let ours = subst (λ n. n ≤ c.args.number) c.rules_added.ensures c.if-number-rules_added.false in
     subst (λ g. ReportsCycle g c.args.number (Some c.in_ok-cyclic_rule-in-Some.field-0)) c.self.view_is
