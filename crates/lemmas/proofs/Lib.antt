@@ -13,6 +13,7 @@ pub mod Passing
 pub mod Positions
 pub mod Popped
 pub mod Pushed
+pub mod Repeats
 pub mod Roads
 pub mod Taken
 pub mod Tests

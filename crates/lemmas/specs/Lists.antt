@@ -1,5 +1,5 @@
 -- Definitions on lists that std doesn't have.
-use Rattle.std.specs.Prelude.{ℕ, Bool, List, [], ◌∷◌, ◌++◌, ◌+◌, Option, Some, None, if◌then◌else◌}
+use Rattle.std.specs.Prelude.{ℕ, Bool, List, [], ◌∷◌, ◌++◌, ◌+◌, ◌==◌, Option, Some, None, if◌then◌else◌, filter, length, map}
 
 -- each element with the prefix of the list before it
 abbrev pub with_prefixes_from : {A : Type 0} → List A → List A → List (List A × A)
@@ -8,6 +8,14 @@ with_prefixes_from prefix (x ∷ xs) = (prefix, x) ∷ with_prefixes_from (prefi
 
 abbrev pub with_prefixes : {A : Type 0} → List A → List (List A × A)
 with_prefixes xs = with_prefixes_from [] xs
+
+-- the first repeat of an element: exactly one earlier element is the same
+abbrev pub is_first_repeat : {A : Type 0} → (A → A → Bool) → List A × A → Bool
+is_first_repeat same (prefix, x) = length (filter (λ y. same y x) prefix) == 1
+
+-- the elements that occur more than once, in the order of their first repeats
+unfoldable pub repeated : {A : Type 0} → (A → A → Bool) → List A → List A
+repeated same xs = map (λ x. x.1) (filter (is_first_repeat same) (with_prefixes xs))
 
 -- the indices of the elements that pass the test
 abbrev pub positions_from : {A : Type 0} → ℕ → (A → Bool) → List A → List ℕ
