@@ -7,7 +7,7 @@ ghost use Rattle.std.specs.Result.{result_ok};
 ghost use Rattle.cfgindex.specs.declared.idxnewtype.TIdx.{TIdx};
 ghost use Rattle.derivation.specs.Grammar.{HasProduction, IsGrammar};
 ghost use Rattle.derivation.specs.Costs.{Greatest, Least, Unbounded};
-ghost use Rattle.derivation.specs.Cycles.{MeetsGrowingCycle};
+ghost use Rattle.derivation.specs.Cycles.{ReachesGrowingCycle};
 ghost use Rattle.derivation.specs.CostLists.{rule_cost};
 ghost use Rattle.cfgleast.specs.Certificate.{IsCovered, IsReached, choice_of, rule_choice};
 ghost use Rattle.cfgleast.specs.Generator.{HasNone, IsGenerator, IsLeastProduction, IsTooLarge};
@@ -166,7 +166,7 @@ impl<'a, S: Storage, T: Tables<S>> SentenceGenerator<'a, S, T> {
     }
 
     /// The greatest cost of the rule's sentences. It is `None` if for every number some sentence costs more, that is,
-    /// if the rule meets a growing cycle: a rule x that derives u x v, where u and v derive tokens that cost something.
+    /// if the rule reaches a growing cycle: a rule x that derives u x v, where u and v derive tokens that cost something.
     ///
     /// # Errors
     ///
@@ -178,7 +178,7 @@ impl<'a, S: Storage, T: Tables<S>> SentenceGenerator<'a, S, T> {
         ensures unbounded { (result ≡ Ok None)
             ↔ Unbounded (HasProduction self.now.grammar) (token_cost self.now) (S.number rule.0) }
         ensures cycle { (result ≡ Ok None)
-            ↔ MeetsGrowingCycle (HasProduction self.now.grammar) (token_cost self.now) (S.number rule.0) }
+            ↔ ReachesGrowingCycle (HasProduction self.now.grammar) (token_cost self.now) (S.number rule.0) }
         ensures greatest { (c : ℕ) → (result ≡ Ok (Some c))
             ↔ (Greatest (HasProduction self.now.grammar) (token_cost self.now) (S.number rule.0) c × (c ≤ 65535)) }
         ensures too_large { (result ≡ Err CostError.CostTooLarge)

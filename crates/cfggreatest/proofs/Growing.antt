@@ -1,4 +1,4 @@
--- A rule with unbounded costs meets a growing cycle. A walk goes down a parse tree. It marks a rule if symbols beside the way down from it
+-- A rule with unbounded costs reaches a growing cycle. A walk goes down a parse tree. It marks a rule if symbols beside the way down from it
 -- cost something. If a marked rule comes again, it has a growing cycle; until then, the rules that aren't marked bound what the tree costs.
 use Rattle.std.proofs.Common.{◌≡◌, ◌↔◌, ℕ, zero, suc, ◌+◌, ◌<◌, ◌≤◌, ◌⊎◌, inl, inr, Bool, true, false, cond, eqb, eqb-true, eq-eqb, List, [], ◌∷◌, ◌++◌, Option, None, Result, Ok, Err, get_or, length, sum_by, append-nil, append_assoc, refl, sym, ap, subst, ◌∙◌, arith}
 use Rattle.std.proofs.lemmas.Bool.{cases_Bool, cases_eq}
@@ -7,7 +7,7 @@ use Rattle.derivation.specs.Grammar.{Sym, Rule, Token, Grammar, Production, IsGr
 use Rattle.derivation.specs.Derivation.{Derives, none}
 use Rattle.derivation.specs.Sentence.{cost_of}
 use Rattle.derivation.specs.Costs.{Unbounded}
-use Rattle.derivation.specs.Cycles.{MeetsGrowingCycle}
+use Rattle.derivation.specs.Cycles.{ReachesGrowingCycle}
 use Rattle.derivation.specs.Tree.{Yields, empty, token, opened}
 use Rattle.derivation.specs.declared.errors.CostError.{CostError}
 use Rattle.derivation.specs.declared.errors.CostError.TheVariants.{NoSentence}
@@ -89,7 +89,7 @@ module _ (P : ℕ → List Sym → Type 0) (cost : ℕ → ℕ) where
   Leads r a n = (l : List Sym) × P r l × Around l a n
 
   closes : (root x : ℕ) (w : List ℕ) → Around (Rule root ∷ []) (Rule x ∷ []) 0 → Leads x (Rule x ∷ []) 1 → Yields P (Rule x ∷ []) w
-      → MeetsGrowingCycle P cost root
+      → ReachesGrowingCycle P cost root
   closes root x w m (l, has, c) tree = (
     x,
     record {
@@ -106,7 +106,7 @@ module _ (P : ℕ → List Sym → Type 0) (cost : ℕ → ℕ) where
       before = m.before;
       after = m.after;
       word = m.prefix ++ (w ++ m.back);
-      leads = m.leads;
+      derives = m.leads;
       gives = derivation_from_trees P (trees_join P m.first (trees_join P tree m.second));
     },
   )
@@ -178,7 +178,7 @@ module _ (g : Grammar) (cost : ℕ → ℕ) (is : IsGrammar g) (root : ℕ) wher
   }
 
   abbrev Found : Type 0
-  Found = MeetsGrowingCycle (HasProduction g) cost root
+  Found = ReachesGrowingCycle (HasProduction g) cost root
 
   -- what the walk finds of a list in a production of r: a cycle; or that its rules cost less than r; or that nothing beside it costs, and
   -- it costs at most what r may
@@ -256,11 +256,11 @@ module _ (g : Grammar) (cost : ℕ → ℕ) (is : IsGrammar g) (root : ℕ) wher
         | inr le ↦ let past = h.2 in absurd (omega (arith, le, past))
       ]
 
-  -- so costs are unbounded exactly if the rule meets a growing cycle
-  pub unbounded_if_meets : Unbounded (HasProduction g) cost root ↔ Found
-  unbounded_if_meets = (unbounded_meets, λ h. cycle_unbounds (HasProduction g) cost root h.0 h.2 h.1)
+  -- so costs are unbounded exactly if the rule reaches a growing cycle
+  pub unbounded_if_reaches : Unbounded (HasProduction g) cost root ↔ Found
+  unbounded_if_reaches = (unbounded_meets, λ h. cycle_unbounds (HasProduction g) cost root h.0 h.2 h.1)
 
--- so results that are true are `None` exactly if the rule meets a growing cycle
+-- so results that are true are `None` exactly if the rule reaches a growing cycle
 pub are_settled : (g : Grammar) (cost : ℕ → ℕ) → IsGrammar g → (results : List (Result (Option ℕ) CostError)) → length results ≡ g.rules
     → ((r : ℕ) → r < g.rules → Means (HasProduction g) cost r (get_or results r (Err NoSentence))) → AreGreatestCosts g cost results
 are_settled g cost is results rules means = record {
@@ -268,6 +268,6 @@ are_settled g cost is results rules means = record {
   means = means;
   cycles = λ r lt.
       let settled = exactly (HasProduction g) cost r (get_or results r (Err NoSentence)) (Ok None) (means r lt) in
-      let meets = unbounded_if_meets g cost is r in
-      (λ e. meets.0 (settled.0 e), λ h. settled.1 (meets.1 h));
+      let reaches = unbounded_if_reaches g cost is r in
+      (λ e. reaches.0 (settled.0 e), λ h. settled.1 (reaches.1 h));
 }

@@ -14,7 +14,7 @@ use std::alloc::{AllocError, Global};
 /// `None` if for every number some sentence costs more, and an error if the rule is unproductive, or if its greatest
 /// cost is more than 65535.
 ///
-/// A cyclic rule may still have a greatest cost: costs are unbounded exactly if the rule meets a growing cycle, that
+/// A cyclic rule may still have a greatest cost: costs are unbounded exactly if the rule reaches a growing cycle, that
 /// is, a rule x that derives u x v in one or more steps, where u and v derive tokens that cost something.
 ///
 /// # Errors

@@ -4,7 +4,7 @@ ghost use Rattle.std.specs.Prelude.{◌↔◌, ℕ, ◌≤◌, Bool, List, IsTru
 ghost use Rattle.derivation.specs.Grammar.{Grammar, IsGrammar, HasProduction};
 ghost use Rattle.derivation.specs.Sentence.{Sentence, cost_of};
 ghost use Rattle.derivation.specs.Costs.{Greatest, Unbounded};
-ghost use Rattle.derivation.specs.Cycles.{MeetsGrowingCycle};
+ghost use Rattle.derivation.specs.Cycles.{ReachesGrowingCycle};
 ghost use Rattle.cfggreatest.specs.Growth.{GrowsFromSet};
 
 /// In a set of productive rules that each grow from a rule of the set, all costs are unbounded.
@@ -21,8 +21,8 @@ pub fn bounded_rules_have_a_greatest_cost()
         → Sentence (HasProduction g) r w → (c : ℕ) × Greatest (HasProduction g) cost r c }
 {}
 
-/// A rule's costs are unbounded exactly if it meets a growing cycle.
-pub fn unbounded_rules_meet_growing_cycles()
+/// A rule's costs are unbounded exactly if it reaches a growing cycle.
+pub fn unbounded_rules_reach_growing_cycles()
     ensures { (g : Grammar) (cost : ℕ → ℕ) (r : ℕ) → IsGrammar g
-        → Unbounded (HasProduction g) cost r ↔ MeetsGrowingCycle (HasProduction g) cost r }
+        → Unbounded (HasProduction g) cost r ↔ ReachesGrowingCycle (HasProduction g) cost r }
 {}

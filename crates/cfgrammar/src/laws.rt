@@ -11,7 +11,7 @@ pub use cfgcycles::laws::{
 };
 pub use cfggreatest::laws::{
     bounded_rules_have_a_greatest_cost, sets_that_grow_are_unbounded,
-    unbounded_rules_meet_growing_cycles,
+    unbounded_rules_reach_growing_cycles,
 };
 pub use derivation::{
     a_greatest_cost_bounds, closed_sets_hold_before_derivations, closed_sets_hold_first,

@@ -1,13 +1,13 @@
--- A rule that meets a growing cycle: each turn of the cycle adds tokens that cost something.
+-- A rule for which a rule with a growing cycle is useful: each turn of the cycle adds tokens that cost something.
 use Rattle.std.proofs.Common.{◌≡◌, ℕ, zero, suc, ◌+◌, ◌<◌, ◌≤◌, List, [], ◌∷◌, ◌++◌, Contains, map, subst, ap, arith}
 use Rattle.std.proofs.lemmas.List.Sums.{sum_by-append}
 use Rattle.derivation.specs.Grammar.{Sym, Rule, Token}
 use Rattle.derivation.specs.Derivation.{Derives, next}
 use Rattle.derivation.specs.Tree.{Yields}
 use Rattle.derivation.specs.Sentence.{cost_of}
-use Rattle.derivation.specs.Path.{LeadsTo}
+use Rattle.derivation.specs.Path.{DerivesRule}
 use Rattle.derivation.specs.Costs.{Unbounded}
-use Rattle.derivation.specs.Cycles.{GrowingCycle, Meets}
+use Rattle.derivation.specs.Cycles.{GrowingCycle, IsUseful}
 use Rattle.derivation.proofs.Concatenation.{derives_trans}
 use Rattle.derivation.proofs.Paths.{around}
 use Rattle.derivation.proofs.Trees.{trees_split, trees_join, trees_before, trees_from_derivation, derivation_from_trees}
@@ -41,38 +41,38 @@ module _ (P : ℕ → List Sym → Type 0) (cost : ℕ → ℕ) where
   turns x zero c t = t
   turns x (suc n) c t = turn x n c (turns x n c t)
 
-  pub cycle_unbounds : (r x : ℕ) → Meets P r x → GrowingCycle P cost x → Unbounded P cost r
+  pub cycle_unbounds : (r x : ℕ) → IsUseful P r x → GrowingCycle P cost x → Unbounded P cost r
   cycle_unbounds r x m c n =
       let all = trees_from_derivation P (m.before ++ (Rule x ∷ m.after)) m.word m.gives in
       let p = trees_split P m.before (Rule x ∷ m.after) m.word all in
       let q = trees_split P (Rule x ∷ []) m.after p.back p.second in
       let t = turns x (suc n) c (record { word = q.prefix; tree = q.first; enough = omega arith }) in (
         (p.prefix ++ (t.word ++ q.back)),
-        (derives_trans P m.leads (derivation_from_trees P (trees_join P p.first (trees_join P t.tree q.second)))),
+        (derives_trans P m.derives (derivation_from_trees P (trees_join P p.first (trees_join P t.tree q.second)))),
         (omega (arith, cost_between p.prefix t.word q.back)),
       )
 
-  -- a rule leads to itself, and the symbols beside it cost something
-  pub cycle_of_lead : (x : ℕ) (w : List ℕ) (l : LeadsTo P x x) → Derives P (l.before ++ l.after) (map Token w)
+  -- a rule derives itself, and the symbols beside it cost something
+  pub growing_cycle_of : (x : ℕ) (w : List ℕ) (l : DerivesRule P x x) → Derives P (l.before ++ l.after) (map Token w)
       → 0 < cost_of cost w → GrowingCycle P cost x
-  cycle_of_lead x w l d h = record {
+  growing_cycle_of x w l d h = record {
     middle = l.middle;
     u = l.before;
     v = l.after;
     word = w;
     first = l.first;
-    around = l.leads;
+    around = l.derives;
     gives = d;
     grows = h;
   }
 
 module _ (P : ℕ → List Sym → Type 0) where
-  pub meets_on_the_way : (r x : ℕ) (l : List Sym) (w : List ℕ) → Derives P (Rule r ∷ []) l → Contains l (Rule x)
-      → Derives P l (map Token w) → Meets P r x
-  meets_on_the_way r x l w d h e = let k = around l (Rule x) h in record {
+  pub useful_on_the_way : (r x : ℕ) (l : List Sym) (w : List ℕ) → Derives P (Rule r ∷ []) l → Contains l (Rule x)
+      → Derives P l (map Token w) → IsUseful P r x
+  useful_on_the_way r x l w d h e = let k = around l (Rule x) h in record {
     before = k.before;
     after = k.after;
     word = w;
-    leads = subst (λ m. Derives P (Rule r ∷ []) m) k.whole d;
+    derives = subst (λ m. Derives P (Rule r ∷ []) m) k.whole d;
     gives = subst (λ m. Derives P m (map Token w)) k.whole e;
   }

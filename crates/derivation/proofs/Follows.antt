@@ -5,52 +5,52 @@ use Rattle.derivation.specs.Derivation.{Derives, none, next}
 use Rattle.derivation.specs.First.{First, Nullable}
 use Rattle.derivation.specs.Follow.{Follow, FollowEnd, MayFollow}
 use Rattle.derivation.specs.FirstSets.{AreNullable, Begins, Covers, IsClosed}
-use Rattle.derivation.specs.FollowSets.{Flows, IsFollowClosed}
+use Rattle.derivation.specs.FollowSets.{CoversFollow, IsFollowClosed}
 use Rattle.derivation.proofs.Concatenation.{derives_trans, derives_left, derives_right, derives_production}
 use Rattle.derivation.proofs.Firsts.{nullable_parts, begins_parts, nullable_before, begins_before, nullable_derives, begins_derives}
 
 module _ (E : ℕ → Type 0) (F : ℕ → ℕ → Type 0) (W : ℕ → ℕ → Type 0) where
-  flows_glue : (s y : List Sym) (j k : ℕ → Type 0) → Flows E F W s j → Flows E F W y k
-      → ((t : ℕ) → Begins E F y t → j t) → (AreNullable E y → (t : ℕ) → k t → j t) → Flows E F W (s ++ y) k
-  flows_glue [] y j k h f b v = f
-  flows_glue (Token u ∷ s) y j k h f b v = flows_glue s y j k h f b v
-  flows_glue (Rule q ∷ s) y j k h f b v = (
+  follow_glue : (s y : List Sym) (j k : ℕ → Type 0) → CoversFollow E F W s j → CoversFollow E F W y k
+      → ((t : ℕ) → Begins E F y t → j t) → (AreNullable E y → (t : ℕ) → k t → j t) → CoversFollow E F W (s ++ y) k
+  follow_glue [] y j k h f b v = f
+  follow_glue (Token u ∷ s) y j k h f b v = follow_glue s y j k h f b v
+  follow_glue (Rule q ∷ s) y j k h f b v = (
     (λ t on. elim (begins_parts E F s y t on) [ inl p ↦ h.0 t p | inr p ↦ h.1 p.0 t (b t p.1) ]),
     (λ all t on. let p = nullable_parts E s y all in h.1 p.0 t (v p.1 t on)),
-    flows_glue s y j k h.2 f b v,
+    follow_glue s y j k h.2 f b v,
   )
 
-  -- what flows before a step flows after it
-  flows_after : (r : ℕ) (symbols : List Sym) → Covers E F r symbols → Flows E F W symbols (W r) → (x y : List Sym) (k : ℕ → Type 0)
-      → Flows E F W (x ++ (Rule r ∷ y)) k → Flows E F W (x ++ (symbols ++ y)) k
-  flows_after r symbols c f [] y k h = flows_glue symbols y (W r) k f h.2 h.0 h.1
-  flows_after r symbols c f (Token u ∷ x) y k h = flows_after r symbols c f x y k h
-  flows_after r symbols c f (Rule q ∷ x) y k h = (
+  -- sets that cover a list before a step cover it after the step
+  follow_after : (r : ℕ) (symbols : List Sym) → Covers E F r symbols → CoversFollow E F W symbols (W r) → (x y : List Sym) (k : ℕ → Type 0)
+      → CoversFollow E F W (x ++ (Rule r ∷ y)) k → CoversFollow E F W (x ++ (symbols ++ y)) k
+  follow_after r symbols c f [] y k h = follow_glue symbols y (W r) k f h.2 h.0 h.1
+  follow_after r symbols c f (Token u ∷ x) y k h = follow_after r symbols c f x y k h
+  follow_after r symbols c f (Rule q ∷ x) y k h = (
     (λ t on. h.0 t (begins_before E F r symbols c x y t on)),
     (λ all t on. h.1 (nullable_before E F r symbols c x y all) t on),
-    flows_after r symbols c f x y k h.2,
+    follow_after r symbols c f x y k h.2,
   )
 
-  flows_at : (x : List Sym) (r : ℕ) (y : List Sym) (k : ℕ → Type 0) → Flows E F W (x ++ (Rule r ∷ y)) k → Flows E F W (Rule r ∷ y) k
-  flows_at [] r y k h = h
-  flows_at (Token u ∷ x) r y k h = flows_at x r y k h
-  flows_at (Rule q ∷ x) r y k h = flows_at x r y k h.2
+  follow_at : (x : List Sym) (r : ℕ) (y : List Sym) (k : ℕ → Type 0) → CoversFollow E F W (x ++ (Rule r ∷ y)) k → CoversFollow E F W (Rule r ∷ y) k
+  follow_at [] r y k h = h
+  follow_at (Token u ∷ x) r y k h = follow_at x r y k h
+  follow_at (Rule q ∷ x) r y k h = follow_at x r y k h.2
 
-module _ (P : ℕ → List Sym → Type 0) (E : ℕ → Type 0) (F W : ℕ → ℕ → Type 0) (closed : IsClosed P E F) (flows : IsFollowClosed P E F W) where
-  flows_along : {a b : List Sym} (k : ℕ → Type 0) → Derives P a b → Flows E F W a k → Flows E F W b k
-  flows_along k none h = h
-  flows_along k (next s d) h = flows_along k d (subst (λ l. Flows E F W l k) (sym s.target)
-      (flows_after E F W s.rule s.symbols (closed s.rule s.symbols s.has) (flows s.rule s.symbols s.has) s.before s.after k
-      (subst (λ l. Flows E F W l k) s.source h)))
+module _ (P : ℕ → List Sym → Type 0) (E : ℕ → Type 0) (F W : ℕ → ℕ → Type 0) (closed : IsClosed P E F) (covers : IsFollowClosed P E F W) where
+  follow_along : {a b : List Sym} (k : ℕ → Type 0) → Derives P a b → CoversFollow E F W a k → CoversFollow E F W b k
+  follow_along k none h = h
+  follow_along k (next s d) h = follow_along k d (subst (λ l. CoversFollow E F W l k) (sym s.target)
+      (follow_after E F W s.rule s.symbols (closed s.rule s.symbols s.has) (covers s.rule s.symbols s.has) s.before s.after k
+      (subst (λ l. CoversFollow E F W l k) s.source h)))
 
-  flows_from : (root : ℕ) → Flows E F W (Rule root ∷ []) (W root)
-  flows_from root = ((λ t h. absurd h), (λ all t h. h), tt)
+  follow_from : (root : ℕ) → CoversFollow E F W (Rule root ∷ []) (W root)
+  follow_from root = ((λ t h. absurd h), (λ all t h. h), tt)
 
   pub closed_follow : (r t : ℕ) → Follow P r t → W r t
-  closed_follow r t f = (flows_at E F W f.before r (Token t ∷ f.after) (W f.root) (flows_along (W f.root) f.derived (flows_from f.root))).0 t refl
+  closed_follow r t f = (follow_at E F W f.before r (Token t ∷ f.after) (W f.root) (follow_along (W f.root) f.derived (follow_from f.root))).0 t refl
 
   pub closed_end : (r t : ℕ) → FollowEnd P r → W 0 t → W r t
-  closed_end r t f h = (flows_at E F W f.before r [] (W 0) (flows_along (W 0) f.derived (flows_from 0))).1 tt t h
+  closed_end r t f h = (follow_at E F W f.before r [] (W 0) (follow_along (W 0) f.derived (follow_from 0))).1 tt t h
 
 module _ (P : ℕ → List Sym → Type 0) (r : ℕ) (prefix : List Sym) (q : ℕ) (a : List Sym) (has : P r (prefix ++ (Rule q ∷ a))) where
   -- the rule derives its production's symbols, with the rest of them replaced by what it derives
@@ -79,23 +79,23 @@ module _ (P : ℕ → List Sym → Type 0) (r : ℕ) (prefix : List Sym) (q : �
   end_from_rule h f = record { before = f.before ++ prefix; derived = derives_trans P f.derived (derives_last f.before [] h) }
 
 module _ (g : Grammar) where
-  flows_derived : (r : ℕ) (prefix a : List Sym) → HasProduction g r (prefix ++ a)
-      → Flows (Nullable (HasProduction g)) (First (HasProduction g)) (MayFollow g) a (MayFollow g r)
-  flows_derived r prefix [] has = tt
-  flows_derived r prefix (Token u ∷ a) has =
-      flows_derived r (prefix ++ Token u ∷ []) a (subst (λ l. HasProduction g r l) (sym (append_assoc prefix (Token u ∷ []) a)) has)
-  flows_derived r prefix (Rule q ∷ a) has = (
+  follow_derived : (r : ℕ) (prefix a : List Sym) → HasProduction g r (prefix ++ a)
+      → CoversFollow (Nullable (HasProduction g)) (First (HasProduction g)) (MayFollow g) a (MayFollow g r)
+  follow_derived r prefix [] has = tt
+  follow_derived r prefix (Token u ∷ a) has =
+      follow_derived r (prefix ++ Token u ∷ []) a (subst (λ l. HasProduction g r l) (sym (append_assoc prefix (Token u ∷ []) a)) has)
+  follow_derived r prefix (Rule q ∷ a) has = (
     (λ t h. inl (follow_from_rest (HasProduction g) r prefix q a has t h)),
     (λ all t h. elim h [
       | inl f ↦ inl (follow_from_rule (HasProduction g) r prefix q a has t all f)
       | inr e ↦ inr (e.0, end_from_rule (HasProduction g) r prefix q a has all e.1)
     ]),
-    flows_derived r (prefix ++ Rule q ∷ []) a (subst (λ l. HasProduction g r l) (sym (append_assoc prefix (Rule q ∷ []) a)) has),
+    follow_derived r (prefix ++ Rule q ∷ []) a (subst (λ l. HasProduction g r l) (sym (append_assoc prefix (Rule q ∷ []) a)) has),
   )
 
   -- what derivations show is closed, and the end token follows the start rule
-  pub derived_flows : IsFollowClosed (HasProduction g) (Nullable (HasProduction g)) (First (HasProduction g)) (MayFollow g)
-  derived_flows r symbols has = flows_derived r [] symbols has
+  pub derived_follow : IsFollowClosed (HasProduction g) (Nullable (HasProduction g)) (First (HasProduction g)) (MayFollow g)
+  derived_follow r symbols has = follow_derived r [] symbols has
 
   pub end_of_start : FollowEnd (HasProduction g) 0
   end_of_start = record { before = []; derived = none }

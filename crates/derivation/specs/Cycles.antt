@@ -15,14 +15,14 @@ pub record GrowingCycle (P : ℕ → List Sym → Type 0) (cost : ℕ → ℕ) (
   pub gives : Derives P (u ++ v) (map Token word)
   pub grows : 0 < cost_of cost word
 
--- x occurs in a derivation of a sentence of r
-pub record Meets (P : ℕ → List Sym → Type 0) (r x : ℕ) : Type 0 where
+-- x is useful for r: it occurs in a derivation of a sentence of r
+pub record IsUseful (P : ℕ → List Sym → Type 0) (r x : ℕ) : Type 0 where
   pub before : List Sym
   pub after : List Sym
   pub word : List ℕ
-  pub leads : Derives P (Rule r ∷ []) (before ++ (Rule x ∷ after))
+  pub derives : Derives P (Rule r ∷ []) (before ++ (Rule x ∷ after))
   pub gives : Derives P (before ++ (Rule x ∷ after)) (map Token word)
 
--- r meets a rule with a growing cycle
-abbrev pub MeetsGrowingCycle : (ℕ → List Sym → Type 0) → (ℕ → ℕ) → ℕ → Type 0
-MeetsGrowingCycle P cost r = (x : ℕ) × GrowingCycle P cost x × Meets P r x
+-- a rule with a growing cycle is useful for r
+abbrev pub ReachesGrowingCycle : (ℕ → List Sym → Type 0) → (ℕ → ℕ) → ℕ → Type 0
+ReachesGrowingCycle P cost r = (x : ℕ) × GrowingCycle P cost x × IsUseful P r x

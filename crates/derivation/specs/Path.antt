@@ -15,9 +15,9 @@ pub data Path (P : ℕ → List Sym → Type 0) : ℕ → ℕ → Type 0 where
   more : {a b c : ℕ} → Holds P a b → Path P b c → Path P a c
 
 -- in one or more steps, rule a derives a list that contains rule b
-pub record LeadsTo (P : ℕ → List Sym → Type 0) (a b : ℕ) : Type 0 where
+pub record DerivesRule (P : ℕ → List Sym → Type 0) (a b : ℕ) : Type 0 where
   pub middle : List Sym
   pub before : List Sym
   pub after : List Sym
   pub first : Step P (Rule a ∷ []) middle
-  pub leads : Derives P middle (before ++ (Rule b ∷ after))
+  pub derives : Derives P middle (before ++ (Rule b ∷ after))

@@ -17,9 +17,9 @@ ghost use Rattle.derivation.specs.FirstSets.{Begins, IsClosed, AreNullable};
 ghost use Rattle.derivation.specs.Follow.{MayFollow};
 ghost use Rattle.derivation.specs.FollowSets.{IsFollowClosed};
 ghost use Rattle.derivation.specs.Sentence.{Sentence, cost_of};
-ghost use Rattle.derivation.specs.Path.{Path, LeadsTo};
+ghost use Rattle.derivation.specs.Path.{Path, DerivesRule};
 ghost use Rattle.derivation.specs.Costs.{Least, Minimal, Greatest, Unbounded};
-ghost use Rattle.derivation.specs.Cycles.{GrowingCycle, Meets};
+ghost use Rattle.derivation.specs.Cycles.{GrowingCycle, IsUseful};
 
 pub use errors::CostError;
 
@@ -121,12 +121,12 @@ pub fn a_greatest_cost_bounds()
 
 /// A rule has a path to another exactly if it derives, in one or more steps, a list that contains the other.
 pub fn paths_are_derivations()
-    ensures { (g : Grammar) (a b : ℕ) → Path (HasProduction g) a b ↔ LeadsTo (HasProduction g) a b }
+    ensures { (g : Grammar) (a b : ℕ) → Path (HasProduction g) a b ↔ DerivesRule (HasProduction g) a b }
 {}
 
-/// A rule that meets a growing cycle has sentences that cost more than any given number.
+/// If a rule with a growing cycle is useful for a rule, this has sentences that cost more than any given number.
 pub fn growing_cycles_unbound()
-    ensures { (g : Grammar) (cost : ℕ → ℕ) (r x : ℕ) → Meets (HasProduction g) r x
+    ensures { (g : Grammar) (cost : ℕ → ℕ) (r x : ℕ) → IsUseful (HasProduction g) r x
         → GrowingCycle (HasProduction g) cost x → Unbounded (HasProduction g) cost r }
 {}
 
@@ -141,13 +141,13 @@ pub fn extreme_sentences_cost_the_extremes()
         → Greatest (HasProduction g) cost r (cost_of cost w) }
 {}
 
-/// A rule meets each rule that is in a list on the way to one of its sentences. A rule that leads to itself has a
-/// growing cycle if the symbols beside it derive tokens that cost something.
+/// Each rule in a list on the way to a sentence of a rule is useful for it. A rule that derives itself has a growing
+/// cycle if the symbols beside it derive tokens that cost something.
 pub fn derivations_show_cycles()
-    ensures meets { (g : Grammar) (r x : ℕ) (l : List Sym) (w : List ℕ)
+    ensures useful { (g : Grammar) (r x : ℕ) (l : List Sym) (w : List ℕ)
         → Derives (HasProduction g) (Rule r ∷ []) l
-        → Contains l (Rule x) → Derives (HasProduction g) l (map Token w) → Meets (HasProduction g) r x }
-    ensures grows { (g : Grammar) (cost : ℕ → ℕ) (x : ℕ) (w : List ℕ) (l : LeadsTo (HasProduction g) x x)
+        → Contains l (Rule x) → Derives (HasProduction g) l (map Token w) → IsUseful (HasProduction g) r x }
+    ensures grows { (g : Grammar) (cost : ℕ → ℕ) (x : ℕ) (w : List ℕ) (l : DerivesRule (HasProduction g) x x)
         → Derives (HasProduction g) (l.before ++ l.after) (map Token w) → 0 < cost_of cost w
         → GrowingCycle (HasProduction g) cost x }
 {}

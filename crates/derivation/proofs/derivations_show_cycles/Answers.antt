@@ -1,9 +1,9 @@
 use Rattle.derivation.specs.Grammar.{HasProduction}
-use Rattle.derivation.proofs.Cycles.{meets_on_the_way, cycle_of_lead}
+use Rattle.derivation.proofs.Cycles.{useful_on_the_way, growing_cycle_of}
 use Rattle.derivation.proofs.derivations_show_cycles.Goals as goal
 
-pub returns-clause-meets : goal.returns-clause-meets
-returns-clause-meets c = λ g. meets_on_the_way (HasProduction g)
+pub returns-clause-useful : goal.returns-clause-useful
+returns-clause-useful c = λ g. useful_on_the_way (HasProduction g)
 
 pub returns-clause-grows : goal.returns-clause-grows
-returns-clause-grows c = λ g. cycle_of_lead (HasProduction g)
+returns-clause-grows c = λ g. growing_cycle_of (HasProduction g)
