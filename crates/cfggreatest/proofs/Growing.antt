@@ -248,8 +248,8 @@ module _ (g : Grammar) (cost : ℕ → ℕ) (is : IsGrammar g) (root : ℕ) wher
     | inr le ↦ inr (omega (arith, le, ap (cost_of cost) (e ∙ append-nil u)))
   ]
 
-  unbounded_meets : Unbounded (HasProduction g) cost root → Found
-  unbounded_meets more =
+  unbounded_reaches : Unbounded (HasProduction g) cost root → Found
+  unbounded_reaches more =
       let h = more (most (suc (unmarked (λ r. false)))) in
       elim (finds_or_bounds (trees_from_derivation (HasProduction g) (Rule root ∷ []) h.0 h.1)) [
         | inl found ↦ found
@@ -258,7 +258,7 @@ module _ (g : Grammar) (cost : ℕ → ℕ) (is : IsGrammar g) (root : ℕ) wher
 
   -- so costs are unbounded exactly if the rule reaches a growing cycle
   pub unbounded_if_reaches : Unbounded (HasProduction g) cost root ↔ Found
-  unbounded_if_reaches = (unbounded_meets, λ h. cycle_unbounds (HasProduction g) cost root h.0 h.2 h.1)
+  unbounded_if_reaches = (unbounded_reaches, λ h. cycle_unbounds (HasProduction g) cost root h.0 h.2 h.1)
 
 -- so results that are true are `None` exactly if the rule reaches a growing cycle
 pub are_settled : (g : Grammar) (cost : ℕ → ℕ) → IsGrammar g → (results : List (Result (Option ℕ) CostError)) → length results ≡ g.rules
