@@ -1,3 +1,4 @@
 pub mod Bits
 pub mod Words
 pub mod Joining
+pub mod ListTables
