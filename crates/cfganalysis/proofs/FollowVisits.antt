@@ -5,13 +5,13 @@ use Rattle.derivation.specs.Grammar.{Sym, Rule, Token, Grammar, IsGrammar, HasPr
 use Rattle.derivation.specs.First.{First, Nullable}
 use Rattle.derivation.specs.Follow.{MayFollow, FollowEnd}
 use Rattle.derivation.specs.FirstSets.{AreNullable, Begins, IsClosed}
-use Rattle.derivation.specs.FollowSets.{Flows, IsFollowClosed}
+use Rattle.derivation.specs.FollowSets.{CoversFollow, IsFollowClosed}
 use Rattle.derivation.proofs.Firsts.{nullable_map, begins_map, derived_closed}
-use Rattle.derivation.proofs.Follows.{derived_flows, closed_follow, closed_end, end_of_start}
+use Rattle.derivation.proofs.Follows.{derived_follow, closed_follow, closed_end, end_of_start}
 use Rattle.search.proofs.Bits.{bit_put}
 use Rattle.cfganalysis.specs.Table.{HasBit, count_of, IsTable, Joins, no_bits, with_bit}
 use Rattle.cfganalysis.specs.Firsts.{AreFirsts, IsAmongFirsts, IsNullableRule, FirstSets}
-use Rattle.cfganalysis.specs.Inner.GrowingFollows.{FollowSets, AreSoundFollows, HasNoMoreFollows, CoverFollowsOf, IsOwner, FlowIn, After, Puts, PutsAfter, count_follows}
+use Rattle.cfganalysis.specs.Inner.GrowingFollows.{FollowSets, AreSoundFollows, HasNoMoreFollows, CoverFollowsOf, IsOwner, CoversFollowIn, After, Puts, PutsAfter, count_follows}
 use Rattle.cfganalysis.specs.Inner.Growth.{AddsProduction, CoversEach}
 use Rattle.cfganalysis.specs.Inner.Waiting.{waits, Waits, NoneWaits}
 use Rattle.cfganalysis.proofs.Joins.{count_of-fewer, bit-no_bits, IsTable-no_bits, joins_bit}
@@ -94,7 +94,7 @@ pub record Flowing (rule : ℕ) (symbols : List Sym) (n : ℕ) (old new : Follow
   pub reported : (r t : ℕ) → HasBit new.follows r t → HasBit old.follows r t ⊎ Waits waiting r
   pub kept : (r t : ℕ) → HasBit old.follows r t → HasBit new.follows r t
   pub closed : (x : FollowSets) → x.firsts ≡ old.firsts → ((r t : ℕ) → HasBit new.follows r t → HasBit x.follows r t)
-      → ((t : ℕ) → HasBit x.follows rule t → HasBit old.follows rule t) → FlowIn x rule (drop n symbols)
+      → ((t : ℕ) → HasBit x.follows rule t → HasBit old.follows rule t) → CoversFollowIn x rule (drop n symbols)
 
 -- what follows a symbol still follows it after its rule's set grew
 pub after_grow : (old new : FollowSets) (rule : ℕ) (a : List Sym) (t : ℕ) → new.firsts ≡ old.firsts
@@ -103,18 +103,18 @@ after_grow old new rule a t e grow (inl b) = inl (subst (λ f. Begins (IsNullabl
 after_grow old new rule a t e grow (inr b) = inr (subst (λ f. AreNullable (IsNullableRule f) a) (sym e) b.0, grow b.1)
 
 -- the equations hold for a suffix of a list if they hold for the list
-flows_drop : (E : ℕ → Type 0) (F W : ℕ → ℕ → Type 0) (k : ℕ → Type 0) (n : ℕ) (a : List Sym) → Flows E F W a k → Flows E F W (drop n a) k
-flows_drop E F W k zero a h = h
-flows_drop E F W k (suc n) [] h = h
-flows_drop E F W k (suc n) (Token u ∷ a) h = flows_drop E F W k n a h
-flows_drop E F W k (suc n) (Rule q ∷ a) h = flows_drop E F W k n a h.2
+follow_drop : (E : ℕ → Type 0) (F W : ℕ → ℕ → Type 0) (k : ℕ → Type 0) (n : ℕ) (a : List Sym) → CoversFollow E F W a k → CoversFollow E F W (drop n a) k
+follow_drop E F W k zero a h = h
+follow_drop E F W k (suc n) [] h = h
+follow_drop E F W k (suc n) (Token u ∷ a) h = follow_drop E F W k n a h
+follow_drop E F W k (suc n) (Rule q ∷ a) h = follow_drop E F W k n a h.2
 
 -- what follows a rule in a production may follow the rule
 may_follow : (g : Grammar) (rule : ℕ) (rest : List Sym) (x : FollowSets) (s : Sym) (r t : ℕ) → AreSoundFollows g x
-    → Flows (Nullable (HasProduction g)) (First (HasProduction g)) (MayFollow g) (s ∷ rest) (MayFollow g rule)
+    → CoversFollow (Nullable (HasProduction g)) (First (HasProduction g)) (MayFollow g) (s ∷ rest) (MayFollow g rule)
     → Rule r ≡ s → After x rule rest t → MayFollow g r t
-may_follow g rule rest x s r t say flows e h =
-    let f = subst (λ y. Flows (Nullable (HasProduction g)) (First (HasProduction g)) (MayFollow g) (y ∷ rest) (MayFollow g rule)) (sym e) flows in
+may_follow g rule rest x s r t say covers e h =
+    let f = subst (λ y. CoversFollow (Nullable (HasProduction g)) (First (HasProduction g)) (MayFollow g) (y ∷ rest) (MayFollow g rule)) (sym e) covers in
     elim h [
       | inl b ↦ f.0 t (begins_map _ _ _ _ (λ q i. (say.firsts.empty q).0 i) (λ q u i. (say.firsts.first q u).0 i) rest t b)
       | inr v ↦ f.1 (nullable_map _ _ (λ q i. (say.firsts.empty q).0 i) rest v.0) t (say.follow rule t v.1)
@@ -129,20 +129,20 @@ say_puts g gives old new waiting waiting' say w may = record {
   follow = λ r t h. elim ((w.bits r t).0 h) [ inl i ↦ say.follow r t i | inr i ↦ may r t i ];
 }
 
-flow_at : (x : FollowSets) (rule : ℕ) (s : Sym) (rest : List Sym) → ((r t : ℕ) → Rule r ≡ s → After x rule rest t → HasBit x.follows r t)
-    → FlowIn x rule rest → FlowIn x rule (s ∷ rest)
-flow_at x rule (Token u) rest had h = h
-flow_at x rule (Rule q) rest had h = ((λ t b. had q t refl (inl b)), (λ v t b. had q t refl (inr (v, b))), h)
+follow_at : (x : FollowSets) (rule : ℕ) (s : Sym) (rest : List Sym) → ((r t : ℕ) → Rule r ≡ s → After x rule rest t → HasBit x.follows r t)
+    → CoversFollowIn x rule rest → CoversFollowIn x rule (s ∷ rest)
+follow_at x rule (Token u) rest had h = h
+follow_at x rule (Rule q) rest had h = ((λ t b. had q t refl (inl b)), (λ v t b. had q t refl (inr (v, b))), h)
 
 -- the equations also hold for larger sets, if no more comes from the rule
-flows_grow : (E : ℕ → Type 0) (F W W' : ℕ → ℕ → Type 0) (k k' : ℕ → Type 0) (a : List Sym) → ((r t : ℕ) → W r t → W' r t) → ((t : ℕ) → k' t → k t)
-    → Flows E F W a k → Flows E F W' a k'
-flows_grow E F W W' k k' [] f back h = h
-flows_grow E F W W' k k' (Token u ∷ a) f back h = flows_grow E F W W' k k' a f back h
-flows_grow E F W W' k k' (Rule q ∷ a) f back h = (
+follow_grow : (E : ℕ → Type 0) (F W W' : ℕ → ℕ → Type 0) (k k' : ℕ → Type 0) (a : List Sym) → ((r t : ℕ) → W r t → W' r t) → ((t : ℕ) → k' t → k t)
+    → CoversFollow E F W a k → CoversFollow E F W' a k'
+follow_grow E F W W' k k' [] f back h = h
+follow_grow E F W W' k k' (Token u ∷ a) f back h = follow_grow E F W W' k k' a f back h
+follow_grow E F W W' k k' (Rule q ∷ a) f back h = (
   (λ t b. f q t (h.0 t b)),
   (λ v t b. f q t (h.1 v t (back t b))),
-  flows_grow E F W W' k k' a f back h.2,
+  follow_grow E F W W' k k' a f back h.2,
 )
 
 module _ (rule : ℕ) (symbols : List Sym) where
@@ -156,7 +156,7 @@ module _ (rule : ℕ) (symbols : List Sym) where
     more = λ r h. inl h;
     reported = λ r t h. inl h;
     kept = λ r t h. h;
-    closed = λ y e f back. subst (λ l. FlowIn y rule l) (sym (drop_all n symbols le)) tt;
+    closed = λ y e f back. subst (λ l. CoversFollowIn y rule l) (sym (drop_all n symbols le)) tt;
   }
 
   -- What is added for a symbol now follows it; and what followed it at the start is added.
@@ -168,8 +168,8 @@ module _ (rule : ℕ) (symbols : List Sym) where
   flowing_one n s rest gives old mid new none waiting waiting' at after w below above one = record {
     sound = λ g is has say. let m = w.sound g is has say in
         say_puts g _ mid new waiting waiting' m one (λ r t h. may_follow g rule rest mid s r t m
-        (subst (λ l. Flows (Nullable (HasProduction g)) (First (HasProduction g)) (MayFollow g) l (MayFollow g rule)) at
-        (flows_drop _ _ _ _ n symbols (derived_flows g rule symbols has))) h.0 (above t h.1));
+        (subst (λ l. CoversFollow (Nullable (HasProduction g)) (First (HasProduction g)) (MayFollow g) l (MayFollow g rule)) at
+        (follow_drop _ _ _ _ n symbols (derived_follow g rule symbols has))) h.0 (above t h.1));
     firsts = one.firsts ∙ w.firsts;
     no_less = let a = w.no_less in let b = one.no_less in omega (arith, a, b);
     rules = one.rules ∙ w.rules;
@@ -192,9 +192,9 @@ module _ (rule : ℕ) (symbols : List Sym) where
       | inr i ↦ inr i
     ];
     kept = λ r t h. (one.bits r t).1 (inl (w.kept r t h));
-    closed = λ x e f back. subst (λ l. FlowIn x rule l) (sym at) (flow_at x rule s rest
+    closed = λ x e f back. subst (λ l. CoversFollowIn x rule l) (sym at) (follow_at x rule s rest
         (λ r t is b. f r t ((one.bits r t).1 (inr (is, below t (after_grow x old rule rest t (sym e) (back t) b)))))
-        (subst (λ l. FlowIn x rule l) (sym after) (w.closed x e (λ r t on. f r t ((one.bits r t).1 (inl on))) back)));
+        (subst (λ l. CoversFollowIn x rule l) (sym after) (w.closed x e (λ r t on. f r t ((one.bits r t).1 (inl on))) back)));
   }
 
   pub flowing_all : (n : ℕ) (old new : FollowSets) (none waiting : List Bool) → n ≡ 0 → NoneWaits none
@@ -208,11 +208,11 @@ module _ (rule : ℕ) (symbols : List Sym) where
       (λ h. elim (w.more r h) [ inl i ↦ absurd (true≢false (sym i ∙ idle r)) | inr i ↦ i ]),
       (λ unless. waits_by r (waits waiting r) refl unless),
     );
-    closed = λ unless. subst (λ k. FlowIn new rule (drop k symbols)) start
+    closed = λ unless. subst (λ k. CoversFollowIn new rule (drop k symbols)) start
         (w.closed new w.firsts (λ r t h. h) (λ t h. back rule (unless rule refl) t h));
-    stays = λ q unless had. flows_grow (IsNullableRule new.firsts) (IsAmongFirsts new.firsts) (HasBit old.follows) (HasBit new.follows)
+    stays = λ q unless had. follow_grow (IsNullableRule new.firsts) (IsAmongFirsts new.firsts) (HasBit old.follows) (HasBit new.follows)
         (HasBit old.follows q.rule) (HasBit new.follows q.rule) q.symbols w.kept (λ t h. back q.rule (unless q.rule refl) t h)
-        (subst (λ f. Flows (IsNullableRule f) (IsAmongFirsts f) (HasBit old.follows) q.symbols (HasBit old.follows q.rule)) (sym w.firsts) had);
+        (subst (λ f. CoversFollow (IsNullableRule f) (IsAmongFirsts f) (HasBit old.follows) q.symbols (HasBit old.follows q.rule)) (sym w.firsts) had);
   }
     where
       back : (r : ℕ) → (Waits waiting r → ⊥) → (t : ℕ) → HasBit new.follows r t → HasBit old.follows r t
@@ -238,8 +238,8 @@ are_follows g x say covered = record {
   follow = λ r t. (
     say.follow r t,
     λ h. elim h [
-      | inl f ↦ closed_follow (HasProduction g) _ _ _ closed flows r t f
-      | inr e ↦ closed_end (HasProduction g) _ _ _ closed flows r t e.1 (say.finish t e.0)
+      | inl f ↦ closed_follow (HasProduction g) _ _ _ closed covers r t f
+      | inr e ↦ closed_end (HasProduction g) _ _ _ closed covers r t e.1 (say.finish t e.0)
     ],
   );
 }
@@ -247,8 +247,8 @@ are_follows g x say covered = record {
     closed : IsClosed (HasProduction g) (IsNullableRule x.firsts) (IsAmongFirsts x.firsts)
     closed = firsts_closed g x.firsts say.firsts
 
-    flows : IsFollowClosed (HasProduction g) (IsNullableRule x.firsts) (IsAmongFirsts x.firsts) (HasBit x.follows)
-    flows r symbols has = subst (λ (p : Production). FlowIn x p.rule p.symbols)
+    covers : IsFollowClosed (HasProduction g) (IsNullableRule x.firsts) (IsAmongFirsts x.firsts) (HasBit x.follows)
+    covers r symbols has = subst (λ (p : Production). CoversFollowIn x p.rule p.symbols)
         (get_or_default g.productions has.0 _ _ has.1 ∙ has.2) (covered has.0 has.1)
 
 -- at first the end token follows the start rule, and nothing else follows anything

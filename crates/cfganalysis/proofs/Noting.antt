@@ -1,7 +1,7 @@
 -- The productions that depend on rules: a further one is noted for the rules among its symbols, and those that depend on a rule are queued.
-use Rattle.std.proofs.Common.{◌≡◌, ◌↔◌, ℕ, ◌+◌, ◌<◌, ◌≤◌, ◌⊎◌, inl, inr, Bool, true, false, List, [], ◌∷◌, ◌++◌, Contains, map, take, get_or, length, slice_set, Vec, Global, refl, sym, ap, ◌∙◌, subst, true≢false, length-set, get_or-set_other, Result, Ok, Err, IfOk, arith}
+use Rattle.std.proofs.Common.{◌≡◌, ◌↔◌, ℕ, ◌+◌, ◌<◌, ◌≤◌, ◌⊎◌, inl, inr, Bool, true, false, List, [], ◌∷◌, ◌++◌, Contains, map, take, get_or, length, slice_set, refl, sym, ap, ◌∙◌, subst, true≢false, length-set, get_or-set_other, Result, Ok, Err, IfOk, OnOk, arith}
 use Rattle.std.proofs.lemmas.Bool.{cases_eq}
-use Rattle.std.proofs.lemmas.List.{get_or-map, map-set, length-map, take_all}
+use Rattle.std.proofs.lemmas.List.{take_all}
 use Rattle.std.proofs.lemmas.List.Elements.{Contains-append_left, Contains-push, Contains-push_cases}
 use Rattle.lemmas.proofs.Adding.{adds_as, adds_then, set_adds}
 use Rattle.lemmas.proofs.Contained.{contains_none}
@@ -26,24 +26,11 @@ notes_one users rule p lt = record {
   )) r);
 }
 
--- a list in the code is what its view shows
-pub row_shown : (lists : List (Vec ℕ Global)) (users : List (List ℕ)) (rule : ℕ) (x : Vec ℕ Global) → map (λ list. list.items) lists ≡ users → rule < length users
-    → x ≡ get_or lists rule x → x.items ≡ users_of users rule
-row_shown lists users rule x shown lt is =
-    let items : Vec ℕ Global → List ℕ = λ list. list.items in
-    sym (ap (λ l. get_or l rule []) (sym shown)
-    ∙ get_or-map items lists rule x [] (subst (λ n. rule < n) (sym (ap length shown) ∙ length-map lists items) lt) ∙ ap items (sym is))
-
--- the same for lists in the code
-pub notes_pushed : (lists : List (Vec ℕ Global)) (users : List (List ℕ)) (rule p : ℕ) (was now : Vec ℕ Global) → map (λ list. list.items) lists ≡ users
-    → rule < length users → was ≡ get_or lists rule was → now.items ≡ was.items ++ p ∷ []
-    → Notes p (λ r. r ≡ rule) users (map (λ list. list.items) (slice_set lists rule now))
-notes_pushed lists users rule p was now shown lt is push =
-    subst (λ l. Notes p (λ r. r ≡ rule) users l) (sym written) (notes_one users rule p lt)
-  where
-    written : map (λ list. list.items) (slice_set lists rule now) ≡ slice_set users rule (users_of users rule ++ p ∷ [])
-    written = map-set (λ list. list.items) lists rule now ∙ ap (λ l. slice_set l rule now.items) shown
-        ∙ ap (λ l. slice_set users rule l) (push ∙ ap (λ l. l ++ p ∷ []) (row_shown lists users rule was shown lt is))
+-- the same for a push
+pub notes_pushed : {A E : Type 0} (result : Result A E) (users new : List (List ℕ)) (rule p : ℕ) → rule < length users
+    → OnOk result (new ≡ slice_set users rule (users_of users rule ++ p ∷ [])) → IfOk result (λ _. Notes p (λ r. r ≡ rule) users new)
+notes_pushed (Ok x) users new rule p lt e = subst (Notes p (λ r. r ≡ rule) users) (sym e) (notes_one users rule p lt)
+notes_pushed (Err x) users new rule p lt e = tt
 
 pub notes_none : (p : ℕ) (rests : ℕ → Type 0) (x : List (List ℕ)) → ((r : ℕ) → rests r → ⊥) → Notes p rests x x
 notes_none p rests x never = record {

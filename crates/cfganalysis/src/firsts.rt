@@ -19,7 +19,7 @@ use crate::growth::Analysis;
 use crate::visits::visit_all;
 use crate::waiting::Waiting;
 use crate::words::WordTable;
-use crate::work::Users;
+use crate::work::{Users, note};
 use cfgindex::{RIdx, Storage, Symbol, TIdx, Vob};
 use cfgtables::{CountedTables, Productions, Tables};
 use std::alloc::{AllocError, Global};
@@ -114,7 +114,7 @@ fn note_symbol<S: Storage>(
     ensures { IfOk result (λ _. Notes production (λ r. Rule r ≡ sym_of S.number symbol) users.old users.new) }
 {
     match symbol {
-        Symbol::Rule(rule) => users.note(usize::from(rule), production),
+        Symbol::Rule(rule) => note(users, usize::from(rule), production),
         Symbol::Token(_) => Ok(()),
     }
 }
@@ -255,7 +255,8 @@ impl<S: Storage> Analysis<S> for GrowingFirsts<S> {
         users: &mut Users,
     ) -> Result<(), AllocError>
         requires { CanNote users.old (shown S.number _rule symbols.now) }
-        ensures { IfOk result (λ _. Notes production (HoldsRule (shown S.number _rule symbols.now)) users.old users.new) }
+        ensures { IfOk result (λ _. Notes production (HoldsRule (shown S.number _rule symbols.now))
+            users.old users.new) }
     {
         note_rules(production, symbols, users)
     }

@@ -22,7 +22,7 @@ use crate::growth::Analysis;
 use crate::visits::visit_all;
 use crate::waiting::Waiting;
 use crate::words::WordTable;
-use crate::work::Users;
+use crate::work::{Users, note};
 use cfgindex::{RIdx, Storage, Symbol, TIdx, Vob};
 use cfgtables::{CountedTables, Productions, Tables};
 use std::alloc::{AllocError, Global};
@@ -220,8 +220,8 @@ impl<'a, S: Storage> GrowingFollows<'a, S> {
         requires { (g : Grammar) × FitFollows g self.now × (S.number rule.0 < g.rules)
             × IsSymbolOf g (sym_of S.number symbol)
             × IsLookaheadOf S.number g lookahead.now × (length gathered.old ≡ g.tokens) }
-        ensures { LookaheadBefore S.number self.now (S.number rule.0) (sym_of S.number symbol) lookahead.now gathered.old
-            result gathered.new }
+        ensures { LookaheadBefore S.number self.now (S.number rule.0) (sym_of S.number symbol)
+            lookahead.now gathered.old result gathered.new }
     {
         if !self.firsts.is_nullable_symbol(symbol) {
             return Lookahead::Symbol(symbol);
@@ -324,7 +324,7 @@ impl<'a, S: Storage> Analysis<S> for FollowAnalysis<'a, S> {
         requires { CanNote users.old (shown S.number rule _symbols.now) }
         ensures { IfOk result (λ _. Notes production (IsOwner (shown S.number rule _symbols.now)) users.old users.new) }
     {
-        users.note(usize::from(rule), production)
+        note(users, usize::from(rule), production)
     }
 
     fn visit(&mut self, rule: RIdx<S>, symbols: &[Symbol<S>], gained: &mut Waiting)

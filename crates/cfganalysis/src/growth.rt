@@ -41,7 +41,8 @@ pub trait Analysis<S: Storage> {
         users: &mut Users,
     ) -> Result<(), AllocError>
         requires { CanNote users.old (shown S.number rule symbols.now) }
-        ensures { IfOk result (λ _. Notes production (depends_on (shown S.number rule symbols.now)) users.old users.new) };
+        ensures { IfOk result (λ _. Notes production (depends_on (shown S.number rule symbols.now))
+            users.old users.new) };
 
     /// Adds what a production gives, and queues the rules whose sets grew.
     fn visit(&mut self, rule: RIdx<S>, symbols: &[Symbol<S>], gained: &mut Waiting)

@@ -5,61 +5,32 @@ ghost use Rattle.cfganalysis.specs.Inner.Waiting.{NoneWaits, Waits};
 ghost use Rattle.cfganalysis.specs.Inner.Work.{Queues, Notes, users_of};
 
 use crate::waiting::Waiting;
+use cfgindex::ListTable;
 use std::alloc::{AllocError, Global};
-use std::marker::Model;
 
 /// For each rule, the numbers of the productions that depend on it: what they give depends on the rule's set.
-#[derive(Drop)]
-pub struct Users {
-    lists: Vec<Vec<usize>>,
+pub type Users = ListTable<usize>;
+
+/// Notes that a production depends on the rule.
+///
+/// # Errors
+///
+/// Out of memory.
+pub(crate) fn note(users: &mut Users, rule: usize, production: usize) -> Result<(), AllocError>
+    requires { rule < length users.old }
+    ensures { IfOk result (λ _. Notes production (λ r. r ≡ rule) users.old users.new) }
+{
+    users.push(rule, production)
 }
 
-impl Model for Users {
-    ghost use Rattle.std.specs.Prelude.{ℕ, List, map};
-
-    ghost Value = { List (List ℕ) };
-
-    ghost view = { λ x. map (λ list. list.items) x.lists.items };
-}
-
-impl Users {
-    /// Empty lists for this many rules.
-    ///
-    /// # Errors
-    ///
-    /// Out of memory.
-    pub fn new(alloc: Global, rules: usize) -> Result<Self, AllocError>
-        ensures { IfOk result (λ x. x ≡ replicate rules []) }
-    {
-        let mut lists = Vec::new(alloc);
-        for _rule in 0..rules {
-            lists.push(Vec::new(alloc))?;
-        }
-        Ok(Users { lists })
-    }
-
-    /// Notes that a production depends on the rule.
-    ///
-    /// # Errors
-    ///
-    /// Out of memory.
-    pub fn note(&mut self, rule: usize, production: usize) -> Result<(), AllocError>
-        requires { rule < length self.old }
-        ensures { IfOk result (λ _. Notes production (λ r. r ≡ rule) self.old self.new) }
-    {
-        self.lists[rule].push(production)?;
-        Ok(())
-    }
-
-    /// Queues the productions that depend on the rule.
-    fn queue_users(&self, rule: usize, waiting: &mut Waiting)
-        requires rule { rule < length self.now }
-        requires within { (p : ℕ) → Contains (users_of self.now rule) p → p < length waiting.old }
-        ensures { Queues self.now (λ r. r ≡ rule) waiting.old waiting.new }
-    {
-        for production in &self.lists[rule] {
-            waiting.put(*production);
-        }
+/// Queues the productions that depend on the rule.
+fn queue_users(users: &Users, rule: usize, waiting: &mut Waiting)
+    requires rule { rule < length users.now }
+    requires within { (p : ℕ) → Contains (users_of users.now rule) p → p < length waiting.old }
+    ensures { Queues users.now (λ r. r ≡ rule) waiting.old waiting.new }
+{
+    for production in users.of(rule) {
+        waiting.put(*production);
     }
 }
 
@@ -104,7 +75,7 @@ impl Work {
         ensures rules { length self.new.gained ≡ length self.old.gained }
     {
         while let Some(rule) = self.gained.next() {
-            self.users.queue_users(rule, &mut self.waiting);
+            queue_users(&self.users, rule, &mut self.waiting);
         }
     }
 }

@@ -6,7 +6,6 @@ pub mod Finding
 pub mod Layers
 pub mod Paths
 pub mod Positions
-pub mod Pushed
 pub mod Putting
 pub mod Turned
 pub mod Uses

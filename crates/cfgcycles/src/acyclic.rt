@@ -4,8 +4,7 @@ ghost use Rattle.std.specs.Prelude.{◌≡◌, ℕ, ◌<◌, ◌≤◌, ◌⊎�
 ghost use Rattle.cfgcycles.specs.StepLists.{AreWithin, HasStep};
 ghost use Rattle.cfgcycles.specs.Inner.Acyclic.{AreVisits, Ends, IsKnown, IsVisit, left_to_visit};
 
-use crate::step_paths::Step;
-use crate::steps::Steps;
+use crate::step_paths::{Step, Steps};
 use std::alloc::{AllocError, Global};
 
 /// For each rule, whether it is known that every path of steps from it ends. A depth-first search finds this for all

@@ -7,9 +7,7 @@ mod reversed;
 mod shortest;
 pub mod step_paths;
 mod stepping;
-pub mod steps;
 
 pub use shortest::{shortest_cycle, shortest_cycles};
-pub use step_paths::Step;
+pub use step_paths::{Step, Steps};
 pub use stepping::unit_steps;
-pub use steps::Steps;

@@ -9,8 +9,7 @@ ghost use Rattle.cfgcycles.specs.Inner.Reversed.{AreReversed, turned};
 ghost use Rattle.cfgcycles.specs.declared.step_paths.Step.{Step};
 
 use crate::acyclic::acyclic_rules;
-use crate::step_paths::Step;
-use crate::steps::Steps;
+use crate::step_paths::{Step, Steps};
 use std::alloc::{AllocError, Global};
 
 /// For each rule, whether it is known to have no cycle, since every path of steps to it begins somewhere. This finds

@@ -8,8 +8,7 @@ ghost use Rattle.cfgcycles.specs.StepPaths.{IsShortestOf};
 
 use crate::acyclic::acyclic_rules;
 use crate::reversed::rules_after_no_cycle;
-use crate::step_paths::Step;
-use crate::steps::Steps;
+use crate::step_paths::{Step, Steps};
 use std::alloc::{AllocError, Global};
 
 /// A shortest path of steps from the rule to itself, or `None` if there is no such path. Rules are found in layers,

@@ -1,5 +1,7 @@
 //! Steps from rule to rule.
 
+use cfgindex::ListTable;
+
 /// A step from a rule to another, by a production of the rule that has the other rule at this index, counted from 0.
 #[derive(Clone, Copy)]
 pub struct Step {
@@ -10,3 +12,6 @@ pub struct Step {
     /// The index in the production.
     pub index: usize,
 }
+
+/// For each rule its steps.
+pub type Steps = ListTable<Step>;

@@ -7,8 +7,7 @@ ghost use Rattle.cfganalysis.specs.Firsts.{AreFirsts};
 ghost use Rattle.cfgcycles.specs.UnitSteps.{AreSteps, IsStep};
 ghost use Rattle.cfgcycles.specs.Inner.Putting.{AreNullableBetween, ArePut, is_empty};
 
-use crate::step_paths::Step;
-use crate::steps::Steps;
+use crate::step_paths::{Step, Steps};
 use cfganalysis::firsts::YaccFirsts;
 use cfgindex::{PIdx, Storage, Symbol, to_storage};
 use cfgtables::Tables;

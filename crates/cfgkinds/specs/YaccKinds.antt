@@ -12,7 +12,7 @@ use Rattle.cfgkinds.specs.declared.kind.YaccOriginalActionKind.TheVariants.{NoAc
 use Rattle.cfgkinds.specs.declared.fault.KindFault.{KindFault}
 use Rattle.cfgkinds.specs.declared.fault.KindFault.TheVariants.{Error, OutOfMemory}
 
--- the namespaces that may qualify a kind of Yacc and a kind of actions
+-- the namespaces that may qualify a kind of Yacc and a kind of actions; the first is also the key of a section that names a kind
 abbrev pub kind_namespace : List ℕ
 kind_namespace = codes "yacckind"
 
@@ -73,7 +73,7 @@ module _ {T : Type 0} where
   -- a refusal gives clones of the locations, or says that there is no memory for them
   abbrev pub Refuses : (T → T → Type 0) → Result YaccKind (List T) → KindFault T → Type 0
   Refuses is_clone kind (Error error) =
-      (wrong : List T) × (kind ≡ Err wrong) × (error_kind_view error.kind ≡ InvalidEntry (codes "yacckind"))
+      (wrong : List T) × (kind ≡ Err wrong) × (error_kind_view error.kind ≡ InvalidEntry kind_namespace)
       × AllZip is_clone wrong error.locations.items
   Refuses is_clone kind OutOfMemory = (wrong : List T) × (kind ≡ Err wrong)
 

@@ -15,7 +15,8 @@ use cfgbase::Location;
 use cfgerrors::{HeaderError, HeaderErrorKind};
 use std::alloc::{AllocError, Global};
 
-const KIND_NAMESPACE: &str = "yacckind";
+/// The key of a section that names a kind, and the namespace of kinds.
+pub const KIND_NAMESPACE: &str = "yacckind";
 
 const ACTION_NAMESPACE: &str = "yaccoriginalactionkind";
 
@@ -111,7 +112,7 @@ fn judged<T: Clone + Drop>(
     match kind {
         Some(kind) if locations.is_empty() => Ok(kind),
         _ => Err(KindFault::Error(HeaderError {
-            kind: HeaderErrorKind::InvalidEntry("yacckind"),
+            kind: HeaderErrorKind::InvalidEntry(KIND_NAMESPACE),
             locations,
         })),
     }

@@ -11,4 +11,5 @@ pub mod value;
 
 pub use fault::KindFault;
 pub use kind::{YaccKind, YaccOriginalActionKind};
+pub use kinds::KIND_NAMESPACE;
 pub use value::{HeaderValue, Namespaced, Setting, Value};

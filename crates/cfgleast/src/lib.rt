@@ -4,5 +4,4 @@
 pub mod partial;
 pub mod queue;
 pub mod settle;
-mod waitlists;
 pub mod walk;

@@ -1,5 +1,7 @@
 //! Incomplete sums.
 
+use cfgindex::ListTable;
+
 /// The sum of a production's first symbols, cut down to 65536.
 #[derive(Clone, Copy)]
 pub struct Partial {
@@ -10,3 +12,6 @@ pub struct Partial {
     /// What they cost in total.
     pub sum: u32,
 }
+
+/// For each rule, the productions that wait for it.
+pub type Waitlists = ListTable<Partial>;

@@ -9,8 +9,8 @@ ghost use Rattle.cfgleast.specs.Certificate.{choice_of};
 ghost use Rattle.cfgleast.specs.Inner.Open.{AreAllOpen, AreInput, count_open};
 ghost use Rattle.cfgleast.specs.Inner.Settled.{AreChosen, AreSettled, HasPopped};
 
+use crate::partial::Waitlists;
 use crate::queue::Queue;
-use crate::waitlists::Waitlists;
 use crate::walk::{start, wake};
 use cfgindex::{PIdx, Storage, to_storage};
 use cfgtables::Tables;

@@ -9,9 +9,8 @@ ghost use Rattle.cfgleast.specs.Inner.Open.{AreInput, AreWaking, AreAllOpen, IsC
 ghost use Rattle.cfgleast.specs.Inner.Open.{count_open};
 ghost use Rattle.derivation.specs.Sums.{symbol_cost};
 
-use crate::partial::Partial;
+use crate::partial::{Partial, Waitlists};
 use crate::queue::Queue;
-use crate::waitlists::Waitlists;
 use cfgindex::{PIdx, Storage, Symbol, to_storage};
 use cfgtables::Tables;
 use std::alloc::AllocError;
@@ -102,7 +101,7 @@ fn advance<S: Storage, T: Tables<S>>(
     let symbols = grm.prod(PIdx(to_storage(production as usize)));
     match walk(costs, least, symbols, partial) {
         Ok(sum) => queue.push(sum, production),
-        Err((rule, partial)) => waiting.add(rule, partial),
+        Err((rule, partial)) => waiting.push(rule, partial),
     }
 }
 

@@ -1,5 +1,5 @@
 -- Whether a text names a kind, given what is read of its section.
-use Rattle.std.proofs.Common.{◌≡◌, ℕ, inl, inr, Bool, true, false, not, List, [], ◌∷◌, map, Option, Some, None, Result, Ok, Err, Bor, Vec, Global, option_map, refl, sym, subst, ap, ap₂, ◌∙◌, codes}
+use Rattle.std.proofs.Common.{◌≡◌, ℕ, inl, inr, Bool, true, false, not, List, [], ◌∷◌, map, Option, Some, None, Result, Ok, Err, Bor, Vec, Global, option_map, refl, sym, subst, ap, ap₂, ◌∙◌}
 use Rattle.std.proofs.lemmas.Bool.{false≢true}
 use Rattle.std.specs.Prelude.{is_some}
 use Rattle.std.specs.Result.{result_map_both}
@@ -17,6 +17,7 @@ use Rattle.cfgsection.specs.Named.{IsKindIfNamed, IsNaming, Names, NamesNoKind, 
 use Rattle.cfgsection.proofs.NamedLemmas.{naming_is, naming_of}
 use Rattle.cfgsection.proofs.SectionOne.{one_section, section_answered}
 use Rattle.cfgsection.proofs.SectionThere.{same_or_missing}
+use Rattle.cfgkinds.specs.YaccKinds.{kind_namespace}
 
 -- a section: without errors, its entries and the rest after it; else its errors
 abbrev Section : Type 0
@@ -41,7 +42,7 @@ answered (error ∷ errors) xs (Ok left) entries rest is = absurd (unlike (error
 answered [] xs (Ok left) entries rest is = (ap entries_in is, ap Ok (ap rest_in is))
 
 module _ (text : List ℕ) where
-  names_none : (entries : List Entry) (rest : List ℕ) → section_of false text ≡ Ok (entries, rest) → given entries (codes "yacckind") ≡ None → NamesNoKind text
+  names_none : (entries : List Entry) (rest : List ℕ) → section_of false text ≡ Ok (entries, rest) → given entries kind_namespace ≡ None → NamesNoKind text
   names_none entries rest is none =
       let one = one_section false text in
       let answer = sym (section_answered false text one.entries one.end one.is) ∙ is in
@@ -58,8 +59,8 @@ module _ (text : List ℕ) where
   section_is it = section_answered false text it.entries (Ok it.rest) it.section ∙ it.whole
 
   -- if no kind is named, the entries give none
-  only_none : (entries : List Entry) (rest : List ℕ) → section_of false text ≡ Ok (entries, rest) → NamesNoKind text → given entries (codes "yacckind") ≡ None
-  only_none entries rest is it = subst (λ xs. given xs (codes "yacckind") ≡ None) (ap entries_in (sym (section_is it) ∙ is)) it.none
+  only_none : (entries : List Entry) (rest : List ℕ) → section_of false text ≡ Ok (entries, rest) → NamesNoKind text → given entries kind_namespace ≡ None
+  only_none entries rest is it = subst (λ xs. given xs kind_namespace ≡ None) (ap entries_in (sym (section_is it) ∙ is)) it.none
 
   -- the rest after a required section is also the rest after an optional one
   pub after_section : (entries : List Entry) (rest : List ℕ) → section_of true text ≡ Ok (entries, rest) → section_of false text ≡ Ok (entries, rest)
@@ -86,7 +87,7 @@ module _ (text : List ℕ) where
     value_of found = option_map (λ (e : Bor CodeEntry). given_by (entry_view e.now)) found
 
     abbrev IsFound : Option (Bor CodeEntry) → Type 0
-    IsFound found = value_of found ≡ given (map entry_view entries.items) (codes "yacckind")
+    IsFound found = value_of found ≡ given (map entry_view entries.items) kind_namespace
 
     pub by_none : (found : Option (Bor CodeEntry)) (none : Bool) → IsFound found → is_some found ≡ not none → none ≡ true → IsKindIfNamed text (Ok None)
     by_none None none is test e = names_none (map entry_view entries.items) rest.now read (sym is)

@@ -1,5 +1,5 @@
 -- A text has one naming: its section's.
-use Rattle.std.proofs.Common.{◌≡◌, ℕ, true, List, map, Option, Result, Ok, Err, Bor, Vec, Global, sym, ap, subst, ◌∙◌, option_map, codes}
+use Rattle.std.proofs.Common.{◌≡◌, ℕ, true, List, map, Option, Result, Ok, Err, Bor, Vec, Global, sym, ap, subst, ◌∙◌, option_map}
 use Rattle.cfgkinds.specs.declared.kind.YaccKind.{YaccKind}
 use Rattle.cfgsection.specs.declared.section.entry.Entry.{Entry as CodeEntry}
 use Rattle.cfgsection.specs.declared.section.header_fault.HeaderFault.{HeaderFault}
@@ -7,6 +7,7 @@ use Rattle.cfgsection.specs.declared.section.header_fault.HeaderFault.TheVariant
 use Rattle.cfgsection.specs.SectionReads.{IsSectionRead, entry_view, section_of, given, given_by}
 use Rattle.cfgsection.specs.Named.{Naming, IsNaming, kind_given, kind_in, Names, HasOneNaming}
 use Rattle.cfgsection.proofs.SectionOne.{one_section, section_answered}
+use Rattle.cfgkinds.specs.YaccKinds.{kind_namespace}
 
 pub naming_is : (text : List ℕ) (naming : Naming) → Names text naming → kind_in (section_of true text) ≡ naming
 naming_is text naming names = ap kind_in (section_answered true text names.entries names.end names.section) ∙ names.naming_is
@@ -34,7 +35,7 @@ refused text faults.OutOfMemory read naming names = tt
 -- of a section without errors
 pub answered : (text : List ℕ) (entries : Vec CodeEntry Global) (rest : Bor (List ℕ)) (found : Option (Bor CodeEntry)) (result : Result YaccKind HeaderFault)
     → IsSectionRead (section_of true text) (Ok (entries, rest))
-    → option_map (λ (e : Bor CodeEntry). given_by (entry_view e.now)) found ≡ given (map entry_view entries.items) (codes "yacckind")
+    → option_map (λ (e : Bor CodeEntry). given_by (entry_view e.now)) found ≡ given (map entry_view entries.items) kind_namespace
     → IsNaming (kind_given (option_map (λ (e : Bor CodeEntry). given_by (entry_view e.now)) found)) result
     → (naming : Naming) → Names text naming → IsNaming naming result
 answered text entries rest found result read gives is naming names =

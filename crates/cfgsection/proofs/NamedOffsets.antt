@@ -1,5 +1,5 @@
 -- The errors of a text that names no kind have their spans in the text.
-use Rattle.std.proofs.Common.{ℕ, ◌<◌, Bool, true, false, List, [], ◌∷◌, fold, length, All, Option, Some, None, Result, Ok, Err, subst, arith, codes, if◌then◌else◌}
+use Rattle.std.proofs.Common.{ℕ, ◌<◌, Bool, true, false, List, [], ◌∷◌, fold, length, All, Option, Some, None, Result, Ok, Err, subst, arith, if◌then◌else◌}
 use Rattle.std.specs.Prelude.{IfSome, IfErr}
 use Rattle.std.specs.Str.{IsUtf8, IsCharBoundary, bytes_eq}
 use Rattle.std.proofs.lemmas.Str.{IsCharBoundary-start}
@@ -9,7 +9,7 @@ use Rattle.cfgwords.specs.TextSpans.{IsPiece}
 use Rattle.cfgkinds.specs.declared.kind.YaccKind.{YaccKind}
 use Rattle.cfgerrors.specs.HeaderErrors.{ShownError}
 use Rattle.cfgkinds.specs.Values.{ShownHeaderValue, ShownValue}
-use Rattle.cfgkinds.specs.YaccKinds.{kind_of_value}
+use Rattle.cfgkinds.specs.YaccKinds.{kind_of_value, kind_namespace}
 use Rattle.cfgsection.specs.SectionGrammar.{Entry}
 use Rattle.cfgsection.specs.SectionReads.{given, section_answer}
 use Rattle.cfgsection.specs.declared.section.header_fault.HeaderFault.{HeaderFault}
@@ -60,7 +60,7 @@ module _ (text : List ℕ) where
   section_named_at : IsUtf8 text → (section : Result (List Entry × List ℕ) (List (ShownError Span))) → IsSectionAt text section → IsNamingAt (kind_in section)
   section_named_at utf8 (Err errors) h = h
   section_named_at utf8 (Ok (entries, rest)) h =
-      given_at utf8 (given entries (codes "yacckind")) (given_located (EachKindOffset (IsPiece text)) entries (codes "yacckind") h.1)
+      given_at utf8 (given entries kind_namespace) (given_located (EachKindOffset (IsPiece text)) entries kind_namespace h.1)
 
   pub naming_at : IsUtf8 text → (naming : Naming) → Names text naming → IsNamingAt naming
   naming_at utf8 naming names =

@@ -1,5 +1,5 @@
 -- A refused section, and a text that names no kind, have at least one error.
-use Rattle.std.proofs.Common.{◌≡◌, ℕ, ◌<◌, Bool, List, [], ◌∷◌, length, length-append, arith, Option, Some, None, Result, Ok, Err, Bor, Vec, Global, String, refl, sym, subst, codes}
+use Rattle.std.proofs.Common.{◌≡◌, ℕ, ◌<◌, Bool, List, [], ◌∷◌, length, length-append, arith, Option, Some, None, Result, Ok, Err, Bor, Vec, Global, String, refl, sym, subst}
 use Rattle.std.specs.Prelude.{IfErr}
 use Rattle.std.proofs.lemmas.List.{length-map}
 use Rattle.cfgbase.specs.declared.span.Span.{Span}
@@ -9,7 +9,7 @@ use Rattle.cfgerrors.specs.HeaderErrors.{ShownError, error_view}
 use Rattle.cfgerrors.specs.declared.header.HeaderError.{HeaderError}
 use Rattle.cfgkinds.specs.declared.kind.YaccKind.{YaccKind}
 use Rattle.cfgkinds.specs.declared.value.Value.{Value}
-use Rattle.cfgkinds.specs.YaccKinds.{kind_of_value}
+use Rattle.cfgkinds.specs.YaccKinds.{kind_of_value, kind_namespace}
 use Rattle.cfgkinds.specs.Values.{ShownHeaderValue}
 use Rattle.cfgsection.specs.declared.section.entry.Entry.{Entry as CodeEntry}
 use Rattle.cfgsection.specs.declared.section.header_fault.HeaderFault.{HeaderFault}
@@ -47,7 +47,7 @@ given_errors (Some value) = kind_errors (kind_of_value value.value)
 
 naming_errors : (section : Result (List Entry × List ℕ) (List (ShownError Span))) → HasErrors section → HasErrors (kind_in section)
 naming_errors (Err errors) h = h
-naming_errors (Ok (entries, rest)) h = given_errors (given entries (codes "yacckind"))
+naming_errors (Ok (entries, rest)) h = given_errors (given entries kind_namespace)
 
 pub errors_there : (text : List ℕ) (naming : Naming) → Names text naming → HasErrors naming
 errors_there text naming names = subst HasErrors names.naming_is (naming_errors (section_answer names.entries names.end) (section_lists names.entries names.end))

@@ -1,11 +1,11 @@
 -- The kind of Yacc that the section of a text names, or the errors that keep it from naming one.
-use Rattle.std.specs.Prelude.{◌≡◌, ℕ, true, false, List, [], ◌∷◌, Option, Some, None, Result, Ok, Err, codes}
+use Rattle.std.specs.Prelude.{◌≡◌, ℕ, true, false, List, [], ◌∷◌, Option, Some, None, Result, Ok, Err}
 use Rattle.cfgbase.specs.declared.span.Span.{Span}
 use Rattle.cfgkinds.specs.declared.kind.YaccKind.{YaccKind}
 use Rattle.cfgsection.specs.declared.section.header_fault.HeaderFault.{HeaderFault}
 use Rattle.cfgsection.specs.declared.section.header_fault.HeaderFault.TheVariants as faults
 use Rattle.cfgerrors.specs.HeaderErrors.{InvalidEntry, ShownError}
-use Rattle.cfgkinds.specs.YaccKinds.{kind_of_value}
+use Rattle.cfgkinds.specs.YaccKinds.{kind_of_value, kind_namespace}
 use Rattle.cfgsection.specs.SectionGrammar.{Entry, Fault}
 use Rattle.cfgsection.specs.SectionReads.{IsSection, section_answer, given, errors_view}
 use Rattle.cfgkinds.specs.Values.{ShownHeaderValue}
@@ -16,7 +16,7 @@ Naming = Result YaccKind (List (ShownError Span))
 
 -- no kind is named, because of what is at these spans
 abbrev pub unnamed : List Span → List (ShownError Span)
-unnamed offsets = record { kind = InvalidEntry (codes "yacckind"); locations = offsets } ∷ []
+unnamed offsets = record { kind = InvalidEntry kind_namespace; locations = offsets } ∷ []
 
 abbrev pub kind_or_offsets : Result YaccKind (List Span) → Naming
 kind_or_offsets (Ok kind) = Ok kind
@@ -29,7 +29,7 @@ kind_given (Some given) = kind_or_offsets (kind_of_value given.value)
 
 abbrev pub kind_in : Result (List Entry × List ℕ) (List (ShownError Span)) → Naming
 kind_in (Err errors) = Err errors
-kind_in (Ok (entries, rest)) = kind_given (given entries (codes "yacckind"))
+kind_in (Ok (entries, rest)) = kind_given (given entries kind_namespace)
 
 -- The text has a section that names this kind; if the section has errors, these keep it from naming one.
 pub record Names (text : List ℕ) (naming : Naming) : Type 0 where
@@ -50,7 +50,7 @@ pub record NamesNoKind (text : List ℕ) : Type 0 where
   pub rest : List ℕ
   pub section : IsSection false text entries (Ok rest)
   pub whole : section_answer entries (Ok rest) ≡ Ok (entries, rest)
-  pub none : given entries (codes "yacckind") ≡ None
+  pub none : given entries kind_namespace ≡ None
 
 -- what a call that looks for the kind returns
 abbrev pub IsNaming : Naming → Result YaccKind HeaderFault → Type 0

@@ -1,27 +1,28 @@
 //! The kind of Yacc that a text names.
 
-ghost use Rattle.std.specs.Prelude.{◌≡◌, ◌∷◌, [], option_map, IfOk, IfErr, codes};
+ghost use Rattle.std.specs.Prelude.{◌≡◌, ◌∷◌, [], option_map, IfOk, IfErr};
 ghost use Rattle.cfgerrors.specs.HeaderErrors.{InvalidEntry, error_view};
 ghost use Rattle.cfgsection.specs.Named.{HasOneNaming, IsKindIfNamed, IsNaming, Naming, Names, first_part, kind_given};
 ghost use Rattle.cfgsection.specs.SectionRefusal.{ListsErrors};
 ghost use Rattle.cfgsection.specs.SectionOffsets.{IsFaultAt};
 ghost use Rattle.cfgsection.specs.SectionReads.{IsAfterSection, entry_view, given_by};
+ghost use Rattle.cfgkinds.specs.YaccKinds.{kind_namespace};
 
 use crate::section::{Entry, HeaderFault, entry_of, section_entries};
 use cfgbase::Span;
 use cfgerrors::{HeaderError, HeaderErrorKind};
-use cfgkinds::{KindFault, YaccKind};
+use cfgkinds::{KIND_NAMESPACE, KindFault, YaccKind};
 use std::alloc::{AllocError, Global};
 
 /// The error of a section without the key `yacckind`.
 fn key_missing(alloc: Global) -> Result<HeaderError<Span>, AllocError>
     ensures { IfOk result (λ error. error_view error
-        ≡ record { kind = InvalidEntry (codes "yacckind"); locations = record { start = 0; end = 0 } ∷ [] }) }
+        ≡ record { kind = InvalidEntry kind_namespace; locations = record { start = 0; end = 0 } ∷ [] }) }
 {
     let mut locations = Vec::new(alloc);
     locations.push(Span::new(0, 0))?;
     Ok(HeaderError {
-        kind: HeaderErrorKind::InvalidEntry("yacckind"),
+        kind: HeaderErrorKind::InvalidEntry(KIND_NAMESPACE),
         locations,
     })
 }
@@ -58,7 +59,7 @@ pub fn kind_named(alloc: Global, text: &str) -> Result<(YaccKind, &str), HeaderF
     ensures listed { IfErr result ListsErrors }
 {
     let (entries, rest) = section_entries(alloc, text, true)?;
-    let kind = kind_given(alloc, entry_of(entries.as_slice(), "yacckind"))?;
+    let kind = kind_given(alloc, entry_of(entries.as_slice(), KIND_NAMESPACE))?;
     Ok((kind, rest))
 }
 
@@ -76,7 +77,7 @@ pub fn kind_if_named(alloc: Global, text: &str) -> Result<(Option<YaccKind>, &st
     ensures listed { IfErr result ListsErrors }
 {
     let (entries, rest) = section_entries(alloc, text, false)?;
-    let given = entry_of(entries.as_slice(), "yacckind");
+    let given = entry_of(entries.as_slice(), KIND_NAMESPACE);
     if given.is_none() {
         return Ok((None, rest));
     }

@@ -1,12 +1,12 @@
 -- Elements that occur more than once.
-use Rattle.std.proofs.Common.{◌≡◌, ℕ, zero, suc, ◌+◌, Bool, true, false, cond, ◌||◌, List, [], ◌∷◌, ◌++◌, map, filter, length, eqb, All, arith, refl, sym, ap, ◌∙◌, append-nil}
+use Rattle.std.proofs.Common.{◌≡◌, ℕ, zero, suc, ◌+◌, ◌<◌, Bool, true, false, cond, ◌||◌, List, [], ◌∷◌, ◌++◌, map, filter, get_or, length, eqb, All, arith, refl, sym, ap, ◌∙◌, append-nil}
 use Rattle.std.specs.Cmp.{IsEquivalence}
 use Rattle.std.specs.List.{list_any}
 use Rattle.std.proofs.Math.Dec.{ltb}
-use Rattle.std.proofs.lemmas.Bool.{lt-ltb, ne_eqb, or_right}
+use Rattle.std.proofs.lemmas.Bool.{lt-ltb, ltb-true, ne_eqb, or_right}
 use Rattle.std.proofs.lemmas.List.{map-append, length-append}
 use Rattle.std.proofs.lemmas.List.Elements.{filter-append, All-map, All-filter}
-use Rattle.std.proofs.lemmas.List.Folds.{list_any-append}
+use Rattle.std.proofs.lemmas.List.Folds.{list_any-append, list_any_at}
 use Rattle.lemmas.specs.Lists.{with_prefixes, is_first_repeat, repeated, pushed_unless}
 use Rattle.lemmas.proofs.Growing.{from_pushes}
 use Rattle.lemmas.proofs.Prefixes.{with_prefixes-push, All-with_prefixes}
@@ -28,6 +28,19 @@ module _ {A : Type 0} (same : A → A → Bool) where
   abbrev pub count : A → List A → ℕ
   count x xs = length (filter (λ y. same y x) xs)
 
+  -- the same elements of ys, by what f makes of each; g shows something else of each
+  pub count-map : {B C : Type 0} (f : B → A) (g : B → C) (x : A) (ys : List B) → count x (map f ys) ≡ length (map g (filter (λ y. same (f y) x) ys))
+  count-map f g x [] = refl
+  count-map {B} f g x (y ∷ ys) = go (same (f y) x) (count-map f g x ys)
+    where
+      rest : List B
+      rest = filter (λ y. same (f y) x) ys
+
+      go : (b : Bool) → count x (map f ys) ≡ length (map g rest)
+          → length (cond b (f y ∷ filter (λ z. same z x) (map f ys)) (filter (λ z. same z x) (map f ys))) ≡ length (map g (cond b (y ∷ rest) rest))
+      go true h = omega (arith, h)
+      go false h = h
+
   pub repeated-none : repeated same [] ≡ []
   unfolding repeated
   repeated-none = refl
@@ -38,7 +51,7 @@ module _ {A : Type 0} (same : A → A → Bool) where
       ap (λ t. map (λ (x : List A × A). x.1) (filter (is_first_repeat same) t)) (with_prefixes-push xs x)
       ∙ filtered-push (λ (x : List A × A). x.1) (is_first_repeat same) (with_prefixes xs) (xs, x)
 
-  pub All-repeated : (P : A → Type 0) (xs : List A) → All P xs → All P (repeated same xs)
+  All-repeated : (P : A → Type 0) (xs : List A) → All P xs → All P (repeated same xs)
   unfolding repeated
   All-repeated P xs all = All-map P (λ x. x.1) _ (All-filter _ (λ x. P x.1) _ (All-with_prefixes (λ x. P x.1) P (λ prefix x h. h) xs all))
 
@@ -85,6 +98,11 @@ module _ {A : Type 0} (same : A → A → Bool) where
         go : (b : Bool) → list_any (same x) xs ≡ ltb 0 (count x xs) → (b || list_any (same x) xs) ≡ ltb 0 (length (cond b (y ∷ filter (λ z. same z x) xs) (filter (λ z. same z x) xs)))
         go true rest = sym (lt-ltb 0 _ (omega arith))
         go false rest = rest
+
+    -- what is repeated is there
+    pub repeated-some : (xs : List A) → All (λ x. 0 < count x xs) (repeated same xs)
+    repeated-some xs = All-repeated (λ x. 0 < count x xs) xs (λ k d within.
+        ltb-true 0 _ (sym (any-count (get_or xs k d) xs) ∙ list_any_at (same (get_or xs k d)) xs k d within (laws.refl (get_or xs k d))))
 
     -- one more element is put at the end if an earlier one is the same, unless it is there already
     pub repeated-unless : (xs : List A) (x : A) (again : Bool) → list_any (same x) xs ≡ again

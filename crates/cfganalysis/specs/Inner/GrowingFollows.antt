@@ -4,7 +4,7 @@ use Rattle.std.specs.Prelude.{◌≡◌, ◌↔◌, ◌⊎◌, ⊤, ◌<◌, ◌
 use Rattle.derivation.specs.Grammar.{Sym, Grammar, IsSymbolOf, Production}
 use Rattle.derivation.specs.Follow.{MayFollow}
 use Rattle.derivation.specs.FirstSets.{AreNullable, Begins}
-use Rattle.derivation.specs.FollowSets.{Flows}
+use Rattle.derivation.specs.FollowSets.{CoversFollow}
 use Rattle.cfganalysis.specs.Table.{Table, IsTable, HasBit, Joins, count_of}
 use Rattle.cfgtables.specs.NumberedSymbols.{sym_of}
 use Rattle.cfganalysis.specs.Inner.Waiting.{Waits}
@@ -30,12 +30,12 @@ pub record AreSoundFollows (g : Grammar) (x : FollowSets) : Type 0 where
   pub follow : (r t : ℕ) → HasBit x.follows r t → MayFollow g r t
 
 -- each rule in the list is followed by what the rest of the list begins with and, if the rest is nullable, by what follows `rule`
-abbrev pub FlowIn : FollowSets → ℕ → List Sym → Type 0
-FlowIn x rule a = Flows (IsNullableRule x.firsts) (IsAmongFirsts x.firsts) (HasBit x.follows) a (HasBit x.follows rule)
+abbrev pub CoversFollowIn : FollowSets → ℕ → List Sym → Type 0
+CoversFollowIn x rule a = CoversFollow (IsNullableRule x.firsts) (IsAmongFirsts x.firsts) (HasBit x.follows) a (HasBit x.follows rule)
 
 -- the sets contain all that the production gives
 abbrev pub CoverFollowsOf : FollowSets → Production → Type 0
-CoverFollowsOf x p = FlowIn x p.rule p.symbols
+CoverFollowsOf x p = CoversFollowIn x p.rule p.symbols
 
 -- r is the production's rule; what the production gives depends on r's set
 abbrev pub IsOwner : Production → ℕ → Type 0

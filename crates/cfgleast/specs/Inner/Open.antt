@@ -1,16 +1,11 @@
 -- Productions on the way to their sums: each is queued when its rules are all settled, and waits for one of its rules until then. `settled`
 -- says which rules are settled, and at which cost.
-use Rattle.std.specs.Prelude.{◌≡◌, ℕ, ◌+◌, ◌<◌, ◌≤◌, ◌++◌, min, List, [], ◌∷◌, Option, Some, None, All, Contains, length, take, drop, sum_by, slice_index_or, slice_set, Vec}
-use Rattle.std.specs.declared.alloc.Global.{Global}
+use Rattle.std.specs.Prelude.{◌≡◌, ℕ, ◌+◌, ◌<◌, ◌≤◌, ◌++◌, min, List, [], ◌∷◌, Option, Some, None, All, Contains, length, take, drop, sum_by, slice_index_or, slice_set}
 use Rattle.std.specs.List.Sorted.{IsPermutation}
 use Rattle.derivation.specs.Grammar.{Sym, Rule, Grammar, IsGrammar}
 use Rattle.cfgtables.specs.Openings.{nth_production}
 use Rattle.cfgleast.specs.declared.partial.Partial.{Partial}
 use Rattle.derivation.specs.Sums.{sum_of, symbol_cost}
-
--- the elements of a list of the code
-abbrev pub partials_of : Vec Partial Global → List Partial
-partials_of list = list.items
 
 -- the productions that wait for a rule
 abbrev pub waiting_for : List (List Partial) → ℕ → List Partial

@@ -1,10 +1,11 @@
-use Rattle.std.proofs.Common.{Err, Ok, map, ap, ◌∙◌, codes}
+use Rattle.std.proofs.Common.{Err, Ok, map, ap, ◌∙◌}
 use Rattle.std.proofs.lemmas.Result.{err_from_is_err_and}
 use Rattle.cfgsection.specs.Named.{IsNaming, Names, Naming}
 use Rattle.cfgsection.specs.SectionReads.{entry_view, given}
 use Rattle.cfgsection.proofs.KindIfNamed.{after_section}
 use Rattle.cfgsection.proofs.NamedLemmas.{one_naming, refused, answered}
 use Rattle.cfgsection.proofs.NamedOffsets.{fault_at}
+use Rattle.cfgkinds.specs.YaccKinds.{kind_namespace}
 use Rattle.cfgsection.proofs.named.kind_named.Goals as goal
 
 pub returns-in_err-entries-clause-one : goal.returns-in_err-entries-clause-one
@@ -24,7 +25,7 @@ returns-in_err-entries-clause-naming c =
 -- the value given for the key is not a kind
 refused_value : (c : goal.After-drop-entries) (naming : Naming) → Names c.args.text.now naming → IsNaming naming (Err c.in_err-kind.field-0.0)
 refused_value c =
-    let gives = c.entry_of.ensures ∙ ap (λ es. given (map entry_view es) (codes "yacckind")) c.as_slice.ensures.value in
+    let gives = c.entry_of.ensures ∙ ap (λ es. given (map entry_view es) kind_namespace) c.as_slice.ensures.value in
     answered c.args.text.now c.in_ok-entries.entries c.in_ok-entries.rest c.entry_of.result (Err c.in_err-kind.field-0.0) c.in_ok-entries.ensures.answer gives c.in_err-kind.ensures
 
 pub returns-in_err-kind-clause-naming : goal.returns-in_err-kind-clause-naming
@@ -39,7 +40,7 @@ returns-in_err-kind-clause-offsets c =
 
 pub returns-clause-naming : goal.returns-clause-naming
 returns-clause-naming c =
-    let gives = c.entry_of.ensures ∙ ap (λ es. given (map entry_view es) (codes "yacckind")) c.as_slice.ensures.value in
+    let gives = c.entry_of.ensures ∙ ap (λ es. given (map entry_view es) kind_namespace) c.as_slice.ensures.value in
     answered c.args.text.now c.in_ok-entries.entries c.in_ok-entries.rest c.entry_of.result (Ok c.in_ok-kind.kind) c.in_ok-entries.ensures.answer gives c.in_ok-kind.ensures
 
 pub returns-clause-rest : goal.returns-clause-rest

@@ -1,8 +1,8 @@
-use Rattle.std.proofs.Common.{◌≡◌, ◌<◌, ℕ, List, Contains, length, get_or, arith, subst, sym, ◌∙◌}
+use Rattle.std.proofs.Common.{◌≡◌, ◌<◌, ℕ, List, Contains, length, get_or, arith, subst, sym}
 use Rattle.std.proofs.lemmas.List.{get_or_default}
 use Rattle.std.proofs.lemmas.List.Elements.{Contains-get_or}
-use Rattle.cfganalysis.proofs.Noting.{row_shown, lets_wait_one, lets_wait_all}
-use Rattle.cfganalysis.proofs.work.Users.queue_users.Goals as goal
+use Rattle.cfganalysis.proofs.Noting.{lets_wait_one, lets_wait_all}
+use Rattle.cfganalysis.proofs.work.queue_users.Goals as goal
 
 -- a production in the list is one that may wait
 below : (list row : List ℕ) (i m n : ℕ) → i < length list → list ≡ row → ((p : ℕ) → Contains row p → p < n) → m ≡ n → get_or list i 0 < m
@@ -11,21 +11,18 @@ below list row i m n lt is within e =
 
 pub put-requires : goal.put-requires
 put-requires c =
-    below _ _ _ _ _ (omega (arith, c.loop-production-test.true))
-    (c.deref-production-items.ensures.value ∙ row_shown _ _ _ _ c.self.view_is c.requires.rule c.index.ensures)
-    c.requires.within c.loop-production.invariant.shape
+    below _ _ _ _ _ (omega (arith, c.loop-production-test.true)) c.of-production-items.ensures c.requires.within c.loop-production.invariant.shape
 
 pub loop-production-preserved : goal.loop-production-preserved
 loop-production-preserved c =
-    let list = c.deref-production-items.result.now in
+    let list = c.of-production-items.result.now in
     let i = c.loop-production.production-index in
     let lt : i < length list = omega (arith, c.loop-production-test.true) in
     lets_wait_one list i (get_or list i 0) _ _ _ lt (get_or_default list i 0 _ lt)
-    (below _ _ _ _ _ lt (c.deref-production-items.ensures.value ∙ row_shown _ _ _ _ c.self.view_is c.requires.rule c.index.ensures)
-    c.requires.within c.loop-production.invariant.shape)
+    (below _ _ _ _ _ lt c.of-production-items.ensures c.requires.within c.loop-production.invariant.shape)
     c.loop-production.invariant c.put.ensures
 
 pub returns : goal.returns
 returns c =
     lets_wait_all _ _ _ c.loop-production.production-index _ _ (omega (arith, c.loop-production-test.false, c.loop-production.auto.production-index-end))
-    (c.deref-production-items.ensures.value ∙ row_shown _ _ _ _ c.self.view_is c.requires.rule c.index.ensures) c.loop-production.invariant
+    c.of-production-items.ensures c.loop-production.invariant
