@@ -1,26 +1,16 @@
 -- Each element once, and the insertion of a key: it is put at the end if no key is the same.
-use Rattle.std.proofs.Common.{◌≡◌, Bool, true, false, cond, not, ◌||◌, List, [], ◌∷◌, ◌++◌, map, filter, refl, sym, ap, ◌∙◌, append-nil}
+use Rattle.std.proofs.Common.{◌≡◌, Bool, true, false, cond, not, ◌||◌, List, [], ◌∷◌, ◌++◌, map, filter, refl, sym, ap, ◌∙◌}
 use Rattle.std.specs.Cmp.{IsEquivalence}
 use Rattle.std.specs.List.{list_any}
-use Rattle.std.proofs.lemmas.List.{map-append}
-use Rattle.std.proofs.lemmas.List.Elements.{filter-append}
 use Rattle.std.proofs.lemmas.List.Folds.{list_any-append}
 use Rattle.lemmas.specs.Lists.{with_prefixes, pushed_unless}
 use Rattle.lemmas.proofs.Prefixes.{with_prefixes-push}
 use Rattle.lemmas.proofs.Growing.{from_pushes}
 use Rattle.lemmas.proofs.Pushed.{map-pushed_unless}
+use Rattle.lemmas.proofs.Repeats.{filtered-push}
 use Rattle.lemmas.proofs.Tests.{list_any_weaker}
 use Rattle.indexmap.specs.IndexSet.{insert_key}
 use Rattle.cfgast.specs.Syntax.{each_once}
-
--- what f makes of the elements that pass
-pub filtered-push : {A B : Type 0} (f : A → B) (p : A → Bool) (xs : List A) (x : A)
-    → map f (filter p (xs ++ x ∷ [])) ≡ cond (p x) (map f (filter p xs) ++ f x ∷ []) (map f (filter p xs))
-filtered-push f p xs x = ap (map f) (filter-append p xs (x ∷ [])) ∙ map-append f (filter p xs) (filter p (x ∷ [])) ∙ go (p x)
-  where
-    go : (b : Bool) → map f (filter p xs) ++ map f (cond b (x ∷ []) []) ≡ cond b (map f (filter p xs) ++ f x ∷ []) (map f (filter p xs))
-    go true = refl
-    go false = append-nil _
 
 module _ {A : Type 0} (same : A → A → Bool) where
   pub each_once-push : (xs : List A) (x : A) → each_once same (xs ++ x ∷ []) ≡ pushed_unless (list_any (same x) xs) (each_once same xs) x

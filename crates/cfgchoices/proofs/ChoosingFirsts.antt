@@ -13,7 +13,7 @@ use Rattle.cfgleast.specs.Certificate.{rule_choice}
 use Rattle.cfgchoices.specs.Inner.Choices.{ChoicesGive}
 use Rattle.cfgchoices.specs.Inner.Choices as gives
 use Rattle.cfgchoices.specs.Inner.FirstChoices.{IsNotAbove}
-use Rattle.cfgchoices.specs.Inner.Candidates.{Choices, Choosing, IsChoice, IsReady, by}
+use Rattle.cfgchoices.specs.Inner.Candidates.{Choices, Choosing, IsChoice, IsReady, with_choices}
 use Rattle.cfgleast.specs.Generator.{CostTables, cost_answer, choice_answer, token_cost, where_some}
 use Rattle.cfgchoices.specs.Inner.Kinds.{IsTarget, IsOptimal}
 use Rattle.cfgchoices.proofs.Choices.{choices_sequence, choices_split}
@@ -73,7 +73,7 @@ module _ (x : CostTables) where
 
   -- the choices give something for symbols that are ready
   module _ (l : Choices) (n : ℕ) (state : Choosing x l n) where
-    pub answer_chosen : (r p m : ℕ) → rule_choice l r ≡ Some (p, m) → IsChoice x l r p m → choice_answer (by x l) r ≡ Some (p, m)
+    pub answer_chosen : (r p m : ℕ) → rule_choice l r ≡ Some (p, m) → IsChoice x l r p m → choice_answer (with_choices x l) r ≡ Some (p, m)
     answer_chosen r p m e c = ap (λ o. where_some o (rule_choice l r)) (subst (λ q. cost_answer x q ≡ Some c.optimal.cost) c.owner c.optimal.rule) ∙ e
 
     pub paid_chosen : (r p m : ℕ) → IsChoice x l r p m → cost_answer x r ≡ Some 0 → ⊥
@@ -101,21 +101,21 @@ module _ (x : CostTables) where
         one (Token t) h = tt
         one (Rule q) h = not_above m q (ready q h)
 
-    ready_rule : (k m : ℕ) → m < k → (q : ℕ) → IsReady x l m q → (w : List ℕ) × ChoicesGive (by x l) (Rule q ∷ []) w
+    ready_rule : (k m : ℕ) → m < k → (q : ℕ) → IsReady x l m q → (w : List ℕ) × ChoicesGive (with_choices x l) (Rule q ∷ []) w
     ready_rule zero m lt q h = absurd (omega (arith, lt))
     ready_rule (suc k) m lt q (inl free) = ([], gives.free free gives.empty)
     ready_rule (suc k) m lt q (inr some) = go (ready_rule k) (rule_choice l q) refl some
       where
-        go : ((j : ℕ) → j < k → (s : ℕ) → IsReady x l j s → (w : List ℕ) × ChoicesGive (by x l) (Rule s ∷ []) w)
-            → (o : Option (ℕ × ℕ)) → rule_choice l q ≡ o → IsSomeAnd o (λ choice. choice.1 < m) → (w : List ℕ) × ChoicesGive (by x l) (Rule q ∷ []) w
+        go : ((j : ℕ) → j < k → (s : ℕ) → IsReady x l j s → (w : List ℕ) × ChoicesGive (with_choices x l) (Rule s ∷ []) w)
+            → (o : Option (ℕ × ℕ)) → rule_choice l q ≡ o → IsSomeAnd o (λ choice. choice.1 < m) → (w : List ℕ) × ChoicesGive (with_choices x l) (Rule q ∷ []) w
         go one None e h = absurd h
         go one (Some (p, j)) e h =
             let c = (state.each q p j e).0 in
-            let (w, made) = choices_sequence (by x l) (nth_production x.grammar p).symbols (λ s k. one j (omega (arith, h, lt)) s (c.ready s k)) in
+            let (w, made) = choices_sequence (with_choices x l) (nth_production x.grammar p).symbols (λ s k. one j (omega (arith, h, lt)) s (c.ready s k)) in
             (w, gives.chosen (paid_chosen q p j c) (answer_chosen q p j e c) made gives.empty (sym (append-nil w)))
 
-    pub gives_ready : (m : ℕ) (a : List Sym) → ((q : ℕ) → Contains a (Rule q) → IsReady x l m q) → (w : List ℕ) × ChoicesGive (by x l) a w
-    gives_ready m a all = choices_sequence (by x l) a (λ q h. ready_rule (suc m) m (omega arith) q (all q h))
+    pub gives_ready : (m : ℕ) (a : List Sym) → ((q : ℕ) → Contains a (Rule q) → IsReady x l m q) → (w : List ℕ) × ChoicesGive (with_choices x l) a w
+    gives_ready m a all = choices_sequence (with_choices x l) a (λ q h. ready_rule (suc m) m (omega arith) q (all q h))
 
   -- a chain production is ready when the rule that it leads to has a choice
   pub target_ready : (l : Choices) (p q m : ℕ) → IsTarget x p q → IsSomeAnd (rule_choice l q) (λ choice. choice.1 < m)
@@ -127,20 +127,20 @@ module _ (x : CostTables) where
 
   -- it gives what the choices give for that rule: the others cost nothing
   module _ (l : Choices) where
-    free_first : (s : Sym) (a : List Sym) (w : List ℕ) → CostsNothing x s → IsPaid (token_cost x) s → ChoicesGive (by x l) (s ∷ a) w → ChoicesGive (by x l) a w
+    free_first : (s : Sym) (a : List Sym) (w : List ℕ) → CostsNothing x s → IsPaid (token_cost x) s → ChoicesGive (with_choices x l) (s ∷ a) w → ChoicesGive (with_choices x l) a w
     free_first (Token t) a w free some given = let none : token_cost x t ≡ 0 = same_Some _ _ free in absurd (omega (arith, none, some))
     free_first (Rule r) a w free some (gives.free nothing h) = h
     free_first (Rule r) a w free some (gives.chosen paid choice h k f) = absurd (paid (some_answered (rule_cost x.least r) 0 free (omega arith)))
 
-    free_gives : (a : List Sym) (w : List ℕ) → All (CostsNothing x) a → All (IsPaid (token_cost x)) a → ChoicesGive (by x l) a w → w ≡ []
+    free_gives : (a : List Sym) (w : List ℕ) → All (CostsNothing x) a → All (IsPaid (token_cost x)) a → ChoicesGive (with_choices x l) a w → w ≡ []
     free_gives [] _ free all gives.empty = refl
     free_gives (s ∷ a) w free all given = free_gives a w (All-tail (CostsNothing x) s a free) (All-tail (IsPaid (token_cost x)) s a all)
         (free_first s a w (All-head (CostsNothing x) s a free) (All-head (IsPaid (token_cost x)) s a all) given)
 
-    pub target_gives : (q : ℕ) {a : List Sym} (w : List ℕ) → LinksTo x q a → All (IsPaid (token_cost x)) a → ChoicesGive (by x l) a w → ChoicesGive (by x l) (Rule q ∷ []) w
+    pub target_gives : (q : ℕ) {a : List Sym} (w : List ℕ) → LinksTo x q a → All (IsPaid (token_cost x)) a → ChoicesGive (with_choices x l) a w → ChoicesGive (with_choices x l) (Rule q ∷ []) w
     target_gives q w (in_prefix {a = a} free) all given =
-        let parts = choices_split (by x l) q a w given in
+        let parts = choices_split (with_choices x l) q a w given in
         let none = free_gives a parts.back free (All-tail (IsPaid (token_cost x)) (Rule q) a all) parts.second in
-        subst (ChoicesGive (by x l) (Rule q ∷ [])) (sym (parts.whole ∙ ap (λ b. parts.prefix ++ b) none ∙ append-nil parts.prefix)) parts.first
+        subst (ChoicesGive (with_choices x l) (Rule q ∷ [])) (sym (parts.whole ∙ ap (λ b. parts.prefix ++ b) none ∙ append-nil parts.prefix)) parts.first
     target_gives q w (further {s = s} {a = a} free chains) all given = target_gives q w chains (All-tail (IsPaid (token_cost x)) s a all)
         (free_first s a w free (All-head (IsPaid (token_cost x)) s a all) given)

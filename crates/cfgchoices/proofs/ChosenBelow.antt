@@ -1,4 +1,4 @@
--- Levels by increasing cost: what is true when a level begins, when its base productions are candidates, when all candidates are used up,
+-- Rules by increasing cost: what is true when a cost comes, when its base productions are candidates, when all candidates are used up,
 -- and at the end.
 use Rattle.std.proofs.Common.{◌≡◌, ℕ, ◌+◌, ◌<◌, ◌≤◌, inl, inr, cond, List, [], get_or, length, replicate, Option, Some, None, Contains, arith, sym, ap, subst, ◌∙◌}
 use Rattle.std.specs.Prelude.{count_by, is_some}
@@ -11,8 +11,8 @@ use Rattle.cfgleast.specs.Generator.{CostTables, cost_answer}
 use Rattle.cfgchoices.specs.Inner.FirstChoices.{AreFirst, AreChosen}
 use Rattle.cfgchoices.specs.Inner.Kinds.{IsTarget}
 use Rattle.cfgchoices.specs.Inner.Lists.{IsBaseAt}
-use Rattle.cfgchoices.specs.Inner.Candidates.{Adds, ChosenBelow, HandlesChains, HasChoice, IsDone, IsHandled, IsKnown, IsCandidate, Known, Nominating, Candidates, Waits, by, owner, waiting}
-use Rattle.cfgchoices.specs.Levels.{here}
+use Rattle.cfgchoices.specs.Inner.Candidates.{Adds, ChosenBelow, HandlesChains, HasChoice, IsDone, IsHandled, IsKnown, IsCandidate, Known, Nominating, Candidates, Waits, with_choices, owner, waiting}
+use Rattle.cfgchoices.specs.Chains.{here}
 use Rattle.cfgchoices.proofs.FirstsMade.{all_chosen, walks}
 use Rattle.cfgchoices.proofs.Nominated.{chosen_ready}
 use Rattle.std.proofs.lemmas.List.Folds.{sum_by-replicate}
@@ -34,22 +34,22 @@ module _ (k : Known) (n : ℕ) (is : IsKnown k n) (f : Candidates) (c : ℕ) (cl
   handed q r target has = all_done x f climbed.none q (climbed.going.chains q r target has)
 
   older : (r d : ℕ) → cost_answer x r ≡ Some d → 0 < d → d < c → HasChoice f.choices r
-  older = all_chosen x n is.generator is.grammar f.choices f.number climbed.going.nominating.level.choosing c (λ q base low. (climbed.base q base low).chosen) (λ q r target has. (handed q r target has).chosen)
+  older = all_chosen x n is.generator is.grammar f.choices f.number climbed.going.nominating.candidates.choosing c (λ q base low. (climbed.base q base low).chosen) (λ q r target has. (handed q r target has).chosen)
 
-  -- the level begins
+  -- the cost comes
   abbrev pub begun : Candidates
-  begun = record { choices = f.choices; number = f.number; cost = c; ready = f.ready; level = f.level; foremost = f.foremost }
+  begun = record { choices = f.choices; number = f.number; cost = c; ready = f.ready; sorted = f.sorted; foremost = f.foremost }
 
   pub begun_nominating : Nominating k begun
   begun_nominating =
       let o = climbed.going.nominating in record {
-        level = record {
-          choosing = o.level.choosing;
-          costs = λ r h. let (d, e, le) = o.level.costs r h in let less = climbed.cheaper r d h e in (d, e, omega (arith, less));
+        candidates = record {
+          choosing = o.candidates.choosing;
+          costs = λ r h. let (d, e, le) = o.candidates.costs r h in let less = climbed.cheaper r d h e in (d, e, omega (arith, less));
           nominated = λ q h. absurd (no_wait f climbed.none q h);
-          sole = o.level.sole;
-          several = o.level.several;
-          order = o.level.order;
+          sole = o.candidates.sole;
+          several = o.candidates.several;
+          order = o.candidates.order;
         };
         listed = o.listed;
         foremost = o.foremost;
@@ -63,7 +63,7 @@ module _ (k : Known) (n : ℕ) (is : IsKnown k n) (f : Candidates) (c : ℕ) (cl
         let (d, known) = base_costs x n is.generator is.grammar p q base h in
         let less = base_less x n is.generator is.grammar (owner x p) p base.optimal.cost q d (record { leads = here; base = base }) base.optimal.rule h known in
         elim (cases_lt 0 d) [
-          | inl some ↦ chosen_ready x f.choices f.number climbed.going.nominating.level.choosing q (older q d known some (omega (arith, less, e)))
+          | inl some ↦ chosen_ready x f.choices f.number climbed.going.nominating.candidates.choosing q (older q d known some (omega (arith, less, e)))
           | inr none ↦ inl (known ∙ ap Some (omega (arith, none)))
         ];
     floor = λ r has costs several. absurd (let lt = climbed.cheaper r c has costs in omega (arith, lt));
@@ -90,7 +90,7 @@ module _ (k : Known) (n : ℕ) (is : IsKnown k n) (f : Candidates) (c : ℕ) (cl
         | inr not ↦ adds.handles p (inr (base, omega (arith, not, low)))
       ]));
       cheaper = λ r d has e.
-          let (d', e', le) = going.nominating.level.costs r has in
+          let (d', e', le) = going.nominating.candidates.costs r has in
           let one = one_cost x r d d' e e' in
           let now = same ∙ adds.cost in
           omega (arith, le, one, now);
@@ -101,22 +101,22 @@ module _ (k : Known) (n : ℕ) (is : IsKnown k n) (f : Candidates) (c : ℕ) (cl
     low : (r d : ℕ) → cost_answer x r ≡ Some d → d < c
     low r d e = let lt = is.costs r d e in omega (arith, lt, end)
 
-    pub climbed_walks : AreChosen (by x f.choices)
-    climbed_walks = walks x n is.generator is.grammar f.choices f.number climbed.going.nominating.level.choosing c (λ q base low. (climbed.base q base low).chosen) (λ q r target has. (handed q r target has).chosen) low
+    pub climbed_walks : AreChosen (with_choices x f.choices)
+    climbed_walks = walks x n is.generator is.grammar f.choices f.number climbed.going.nominating.candidates.choosing c (λ q base low. (climbed.base q base low).chosen) (λ q r target has. (handed q r target has).chosen) low
 
-    pub climbed_first : AreFirst (by x f.choices)
-    climbed_first p optimal = elim (is.kinds p (optimal_whatever (by x f.choices) x.choices p optimal)) [
+    pub climbed_first : AreFirst (with_choices x f.choices)
+    climbed_first p optimal = elim (is.kinds p (optimal_whatever (with_choices x f.choices) x.choices p optimal)) [
       | inl base ↦ (climbed.base p base (low (owner x p) base.optimal.cost base.optimal.rule)).first
       | inr target ↦ let (q, h) = target in (handed p q h (older q h.optimal.cost h.same h.optimal.positive (low q h.optimal.cost h.same))).first
     ]
 
 -- nothing is chosen yet
-pub climbed_begins : (k : Known) (f : Candidates) → f.choices ≡ replicate k.tables.grammar.rules None → f.number ≡ 0 → f.ready ≡ [] → f.level ≡ []
+pub climbed_begins : (k : Known) (f : Candidates) → f.choices ≡ replicate k.tables.grammar.rules None → f.number ≡ 0 → f.ready ≡ [] → f.sorted ≡ []
     → f.foremost ≡ replicate k.tables.grammar.rules None → ChosenBelow k f 1
-climbed_begins k f choices number ready level foremost = record {
+climbed_begins k f choices number ready sorted foremost = record {
   going = record {
     nominating = record {
-      level = record {
+      candidates = record {
         choosing = record {
           listed = ap length choices ∙ length-replicate k.tables.grammar.rules None;
           count = ap (count_by is_some) choices ∙ sum_by-replicate (λ (o : Option (ℕ × ℕ)). cond (is_some o) 1 0) k.tables.grammar.rules None ∙ omega (arith, number);
@@ -126,7 +126,7 @@ climbed_begins k f choices number ready level foremost = record {
         nominated = λ q h. absurd (still q h);
         sole = λ q h. absurd (still q (inl h));
         several = λ q h. absurd (still q (inr h));
-        order = λ i j lt short. let len = ap length level in absurd (omega (arith, short, len));
+        order = λ i j lt short. let len = ap length sorted in absurd (omega (arith, short, len));
       };
       listed = ap length foremost ∙ length-replicate k.tables.grammar.rules None;
       foremost = λ r p e.
@@ -136,7 +136,7 @@ climbed_begins k f choices number ready level foremost = record {
     };
     chains = λ q r target h. absurd (none r h);
   };
-  none = let one = ap length ready in let other = ap length level in omega (arith, one, other);
+  none = let one = ap length ready in let other = ap length sorted in omega (arith, one, other);
   base = λ p base low. absurd (omega (arith, low, base.optimal.positive));
   cheaper = λ r d h e. absurd (none r h);
 }
@@ -149,4 +149,4 @@ climbed_begins k f choices number ready level foremost = record {
 
     still : (q : ℕ) → Waits f q → ⊥
     still q (inl i) = contains_none q (subst (λ l. Contains l q) ready i)
-    still q (inr i) = contains_none q (subst (λ l. Contains l q) level i)
+    still q (inr i) = contains_none q (subst (λ l. Contains l q) sorted i)

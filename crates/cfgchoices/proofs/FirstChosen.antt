@@ -30,7 +30,7 @@ use Rattle.cfgchoices.proofs.Firsts.{by_order, sequence_before, begins_none}
 use Rattle.cfgleast.proofs.Gains.{part_at}
 use Rattle.cfgleast.proofs.Generated.{answered_some, some_answered}
 use Rattle.cfgchoices.proofs.Lengths.{IsPaid}
-use Rattle.cfgchoices.proofs.Levels.{made_minimal, minimal_parts}
+use Rattle.cfgchoices.proofs.Chains.{made_minimal, minimal_parts}
 use Rattle.cfgchoices.proofs.Splits.{Split-map, IsYieldedAnd, by_rules, split_one}
 use Rattle.cfgchoices.proofs.Optimal.{cut_of_sum, free_minimal, least_of, minimal_free, paid, sum_of_cut, optimal_located, optimal_whatever}
 

@@ -9,9 +9,9 @@ use Rattle.derivation.specs.CostLists.{rule_cost}
 use Rattle.cfgleast.specs.Certificate.{rule_choice}
 use Rattle.cfgchoices.specs.Inner.FirstChoices.{IsChoiceOf, AreChosen}
 use Rattle.cfgleast.specs.Generator.{CostTables, IsGenerator, cost_answer, token_cost}
-use Rattle.cfgchoices.specs.Levels.{Along, here, next}
+use Rattle.cfgchoices.specs.Chains.{Along, here, next}
 use Rattle.cfgchoices.specs.Inner.Kinds.{HasTarget, IsBaseProduction, IsTarget}
-use Rattle.cfgchoices.specs.Inner.Candidates.{Choices, Choosing, HasChoice, by}
+use Rattle.cfgchoices.specs.Inner.Candidates.{Choices, Choosing, HasChoice, with_choices}
 use Rattle.cfgchoices.proofs.ChoosingFirsts.{few, paid_chosen, sequence_not_above}
 use Rattle.cfgleast.proofs.Generated.{some_answered}
 use Rattle.cfgchoices.proofs.Optimal.{least_of, minimal_made, one_cost}
@@ -40,7 +40,7 @@ module _ (x : CostTables) (n : ℕ) (is : IsGenerator x n) (grammar : IsGrammar 
         let same = along_cost below.leads c below.base.optimal.cost answer below.base.optimal.rule in
         back below.leads (base made.index below.base (subst (λ d. d < bound) same low))
 
-    opens : (q d p m : ℕ) → rule_cost x.least q ≡ Some d → d ≤ 65535 → rule_choice l q ≡ Some (p, m) → IsChoiceOf (by x l) q d p m
+    opens : (q d p m : ℕ) → rule_cost x.least q ≡ Some d → d ≤ 65535 → rule_choice l q ≡ Some (p, m) → IsChoiceOf (with_choices x l) q d p m
     opens q d p m e small choice =
         let c = (state.each q p m choice).0 in
         let less = (state.each q p m choice).1 in
@@ -63,7 +63,7 @@ module _ (x : CostTables) (n : ℕ) (is : IsGenerator x n) (grammar : IsGrammar 
         go None none = none
         go (Some (p, m)) some = absurd (paid_chosen x l k state q p m (state.each q p m some).0 (some_answered (rule_cost x.least q) 0 e (omega arith)))
 
-    pub walks : ((r c : ℕ) → cost_answer x r ≡ Some c → c < bound) → AreChosen (by x l)
+    pub walks : ((r c : ℕ) → cost_answer x r ≡ Some c → c < bound) → AreChosen (with_choices x l)
     walks low = record {
       settled = x.choices;
       number = n;

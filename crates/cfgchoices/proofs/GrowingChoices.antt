@@ -4,7 +4,7 @@ use Rattle.lemmas.proofs.Elements.{get_or-set}
 use Rattle.derivation.specs.Grammar.{Sym}
 use Rattle.cfgleast.specs.Certificate.{rule_choice}
 use Rattle.cfgchoices.specs.Inner.Choices.{ChoicesGive, empty, token, free, chosen}
-use Rattle.cfgchoices.specs.Inner.Candidates.{Choices, by}
+use Rattle.cfgchoices.specs.Inner.Candidates.{Choices, with_choices}
 use Rattle.cfgleast.specs.Generator.{CostTables, cost_answer, choice_answer, where_some}
 
 -- each choice is kept
@@ -19,14 +19,14 @@ keeps_one l r choice unset q old e = elim (get_or-set l r q (Some choice) None) 
 
 module _ (x : CostTables) where
   module _ (l l' : Choices) (keeps : Keeps l l') where
-    answer_kept : (q : ℕ) (choice : ℕ × ℕ) → choice_answer (by x l) q ≡ Some choice → choice_answer (by x l') q ≡ Some choice
+    answer_kept : (q : ℕ) (choice : ℕ × ℕ) → choice_answer (with_choices x l) q ≡ Some choice → choice_answer (with_choices x l') q ≡ Some choice
     answer_kept q choice = go (cost_answer x q)
       where
         go : (o : Option ℕ) → where_some o (rule_choice l q) ≡ Some choice → where_some o (rule_choice l' q) ≡ Some choice
         go None e = e
         go (Some c) e = keeps q choice e
 
-    pub gives_kept : {a : List Sym} {w : List ℕ} → ChoicesGive (by x l) a w → ChoicesGive (by x l') a w
+    pub gives_kept : {a : List Sym} {w : List ℕ} → ChoicesGive (with_choices x l) a w → ChoicesGive (with_choices x l') a w
     gives_kept empty = empty
     gives_kept (token h) = token (gives_kept h)
     gives_kept (free nothing h) = free nothing (gives_kept h)

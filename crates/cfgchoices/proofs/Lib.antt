@@ -1,9 +1,9 @@
 pub mod SentenceTokens
 pub mod Lengths
 pub mod Splits
-pub mod Levels
+pub mod Chains
 pub mod Choices
-pub mod Steps
+pub mod TreeSizes
 pub mod Firsts
 pub mod Optimal
 pub mod GrowingChoices

@@ -14,8 +14,8 @@ use Rattle.std.proofs.lemmas.List.Elements.{Contains-append_left, Contains-appen
 use Rattle.cfgchoices.specs.Inner.Choices.{ChoicesGive}
 use Rattle.cfgleast.specs.Generator.{CostTables}
 use Rattle.cfgchoices.specs.FirstSentence.{lexicographic}
-use Rattle.cfgchoices.specs.Inner.Kinds.{positions_of}
-use Rattle.cfgchoices.specs.Inner.Candidates.{Adds, Handles, HasChoice, IsHandled, IsCandidate, Known, Level, NotAfter, Nominating, Candidates, GivesNoMore, Waits, by, is_sole, owner, position_of, sequence}
+use Rattle.cfgchoices.specs.Inner.Kinds.{production_numbers}
+use Rattle.cfgchoices.specs.Inner.Candidates.{Adds, Handles, HasChoice, IsHandled, IsCandidate, Known, AreCandidates, NotAfter, Nominating, Candidates, GivesNoMore, Waits, with_choices, is_sole, owner, production_number, sequence}
 use Rattle.lemmas.proofs.Contained.{contains_cases, contains_first, contains_later}
 use Rattle.cfgchoices.proofs.Nominated.{IsGiven, handled_wider, not_after_both, nominated_given, holds_itself}
 use Rattle.cfgchoices.proofs.SequencesInOrder.{insert_in_order}
@@ -45,23 +45,23 @@ insert_shown f xs at y = map-append f (take at xs) (y ∷ drop at xs) ∙ ap (λ
 
 -- a sorted list, where nothing below `low` comes before the production, and nothing from `high` on comes after it
 pub record Between (k : Known) (f : Candidates) (p low high : ℕ) : Type 0 where
-  pub within : high ≤ length f.level
+  pub within : high ≤ length f.sorted
   pub ordered : low ≤ high
-  pub before : (i : ℕ) → i < low → NotAfter k.tables f.choices (sequence k.tables p) (sequence k.tables (get_or f.level i 0))
-  pub after : (i : ℕ) → high ≤ i → i < length f.level → NotAfter k.tables f.choices (sequence k.tables (get_or f.level i 0)) (sequence k.tables p)
+  pub before : (i : ℕ) → i < low → NotAfter k.tables f.choices (sequence k.tables p) (sequence k.tables (get_or f.sorted i 0))
+  pub after : (i : ℕ) → high ≤ i → i < length f.sorted → NotAfter k.tables f.choices (sequence k.tables (get_or f.sorted i 0)) (sequence k.tables p)
 
-module _ (k : Known) (f : Candidates) (level : Level k f) (p : ℕ) (given : IsGiven k.tables f.choices (sequence k.tables p)) where
+module _ (k : Known) (f : Candidates) (candidates : AreCandidates k f) (p : ℕ) (given : IsGiven k.tables f.choices (sequence k.tables p)) where
   abbrev x : CostTables
   x = k.tables
 
   abbrev nth : ℕ → ℕ
-  nth i = get_or f.level i 0
+  nth i = get_or f.sorted i 0
 
-  nth_given : (i : ℕ) → i < length f.level → IsGiven x f.choices (sequence x (nth i))
-  nth_given i h = nominated_given k f.choices f.number level.choosing f.cost (nth i) (level.nominated (nth i) (inr (Contains-get_or f.level i 0 h)))
+  nth_given : (i : ℕ) → i < length f.sorted → IsGiven x f.choices (sequence x (nth i))
+  nth_given i h = nominated_given k f.choices f.number candidates.choosing f.cost (nth i) (candidates.nominated (nth i) (inr (Contains-get_or f.sorted i 0 h)))
 
   module _ (low high middle : ℕ) (b : Between k f p low high) (from : low ≤ middle) (to : middle < high) where
-    inside : middle < length f.level
+    inside : middle < length f.sorted
     inside = omega (arith, to, b.within)
 
     pub prefix_half : NotAfter x f.choices (sequence x (nth middle)) (sequence x p) → Between k f p low middle
@@ -70,7 +70,7 @@ module _ (k : Known) (f : Candidates) (level : Level k f) (p : ℕ) (given : IsG
       ordered = from;
       before = b.before;
       after = λ i le lt. elim (cases_lt middle i) [
-        | inl later ↦ not_after_both x f.choices (sequence x (nth i)) (sequence x (nth middle)) (sequence x p) (nth_given middle inside) (level.order middle i later lt) here
+        | inl later ↦ not_after_both x f.choices (sequence x (nth i)) (sequence x (nth middle)) (sequence x p) (nth_given middle inside) (candidates.order middle i later lt) here
         | inr not ↦ let same : middle ≡ i = omega (arith, le, not) in subst (λ j. NotAfter x f.choices (sequence x (nth j)) (sequence x p)) same here
       ];
     }
@@ -80,42 +80,42 @@ module _ (k : Known) (f : Candidates) (level : Level k f) (p : ℕ) (given : IsG
       within = b.within;
       ordered = omega (arith, to);
       before = λ i lt. elim (cases_lt i middle) [
-        | inl sooner ↦ not_after_both x f.choices (sequence x p) (sequence x (nth middle)) (sequence x (nth i)) (nth_given middle inside) here (level.order i middle sooner inside)
+        | inl sooner ↦ not_after_both x f.choices (sequence x p) (sequence x (nth middle)) (sequence x (nth i)) (nth_given middle inside) here (candidates.order i middle sooner inside)
         | inr not ↦ let same : middle ≡ i = omega (arith, lt, not) in subst (λ j. NotAfter x f.choices (sequence x p) (sequence x (nth j))) same here
       ];
       after = b.after;
     }
 
 -- an element of the code's list, in numbers
-pub nth_shown : {S : Type 0} (number : S → ℕ) (items : List (PIdx S)) (i : ℕ) (p : PIdx S) → i < length items → p ≡ get_or items i p → get_or (positions_of number items) i 0 ≡ number p.0
+pub nth_shown : {S : Type 0} (number : S → ℕ) (items : List (PIdx S)) (i : ℕ) (p : PIdx S) → i < length items → p ≡ get_or items i p → get_or (production_numbers number items) i 0 ≡ number p.0
 nth_shown number items i p lt is = get_or-map (λ (p : PIdx _). number p.0) items i p 0 lt ∙ ap (λ (q : PIdx _). number q.0) (sym is)
 
 -- a production in the middle is compared
-module _ (k : Known) (f : Candidates) (level : Level k f) (p : ℕ) (nominated : IsCandidate k f.choices f.number f.cost p) (low high middle q : ℕ) (b : Between k f p low high)
-    (from : low ≤ middle) (to : middle < high) (at : get_or f.level middle 0 ≡ q) where
+module _ (k : Known) (f : Candidates) (candidates : AreCandidates k f) (p : ℕ) (nominated : IsCandidate k f.choices f.number f.cost p) (low high middle q : ℕ) (b : Between k f p low high)
+    (from : low ≤ middle) (to : middle < high) (at : get_or f.sorted middle 0 ≡ q) where
   pub middle_nominated : IsCandidate k f.choices f.number f.cost q
   middle_nominated = subst (IsCandidate k f.choices f.number f.cost) at
-      (level.nominated (get_or f.level middle 0) (inr (Contains-get_or f.level middle 0 (omega (arith, to, b.within)))))
+      (candidates.nominated (get_or f.sorted middle 0) (inr (Contains-get_or f.sorted middle 0 (omega (arith, to, b.within)))))
 
-  module _ (o : Ordering) (reported : (u v : List ℕ) → ChoicesGive (by k.tables f.choices) (sequence k.tables q) u → ChoicesGive (by k.tables f.choices) (sequence k.tables p) v → o ≡ lexicographic u v) where
+  module _ (o : Ordering) (reported : (u v : List ℕ) → ChoicesGive (with_choices k.tables f.choices) (sequence k.tables q) u → ChoicesGive (with_choices k.tables f.choices) (sequence k.tables p) v → o ≡ lexicographic u v) where
     mine : IsGiven k.tables f.choices (sequence k.tables p)
-    mine = nominated_given k f.choices f.number level.choosing f.cost p nominated
+    mine = nominated_given k f.choices f.number candidates.choosing f.cost p nominated
 
     pub to_prefix : is_lt o ≡ true → Between k f p low middle
-    to_prefix e = prefix_half k f level p mine low high middle b from to
+    to_prefix e = prefix_half k f candidates p mine low high middle b from to
         (subst (λ i. NotAfter k.tables f.choices (sequence k.tables i) (sequence k.tables p)) (sym at) (λ u v h k greater. true≢false (sym e ∙ ap is_lt (reported u v h k ∙ greater))))
 
     pub to_back : is_lt o ≡ false → Between k f p (middle + 1) high
-    to_back e = back_half k f level p mine low high middle b from to
+    to_back e = back_half k f candidates p mine low high middle b from to
         (subst (λ i. NotAfter k.tables f.choices (sequence k.tables p) (sequence k.tables i)) (sym at) (λ u v h k greater. true≢false (sym (ap is_lt (reported v u k h ∙ nat_list_cmp_total.antisymm v u ∙ ap ordering_reverse greater)) ∙ e)))
 
 -- one more waits, or one that gives nothing greater does
 module _ (k : Known) (f : Candidates) (o : Nominating k f) (p : ℕ) (nominated : IsCandidate k f.choices f.number f.cost p) where
-  abbrev level : Level k f
-  level = o.level
+  abbrev candidates : AreCandidates k f
+  candidates = o.candidates
 
   itself : GivesNoMore k.tables f.choices p p
-  itself = holds_itself k.tables f.choices p (nominated_given k f.choices f.number level.choosing f.cost p nominated)
+  itself = holds_itself k.tables f.choices p (nominated_given k f.choices f.number candidates.choosing f.cost p nominated)
 
   one_more : (f' : Candidates) → f'.choices ≡ f.choices → ((q : ℕ) → Waits f q → Waits f' q) → Waits f' p → Handles k.tables (λ q. q ≡ p) f f'
   one_more f' same wider now q (inl old) = handled_wider k.tables f f' same wider q old
@@ -135,13 +135,13 @@ module _ (k : Known) (f : Candidates) (o : Nominating k f) (p : ℕ) (nominated 
     it_waits = elim (o.foremost (owner k.tables p) q e).1 [ inl waits ↦ waits | inr has ↦ absurd (not has) ]
 
     pub foremost_nominated : IsCandidate k f.choices f.number f.cost q
-    foremost_nominated = level.nominated q it_waits
+    foremost_nominated = candidates.nominated q it_waits
 
     pub foremost_handled : NotAfter k.tables f.choices (sequence k.tables q) (sequence k.tables p) → IsHandled k.tables f p
     foremost_handled before = inr (q, it_waits, record { same = (o.foremost (owner k.tables p) q e).0; given = itself.given; before = before })
 
   abbrev with_ready : List ℕ → Candidates
-  with_ready ready = record { choices = f.choices; number = f.number; cost = f.cost; ready = ready; level = f.level; foremost = f.foremost }
+  with_ready ready = record { choices = f.choices; number = f.number; cost = f.cost; ready = ready; sorted = f.sorted; foremost = f.foremost }
 
   module _ (ready : List ℕ) (e : ready ≡ f.ready ++ p ∷ []) where
     ready_more : (q : ℕ) → Contains ready q → Contains f.ready q ⊎ (p ≡ q)
@@ -153,16 +153,16 @@ module _ (k : Known) (f : Candidates) (o : Nominating k f) (p : ℕ) (nominated 
 
     pub ready_nominating : is_sole k (owner k.tables p) ≡ true → Nominating k (with_ready ready)
     ready_nominating sole = record {
-      level = record {
-        choosing = level.choosing;
-        costs = level.costs;
+      candidates = record {
+        choosing = candidates.choosing;
+        costs = candidates.costs;
         nominated = λ q h. elim h [
-          | inl now ↦ elim (ready_more q now) [ inl old ↦ level.nominated q (inl old) | inr is ↦ subst (IsCandidate k f.choices f.number f.cost) is nominated ]
-          | inr other ↦ level.nominated q (inr other)
+          | inl now ↦ elim (ready_more q now) [ inl old ↦ candidates.nominated q (inl old) | inr is ↦ subst (IsCandidate k f.choices f.number f.cost) is nominated ]
+          | inr other ↦ candidates.nominated q (inr other)
         ];
-        sole = λ q h. elim (ready_more q h) [ inl old ↦ level.sole q old | inr is ↦ subst (λ i. is_sole k (owner k.tables i) ≡ true) is sole ];
-        several = level.several;
-        order = level.order;
+        sole = λ q h. elim (ready_more q h) [ inl old ↦ candidates.sole q old | inr is ↦ subst (λ i. is_sole k (owner k.tables i) ≡ true) is sole ];
+        several = candidates.several;
+        order = candidates.order;
       };
       listed = o.listed;
       foremost = λ r q at. let (owned, where_is) = o.foremost r q at in (owned, elim where_is [ inl waits ↦ inl (ready_wider q waits) | inr has ↦ inr has ]);
@@ -179,36 +179,36 @@ module _ (k : Known) (f : Candidates) (o : Nominating k f) (p : ℕ) (nominated 
 
   abbrev with_level : List ℕ → Candidates
   with_level list = record f {
-    level = list;
+    sorted = list;
     foremost = slice_set f.foremost (owner k.tables p) (Some p);
   }
 
-  module _ (at : ℕ) (within : at ≤ length f.level)
-      (before : (i : ℕ) → i < at → NotAfter k.tables f.choices (sequence k.tables p) (sequence k.tables (get_or f.level i 0)))
-      (after : (i : ℕ) → at ≤ i → i < length f.level → NotAfter k.tables f.choices (sequence k.tables (get_or f.level i 0)) (sequence k.tables p)) where
+  module _ (at : ℕ) (within : at ≤ length f.sorted)
+      (before : (i : ℕ) → i < at → NotAfter k.tables f.choices (sequence k.tables p) (sequence k.tables (get_or f.sorted i 0)))
+      (after : (i : ℕ) → at ≤ i → i < length f.sorted → NotAfter k.tables f.choices (sequence k.tables (get_or f.sorted i 0)) (sequence k.tables p)) where
     abbrev put : List ℕ
-    put = insert f.level at p
+    put = insert f.sorted at p
 
     put_wider : (q : ℕ) → Waits f q → Waits (with_level put) q
     put_wider q (inl ready) = inl ready
-    put_wider q (inr other) = inr ((insert_has f.level at p q).1 (inl other))
+    put_wider q (inr other) = inr ((insert_has f.sorted at p q).1 (inl other))
 
     put_now : Waits (with_level put) p
-    put_now = inr ((insert_has f.level at p p).1 (inr refl))
+    put_now = inr ((insert_has f.sorted at p p).1 (inr refl))
 
     pub put_nominating : is_sole k (owner k.tables p) ≡ false → Nominating k (with_level put)
     put_nominating several = record {
-      level = record {
-        choosing = level.choosing;
-        costs = level.costs;
+      candidates = record {
+        choosing = candidates.choosing;
+        costs = candidates.costs;
         nominated = λ q h. elim h [
-          | inl ready ↦ level.nominated q (inl ready)
-          | inr other ↦ elim ((insert_has f.level at p q).0 other) [ inl old ↦ level.nominated q (inr old) | inr is ↦ subst (IsCandidate k f.choices f.number f.cost) (sym is) nominated ]
+          | inl ready ↦ candidates.nominated q (inl ready)
+          | inr other ↦ elim ((insert_has f.sorted at p q).0 other) [ inl old ↦ candidates.nominated q (inr old) | inr is ↦ subst (IsCandidate k f.choices f.number f.cost) (sym is) nominated ]
         ];
-        sole = level.sole;
-        several = λ q h. elim ((insert_has f.level at p q).0 h) [ inl old ↦ level.several q old | inr is ↦ subst (λ i. is_sole k (owner k.tables i) ≡ false) (sym is) several ];
-        order = λ i j lt short. insert_in_order (λ a b. NotAfter k.tables f.choices (sequence k.tables b) (sequence k.tables a)) 0 f.level at p within level.order before after i j lt
-            (subst (λ m. j < m) (length-insert f.level at p within) short);
+        sole = candidates.sole;
+        several = λ q h. elim ((insert_has f.sorted at p q).0 h) [ inl old ↦ candidates.several q old | inr is ↦ subst (λ i. is_sole k (owner k.tables i) ≡ false) (sym is) several ];
+        order = λ i j lt short. insert_in_order (λ a b. NotAfter k.tables f.choices (sequence k.tables b) (sequence k.tables a)) 0 f.sorted at p within candidates.order before after i j lt
+            (subst (λ m. j < m) (length-insert f.sorted at p within) short);
       };
       listed = length-set f.foremost (owner k.tables p) (Some p) ∙ o.listed;
       foremost = λ r q e. elim (get_or-set f.foremost (owner k.tables p) r (Some p) None) [
@@ -227,16 +227,16 @@ module _ (k : Known) (f : Candidates) (o : Nominating k f) (p : ℕ) (nominated 
       number = refl;
       cost = refl;
       handles = one_more (with_level put) refl put_wider put_now;
-      together = let long = length-insert f.level at p within in omega (arith, long);
+      together = let long = length-insert f.sorted at p within in omega (arith, long);
     }
 
 -- the code's lists as numbers, after a production was inserted
-pub put_shown : {S : Type 0} (number : S → ℕ) (level : List (PIdx S)) (foremost : List (Option (PIdx S))) (f : Candidates) (at i r : ℕ) (p : PIdx S) → i ≡ r
-    → (level' : List (PIdx S)) → level' ≡ insert level at p
-    → ◌≡◌ {A = Candidates} (record { choices = f.choices; number = f.number; cost = f.cost; ready = f.ready; level = insert (positions_of number level) at (number p.0); foremost = slice_set (map (position_of number) foremost) r (Some (number p.0)) })
-    (record { choices = f.choices; number = f.number; cost = f.cost; ready = f.ready; level = positions_of number level'; foremost = map (position_of number) (slice_set foremost i (Some p)) })
-put_shown number level foremost f at i r p same level' e =
-    let levels = sym (ap (positions_of number) e ∙ insert_shown (λ p. number p.0) level at p) in
-    let entries = sym (map-set (position_of number) foremost i (Some p) ∙ ap (λ j. slice_set (map (position_of number) foremost) j (Some (number p.0))) same) in
-    ap (λ (l : List ℕ). record { choices = f.choices; number = f.number; cost = f.cost; ready = f.ready; level = l; foremost = slice_set (map (position_of number) foremost) r (Some (number p.0)) }) levels
-    ∙ ap (λ (l : List (Option ℕ)). record { choices = f.choices; number = f.number; cost = f.cost; ready = f.ready; level = positions_of number level'; foremost = l }) entries
+pub put_shown : {S : Type 0} (number : S → ℕ) (sorted : List (PIdx S)) (foremost : List (Option (PIdx S))) (f : Candidates) (at i r : ℕ) (p : PIdx S) → i ≡ r
+    → (sorted' : List (PIdx S)) → sorted' ≡ insert sorted at p
+    → ◌≡◌ {A = Candidates} (record { choices = f.choices; number = f.number; cost = f.cost; ready = f.ready; sorted = insert (production_numbers number sorted) at (number p.0); foremost = slice_set (map (production_number number) foremost) r (Some (number p.0)) })
+    (record { choices = f.choices; number = f.number; cost = f.cost; ready = f.ready; sorted = production_numbers number sorted'; foremost = map (production_number number) (slice_set foremost i (Some p)) })
+put_shown number sorted foremost f at i r p same sorted' e =
+    let lists = sym (ap (production_numbers number) e ∙ insert_shown (λ p. number p.0) sorted at p) in
+    let entries = sym (map-set (production_number number) foremost i (Some p) ∙ ap (λ j. slice_set (map (production_number number) foremost) j (Some (number p.0))) same) in
+    ap (λ (l : List ℕ). record { choices = f.choices; number = f.number; cost = f.cost; ready = f.ready; sorted = l; foremost = slice_set (map (production_number number) foremost) r (Some (number p.0)) }) lists
+    ∙ ap (λ (l : List (Option ℕ)). record { choices = f.choices; number = f.number; cost = f.cost; ready = f.ready; sorted = production_numbers number sorted'; foremost = l }) entries

@@ -14,7 +14,7 @@ use Rattle.cfgchoices.specs.Inner.Choices as gives
 use Rattle.cfgleast.specs.Generator.{CostTables, cost_answer, token_cost}
 use Rattle.cfgchoices.specs.Inner.Kinds.{IsTarget, IsOptimal}
 use Rattle.cfgchoices.specs.FirstSentence.{lexicographic}
-use Rattle.cfgchoices.specs.Inner.Candidates.{Choices, Choosing, Handles, HasChoice, IsDone, IsFloor, IsHandled, IsKnown, IsNext, IsCandidate, IsReady, Known, Level, NotAfter, Nominating, Candidates, GivesNoMore, Waits, by, is_sole, owner, sequence}
+use Rattle.cfgchoices.specs.Inner.Candidates.{Choices, Choosing, Handles, HasChoice, IsDone, IsFloor, IsHandled, IsKnown, IsNext, IsCandidate, IsReady, Known, AreCandidates, NotAfter, Nominating, Candidates, GivesNoMore, Waits, with_choices, is_sole, owner, sequence}
 use Rattle.cfgchoices.proofs.Choices.{choices_once}
 use Rattle.cfgchoices.proofs.ChoosingFirsts.{answer_chosen, choosing_more, chosen_now, gives_ready, target_gives, target_ready, later, paid_chosen, ready_kept}
 use Rattle.lemmas.proofs.Contained.{contains_one}
@@ -28,19 +28,19 @@ not_greater u v e g = let no : ◌≡◌ {A = Ordering} Equal Greater = sym (tie
 
 module _ (x : CostTables) where
   abbrev pub IsGiven : Choices → List Sym → Type 0
-  IsGiven l a = (w : List ℕ) × ChoicesGive (by x l) a w
+  IsGiven l a = (w : List ℕ) × ChoicesGive (with_choices x l) a w
 
   pub not_after_kept : (l l' : Choices) → Keeps l l' → (a b : List Sym) → IsGiven l a → IsGiven l b → NotAfter x l a b → NotAfter x l' a b
   not_after_kept l l' keeps a b (u', f) (v', g) before u v h k greater =
-      let first = choices_once (by x l') (gives_kept x l l' keeps f) h in
-      let second = choices_once (by x l') (gives_kept x l l' keeps g) k in
+      let first = choices_once (with_choices x l') (gives_kept x l l' keeps f) h in
+      let second = choices_once (with_choices x l') (gives_kept x l l' keeps g) k in
       before u' v' f g (ap (λ w. lexicographic w v') first ∙ ap (lexicographic u) second ∙ greater)
 
   pub not_after_both : (l : Choices) (a b c : List Sym) → IsGiven l b → NotAfter x l a b → NotAfter x l b c → NotAfter x l a c
   not_after_both l a b c (v, g) h k u w f i = not_after u v w (h u v f g) (k v w g i)
 
   pub holds_itself : (l : Choices) (p : ℕ) → IsGiven l (sequence x p) → GivesNoMore x l p p
-  holds_itself l p given = record { same = refl; given = given; before = λ u v h k. not_greater u v (choices_once (by x l) h k) }
+  holds_itself l p given = record { same = refl; given = given; before = λ u v h k. not_greater u v (choices_once (with_choices x l) h k) }
 
   pub holds_kept : (l l' : Choices) → Keeps l l' → (p q : ℕ) → IsGiven l (sequence x p) → GivesNoMore x l p q → GivesNoMore x l' p q
   holds_kept l l' keeps p q given s = record {
@@ -70,21 +70,21 @@ module _ (x : CostTables) where
         (λ q among. let same : Rule r ≡ Rule q = contains_one (Rule r) (Rule q) among in let is : r ≡ q = cc in subst (IsReady x l n) is (chosen_ready r h))
 
     -- the choice of a rule gives what is given for the rule, and no more
-    pub rule_gives : (r p m : ℕ) → rule_choice l r ≡ Some (p, m) → (w : List ℕ) → ChoicesGive (by x l) (sequence x p) w → ChoicesGive (by x l) (Rule r ∷ []) w
+    pub rule_gives : (r p m : ℕ) → rule_choice l r ≡ Some (p, m) → (w : List ℕ) → ChoicesGive (with_choices x l) (sequence x p) w → ChoicesGive (with_choices x l) (Rule r ∷ []) w
     rule_gives r p m e w h =
         let c = (state.each r p m e).0 in
         gives.chosen (paid_chosen x l n state r p m c) (answer_chosen x l n state r p m e c) h gives.empty (sym (append-nil w))
 
-    pub sequence_gives : (r p m : ℕ) → rule_choice l r ≡ Some (p, m) → (w : List ℕ) → ChoicesGive (by x l) (Rule r ∷ []) w → ChoicesGive (by x l) (sequence x p) w
+    pub sequence_gives : (r p m : ℕ) → rule_choice l r ≡ Some (p, m) → (w : List ℕ) → ChoicesGive (with_choices x l) (Rule r ∷ []) w → ChoicesGive (with_choices x l) (sequence x p) w
     sequence_gives r p m e w h =
         let (u, made) = gives_ready x l n state m (sequence x p) (state.each r p m e).0.ready in
-        subst (ChoicesGive (by x l) (sequence x p)) (choices_once (by x l) (rule_gives r p m e u made) h) made
+        subst (ChoicesGive (with_choices x l) (sequence x p)) (choices_once (with_choices x l) (rule_gives r p m e u made) h) made
 
     pub choice_is_done : (p m : ℕ) → rule_choice l (owner x p) ≡ Some (p, m) → IsDone x l p
     choice_is_done p m e = record {
       chosen = ((p, m), e);
       given = gives_ready x l n state m (sequence x p) (state.each (owner x p) p m e).0.ready;
-      first = λ u v h k. not_greater u v (choices_once (by x l) h (rule_gives (owner x p) p m e v k));
+      first = λ u v h k. not_greater u v (choices_once (with_choices x l) h (rule_gives (owner x p) p m e v k));
     }
 
     pub done_kept : (l' : Choices) → Keeps l l' → (p : ℕ) → IsDone x l p → IsDone x l' p
@@ -102,31 +102,31 @@ module _ (k : Known) (n : ℕ) (is : IsKnown k n) where
   x = k.tables
 
   -- if the rule has a choice, a candidate of it is done
-  pub was_chosen : (f : Candidates) (p : ℕ) → Level k f → IsCandidate k f.choices f.number f.cost p → HasChoice f.choices (owner x p) → IsDone x f.choices p
-  was_chosen f p level nominated has = go (is_sole k (owner x p)) refl
+  pub was_chosen : (f : Candidates) (p : ℕ) → AreCandidates k f → IsCandidate k f.choices f.number f.cost p → HasChoice f.choices (owner x p) → IsDone x f.choices p
+  was_chosen f p candidates nominated has = go (is_sole k (owner x p)) refl
     where
       go : (b : Bool) → is_sole k (owner x p) ≡ b → IsDone x f.choices p
       go true e =
           let ((q, m), chosen) = has in
-          let c = (level.choosing.each (owner x p) q m chosen).0 in
+          let c = (candidates.choosing.each (owner x p) q m chosen).0 in
           let same = is.sole (owner x p) e q p c.optimal nominated.optimal c.owner refl in
-          choice_is_done x f.choices f.number level.choosing p m (chosen ∙ ap (λ (r : ℕ). Some (r, m)) same)
+          choice_is_done x f.choices f.number candidates.choosing p m (chosen ∙ ap (λ (r : ℕ). Some (r, m)) same)
       go false e = record {
         chosen = has;
-        given = nominated_given k f.choices f.number level.choosing f.cost p nominated;
+        given = nominated_given k f.choices f.number candidates.choosing f.cost p nominated;
         first = nominated.floor (owner x p) has (nominated.optimal.rule ∙ ap Some nominated.cost) e;
       }
 
   -- a choice is made
-  module _ (f : Candidates) (p : ℕ) (level : Level k f) (next : IsNext k f p) (unset : rule_choice f.choices (owner x p) ≡ None) (within : owner x p < x.grammar.rules) where
+  module _ (f : Candidates) (p : ℕ) (candidates : AreCandidates k f) (next : IsNext k f p) (unset : rule_choice f.choices (owner x p) ≡ None) (within : owner x p < x.grammar.rules) where
     abbrev l : Choices
     l = f.choices
 
     abbrev pub chosen : Choices
-    chosen = later x l f.number (owner x p) p level.choosing unset within next.nominated.optimal refl next.nominated.ready
+    chosen = later x l f.number (owner x p) p candidates.choosing unset within next.nominated.optimal refl next.nominated.ready
 
     abbrev pub choosing : Choosing x chosen (f.number + 1)
-    choosing = choosing_more x l f.number (owner x p) p level.choosing unset within next.nominated.optimal refl next.nominated.ready
+    choosing = choosing_more x l f.number (owner x p) p candidates.choosing unset within next.nominated.optimal refl next.nominated.ready
 
     paid_sequence : (q : ℕ) → IsOptimal x q → All (IsPaid (token_cost x)) (sequence x q)
     paid_sequence q optimal = paid x n is.generator is.grammar (owner x q) (sequence x q) (at_position x.grammar q _ optimal.index refl refl)
@@ -135,7 +135,7 @@ module _ (k : Known) (n : ℕ) (is : IsKnown k n) where
     costs_now = next.nominated.optimal.rule ∙ ap Some next.nominated.cost
 
     now : rule_choice chosen (owner x p) ≡ Some (p, f.number)
-    now = chosen_now x l f.number (owner x p) p level.choosing unset within next.nominated.optimal refl next.nominated.ready
+    now = chosen_now x l f.number (owner x p) p candidates.choosing unset within next.nominated.optimal refl next.nominated.ready
 
     keeps : Keeps l chosen
     keeps = keeps_one l (owner x p) (p, f.number) unset
@@ -145,20 +145,20 @@ module _ (k : Known) (n : ℕ) (is : IsKnown k n) where
     cases r (choice, e) = elim (get_or-set l (owner x p) r (Some (p, f.number)) None) [ inl same ↦ inl (choice, sym same ∙ e) | inr is ↦ inr is.0 ]
 
     abbrev pub with_choice : Candidates
-    with_choice = record { choices = chosen; number = f.number + 1; cost = f.cost; ready = f.ready; level = f.level; foremost = f.foremost }
+    with_choice = record { choices = chosen; number = f.number + 1; cost = f.cost; ready = f.ready; sorted = f.sorted; foremost = f.foremost }
 
     mine : IsGiven x l (sequence x p)
-    mine = nominated_given k l f.number level.choosing f.cost p next.nominated
+    mine = nominated_given k l f.number candidates.choosing f.cost p next.nominated
 
     given : (q : ℕ) → Waits f q → IsGiven x l (sequence x q)
-    given q h = nominated_given k l f.number level.choosing f.cost q (level.nominated q h)
+    given q h = nominated_given k l f.number candidates.choosing f.cost q (candidates.nominated q h)
 
     done : IsDone x chosen p
     done = choice_is_done x chosen (f.number + 1) choosing p f.number now
 
     floor_kept : (q : ℕ) → Waits f q → IsFloor k chosen f.cost q
     floor_kept q h r has costs several = elim (cases r has) [
-      | inl old ↦ not_after_kept x l chosen keeps (Rule r ∷ []) (sequence x q) (choice_given x l f.number level.choosing r old) (given q h) ((level.nominated q h).floor r old costs several)
+      | inl old ↦ not_after_kept x l chosen keeps (Rule r ∷ []) (sequence x q) (choice_given x l f.number candidates.choosing r old) (given q h) ((candidates.nominated q h).floor r old costs several)
       | inr is ↦ elim next.least [
         | inl sole ↦ absurd (true≢false (sym sole ∙ ap (is_sole k) (sym is) ∙ several))
         | inr least ↦ subst (λ s. NotAfter x chosen (Rule s ∷ []) (sequence x q)) (sym is)
@@ -166,31 +166,31 @@ module _ (k : Known) (n : ℕ) (is : IsKnown k n) where
       ]
     ]
 
-    level_chosen : Level k with_choice
-    level_chosen = record {
+    candidates_chosen : AreCandidates k with_choice
+    candidates_chosen = record {
       choosing = choosing;
       costs = λ r h. elim (cases r h) [
-        | inl old ↦ level.costs r old
+        | inl old ↦ candidates.costs r old
         | inr is ↦ (f.cost, ap (cost_answer x) is ∙ costs_now, omega arith)
       ];
       nominated = λ q h.
-          let o = level.nominated q h in record {
+          let o = candidates.nominated q h in record {
             optimal = o.optimal;
             cost = o.cost;
             ready = λ r i. ready_kept x l chosen keeps r f.number (f.number + 1) (omega arith) (o.ready r i);
             floor = floor_kept q h;
           };
-      sole = level.sole;
-      several = level.several;
+      sole = candidates.sole;
+      several = candidates.several;
       order = λ i j lt short.
-          let at = λ (m : ℕ) (h : m < length f.level). given (get_or f.level m 0) (inr (Contains-get_or f.level m 0 h)) in
-          not_after_kept x l chosen keeps _ _ (at j short) (at i (omega (arith, lt, short))) (level.order i j lt short);
+          let at = λ (m : ℕ) (h : m < length f.sorted). given (get_or f.sorted m 0) (inr (Contains-get_or f.sorted m 0 h)) in
+          not_after_kept x l chosen keeps _ _ (at j short) (at i (omega (arith, lt, short))) (candidates.order i j lt short);
     }
 
     pub nominating_chosen : length f.foremost ≡ x.grammar.rules
         → ((r q : ℕ) → get_or f.foremost r None ≡ Some q → (owner x q ≡ r) × (Waits f q ⊎ HasChoice l r ⊎ (q ≡ p))) → Nominating k with_choice
     nominating_chosen listed foremost = record {
-      level = level_chosen;
+      candidates = candidates_chosen;
       listed = listed;
       foremost = λ r q e.
           let (at, where_is) = foremost r q e in (
@@ -214,14 +214,14 @@ module _ (k : Known) (n : ℕ) (is : IsKnown k n) where
       floor = λ r has costs several u v g h.
           let back = target_gives x chosen (owner x p) v (chains_target x q (owner x p) target) (paid_sequence q target.optimal) h in
           elim (cases r has) [
-            | inl old ↦ not_after_kept x l chosen keeps (Rule r ∷ []) (sequence x p) (choice_given x l f.number level.choosing r old) mine (next.nominated.floor r old costs several)
+            | inl old ↦ not_after_kept x l chosen keeps (Rule r ∷ []) (sequence x p) (choice_given x l f.number candidates.choosing r old) mine (next.nominated.floor r old costs several)
                 u v g (sequence_gives x chosen (f.number + 1) choosing (owner x p) p f.number now v back)
-            | inr is ↦ not_greater u v (choices_once (by x chosen) (subst (λ s. ChoicesGive (by x chosen) (Rule s ∷ []) u) is g) back)
+            | inr is ↦ not_greater u v (choices_once (with_choices x chosen) (subst (λ s. ChoicesGive (with_choices x chosen) (Rule s ∷ []) u) is g) back)
           ];
     }
 
     pub handled_chosen : (q : ℕ) → IsHandled x f q ⊎ GivesNoMore x l p q → IsHandled x with_choice q
-    handled_chosen q (inl (inl old)) = inl (done_kept x l f.number level.choosing chosen keeps q old)
+    handled_chosen q (inl (inl old)) = inl (done_kept x l f.number candidates.choosing chosen keeps q old)
     handled_chosen q (inl (inr (r, waits, holds))) = inr (r, waits, holds_kept x l chosen keeps r q (given r waits) holds)
     handled_chosen q (inr holds) = inl (holds_done x chosen p q done (holds_kept x l chosen keeps p q mine holds))
 

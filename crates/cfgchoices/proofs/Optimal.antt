@@ -19,7 +19,7 @@ use Rattle.derivation.specs.CostLists.{rule_cost}
 use Rattle.derivation.proofs.Sums.{plus_parts, plus_both}
 use Rattle.derivation.proofs.Made.{cost_of-token}
 use Rattle.cfgleast.specs.Generator.{CostTables, IsGenerator, cost_answer, token_cost}
-use Rattle.cfgchoices.specs.Levels.{Along, here, next, IsOptimalProduction, ChainsTo, IsBase}
+use Rattle.cfgchoices.specs.Chains.{Along, here, next, IsOptimalProduction, ChainsTo, IsBase}
 use Rattle.cfgchoices.specs.Inner.Kinds.{AreKinds, HasTarget, IsBaseProduction, HasRulesAsTargets, IsTarget, IsKind, IsSequenceKind, IsOptimal, IsMinimal, IsBaseBelow}
 use Rattle.cfgleast.specs.Inner.Open.{StopsAt}
 use Rattle.cfgchoices.specs.Splits.{Split, done, itself, part}
@@ -30,7 +30,7 @@ use Rattle.lemmas.proofs.Contained.{contains_cases, contains_none}
 use Rattle.cfgleast.proofs.Gains.{part_at}
 use Rattle.cfgleast.proofs.Generated.{answered_some, some_answered, reads_cost, reads_too_large, reads_none}
 use Rattle.cfgchoices.proofs.Lengths.{IsPaid, productions_paid}
-use Rattle.cfgchoices.proofs.Levels.{at_least, chain_makes_minimal, minimal_made_along_chain, rule_nothing}
+use Rattle.cfgchoices.proofs.Chains.{at_least, chain_makes_minimal, minimal_made_along_chain, rule_nothing}
 
 -- if a rule has no cost, the list has none
 pub stops_none : (cost : ℕ → ℕ) (settled : ℕ → Option ℕ) (symbols : List Sym) (r n : ℕ) (x : Partial) → StopsAt cost settled symbols r x → sum_of (symbol_cost cost settled) symbols ≡ Some n → ⊥
@@ -245,7 +245,7 @@ module _ (x : CostTables) (n : ℕ) (is : IsGenerator x n) (grammar : IsGrammar 
       let optimal = h.target.optimal in
       subst (λ r. ChainsTo P cost r b) h.owner (record {
         symbols = (nth_production x.grammar p).symbols;
-        level = optimal.cost;
+        least = optimal.cost;
         optimal = optimal_reported p optimal;
         among = h.target.among;
         same = least_of b optimal.cost h.target.same;
@@ -257,7 +257,7 @@ module _ (x : CostTables) (n : ℕ) (is : IsGenerator x n) (grammar : IsGrammar 
       let reported = optimal_reported p optimal in
       let known = answered_some (rule_cost x.least (nth_production x.grammar p).rule) optimal.cost optimal.rule in
       record {
-        level = optimal.cost;
+        least = optimal.cost;
         optimal = reported;
         less = λ q d h l.
             let low = at_least P cost q d reported.parts h l in
@@ -288,14 +288,14 @@ module _ (x : CostTables) (n : ℕ) (is : IsGenerator x n) (grammar : IsGrammar 
   base_less r p c s d below e h k =
       let base = base_reported p below.base in
       let less = base.less s d h (least_of s d k) in
-      let same = level (along_reported below.leads) base.level base.optimal.least in
-      let one = least_is_one P cost r c base.level (least_of r c e) same in
+      let same = least_along (along_reported below.leads) base.least base.optimal.least in
+      let one = least_is_one P cost r c base.least (least_of r c e) same in
       omega (arith, less, one)
     where
-      level : {a b : ℕ} → Along (ChainsTo P cost) a b → (c : ℕ) → Least P cost b c → Least P cost a c
-      level here c l = l
-      level (next {a = a} {b = b} h k) c l =
-          let same = least_is_one P cost b c h.level (level k c l) h.same in
+      least_along : {a b : ℕ} → Along (ChainsTo P cost) a b → (c : ℕ) → Least P cost b c → Least P cost a c
+      least_along here c l = l
+      least_along (next {a = a} {b = b} h k) c l =
+          let same = least_is_one P cost b c h.least (least_along k c l) h.same in
           subst (Least P cost a) (sym same) h.optimal.least
 
   -- a rule in such a production has a cost
@@ -314,8 +314,8 @@ module _ (x : CostTables) (n : ℕ) (is : IsGenerator x n) (grammar : IsGrammar 
 
   target_located : (a b c : ℕ) → ChainsTo P cost a b → Least P cost a c → 0 < c → c ≤ 65535 → HasTarget x a b
   target_located a b c h l some small =
-      let one = least_is_one P cost a h.level c h.optimal.least l in
-      let t = optimal_located a h.symbols h.level h.optimal (omega (arith, one, some)) (omega (arith, one, small)) in
+      let one = least_is_one P cost a h.least c h.optimal.least l in
+      let t = optimal_located a h.symbols h.least h.optimal (omega (arith, one, some)) (omega (arith, one, small)) in
       record {
         index = t.index;
         owner = ap (λ (p : Production). p.rule) t.production;
@@ -329,15 +329,15 @@ module _ (x : CostTables) (n : ℕ) (is : IsGenerator x n) (grammar : IsGrammar 
   along_located : {a b : ℕ} (c : ℕ) → Along (ChainsTo P cost) a b → Least P cost a c → 0 < c → c ≤ 65535 → Along (HasTarget x) a b × Least P cost b c
   along_located c here l some small = (here, l)
   along_located c (next {a = a} {b = b} h k) l some small =
-      let one = least_is_one P cost a h.level c h.optimal.least l in
+      let one = least_is_one P cost a h.least c h.optimal.least l in
       let rest = along_located c k (subst (Least P cost b) one h.same) some small in
       (next (target_located a b c h l some small) rest.0, rest.1)
 
   base_located : (r : ℕ) (symbols : List Sym) (c : ℕ) (base : IsBase P cost r symbols) → Least P cost r c → 0 < c → c ≤ 65535
       → (p : ℕ) × (nth_production x.grammar p ≡ record { rule = r; symbols = symbols }) × IsBaseProduction x p
   base_located r symbols c base l some small =
-      let one = least_is_one P cost r base.level c base.optimal.least l in
-      let t = optimal_located r symbols base.level base.optimal (omega (arith, one, some)) (omega (arith, one, small)) in (
+      let one = least_is_one P cost r base.least c base.optimal.least l in
+      let t = optimal_located r symbols base.least base.optimal (omega (arith, one, some)) (omega (arith, one, small)) in (
         t.index,
         t.production,
         record {

@@ -14,10 +14,10 @@ use Rattle.cfgtables.specs.Openings.{nth_production}
 use Rattle.cfgleast.specs.Certificate.{choice_of, rule_choice}
 use Rattle.cfgchoices.specs.Inner.Choices.{ChoicesGive, empty, token, free, chosen}
 use Rattle.cfgleast.specs.Generator.{CostTables, IsGenerator, choice_answer, cost_answer, where_some}
-use Rattle.cfgchoices.specs.Inner.Candidates.{Choices, Choosing, Pends, by, left_to_open, sequence, steps}
+use Rattle.cfgchoices.specs.Inner.Candidates.{Choices, Choosing, Pends, with_choices, left_to_open, sequence, tree_size}
 use Rattle.cfgchoices.proofs.Choices.{choices_join}
 use Rattle.cfgchoices.proofs.ChoosingFirsts.{answer_chosen, few, paid_chosen, sequence_not_above}
-use Rattle.cfgchoices.proofs.Steps.{steps_opened, steps_positive}
+use Rattle.cfgchoices.proofs.TreeSizes.{tree_size_opened, tree_size_positive}
 
 last_first : {A : Type 0} (rest : List A) (s : A) → reverse (rest ++ s ∷ []) ≡ s ∷ reverse rest
 last_first rest s = reverse-append rest (s ∷ [])
@@ -75,19 +75,19 @@ pub choice_shown : {S : Type 0} (number : S → ℕ) (xs : List (Option (PIdx S 
     → rule_choice (map (choice_of number) xs) r ≡ choice_of number o
 choice_shown number xs i r d o = entry_shown (choice_of number) xs i r d o None
 
--- the symbols that are pending now give the same, in no more steps
+-- the symbols that are pending now give the same, by trees that are no larger
 pub record GoesOn (x : CostTables) (l : Choices) (old pending : List Sym) : Type 0 where
   pub same : (w : List ℕ) → Pends x l old w → Pends x l pending w
   pub left : left_to_open x l pending ≤ left_to_open x l old
 
 module _ (x : CostTables) (l : Choices) (n : ℕ) (state : Choosing x l n) (rest : List Sym) where
-  first_pending : (s : Sym) (w : List ℕ) → Pends x l (rest ++ s ∷ []) w → ChoicesGive (by x l) (s ∷ reverse rest) w
-  first_pending s w h = subst (λ a. ChoicesGive (by x l) a w) (last_first rest s) h
+  first_pending : (s : Sym) (w : List ℕ) → Pends x l (rest ++ s ∷ []) w → ChoicesGive (with_choices x l) (s ∷ reverse rest) w
+  first_pending s w h = subst (λ a. ChoicesGive (with_choices x l) a w) (last_first rest s) h
 
   pub rule_within : (k : ℕ) → IsGenerator x k → (r : ℕ) (w : List ℕ) → Pends x l (rest ++ Rule r ∷ []) w → r < length l
   rule_within k is r w h = go (reverse rest) (first_pending (Rule r) w h)
     where
-      go : (a : List Sym) → ChoicesGive (by x l) (Rule r ∷ a) w → r < length l
+      go : (a : List Sym) → ChoicesGive (with_choices x l) (Rule r ∷ a) w → r < length l
       go a (free nothing h) = subst (λ m. r < m) (sym state.listed) (answered_within x k is r 0 nothing)
       go a (chosen {p = p} {m = m} paid choice h k e) = within_from_get_or l r None (λ none.
           let no : ◌≡◌ {A = Option (ℕ × ℕ)} None (Some (p, m)) = sym (ap (where_some (cost_answer x r)) none ∙ where_none (cost_answer x r)) ∙ choice in absurd (cc))
@@ -95,27 +95,27 @@ module _ (x : CostTables) (l : Choices) (n : ℕ) (state : Choosing x l n) (rest
   pub none_pending : (w : List ℕ) → Pends x l [] w → w ≡ []
   none_pending w h = go w h
     where
-      go : (w : List ℕ) → ChoicesGive (by x l) [] w → w ≡ []
+      go : (w : List ℕ) → ChoicesGive (with_choices x l) [] w → w ≡ []
       go w empty = refl
 
   pub token_pending : (t : ℕ) (w : List ℕ) → Pends x l (rest ++ Token t ∷ []) w → (v : List ℕ) × (w ≡ t ∷ v) × Pends x l rest v
-  token_pending t w h = token_prefix (by x l) t (reverse rest) w (first_pending (Token t) w h)
+  token_pending t w h = token_prefix (with_choices x l) t (reverse rest) w (first_pending (Token t) w h)
 
   abbrev size : Sym → ℕ
-  size = steps x.grammar l 1 x.grammar.rules
+  size = tree_size x.grammar l 1 x.grammar.rules
 
   longer : (s : Sym) → left_to_open x l (rest ++ s ∷ []) ≡ left_to_open x l rest + size s
   longer s = let all = sum_by-append size rest (s ∷ []) in let one = sum_by-cons size s [] in omega (arith, all, one)
 
   pub symbol_less : (s : Sym) → left_to_open x l rest < left_to_open x l (rest ++ s ∷ [])
-  symbol_less s = let all = longer s in let some = steps_positive x.grammar l 1 (omega arith) x.grammar.rules s in omega (arith, all, some)
+  symbol_less s = let all = longer s in let some = tree_size_positive x.grammar l 1 (omega arith) x.grammar.rules s in omega (arith, all, some)
 
   pub rule_less : (r p m : ℕ) → rule_choice l r ≡ Some (p, m) → left_to_open x l (rest ++ reverse (sequence x p)) < left_to_open x l (rest ++ Rule r ∷ [])
   rule_less r p m e =
       let deep = few x l n state in
       let below = (state.each r p m e).1 in
       let all = longer (Rule r) in
-      let one = steps_opened x.grammar l 1 (λ q i j is. sequence_not_above x l n state j (sequence x i) (state.each q i j is).0.ready) x.grammar.rules r p m e (omega (arith, deep, below)) in
+      let one = tree_size_opened x.grammar l 1 (λ q i j is. sequence_not_above x l n state j (sequence x i) (state.each q i j is).0.ready) x.grammar.rules r p m e (omega (arith, deep, below)) in
       let new = sum_by-append size rest (reverse (sequence x p)) in
       let turned = sum_by-IsPermutation size (sequence x p) (reverse (sequence x p)) (IsPermutation-reverse (sequence x p)) in
       omega (arith, all, one, new, turned)
@@ -123,7 +123,7 @@ module _ (x : CostTables) (l : Choices) (n : ℕ) (state : Choosing x l n) (rest
   -- a rule that has no choice is skipped
   pub goes_on_free : (old : List Sym) (r : ℕ) → rule_choice l r ≡ None → GoesOn x l old (rest ++ Rule r ∷ []) → GoesOn x l old rest
   goes_on_free old r none g = record {
-    same = λ w h. free_prefix (by x l) r (reverse rest) w none (first_pending (Rule r) w (g.same w h));
+    same = λ w h. free_prefix (with_choices x l) r (reverse rest) w none (first_pending (Rule r) w (g.same w h));
     left = omega (arith, g.left, symbol_less (Rule r));
   }
 
@@ -131,7 +131,7 @@ module _ (x : CostTables) (l : Choices) (n : ℕ) (state : Choosing x l n) (rest
   pub goes_on_opened : (old : List Sym) (r p m : ℕ) → rule_choice l r ≡ Some (p, m) → GoesOn x l old (rest ++ Rule r ∷ []) → GoesOn x l old (rest ++ reverse (sequence x p))
   goes_on_opened old r p m e g =
       let c = (state.each r p m e).0 in record {
-        same = λ w h. subst (λ a. ChoicesGive (by x l) a w) (sym (turned_first rest (sequence x p)))
-            (rule_prefix (by x l) r p m (reverse rest) w (paid_chosen x l n state r p m c) (answer_chosen x l n state r p m e c) (first_pending (Rule r) w (g.same w h)));
+        same = λ w h. subst (λ a. ChoicesGive (with_choices x l) a w) (sym (turned_first rest (sequence x p)))
+            (rule_prefix (with_choices x l) r p m (reverse rest) w (paid_chosen x l n state r p m c) (answer_chosen x l n state r p m e c) (first_pending (Rule r) w (g.same w h)));
         left = omega (arith, g.left, rule_less r p m e);
       }

@@ -4,18 +4,18 @@ use Rattle.std.proofs.Math.Seq.{get_or-append_seam}
 use Rattle.std.proofs.lemmas.List.{get_or_append_left, get_or_default, length-map, length_push, map-append, map-set}
 use Rattle.std.proofs.lemmas.List.Elements.{Contains-append_left, Contains-push, Contains-push_cases}
 use Rattle.cfgleast.specs.Certificate.{choice_of, rule_choice}
-use Rattle.cfgchoices.specs.Inner.Kinds.{IsTarget, positions_of}
+use Rattle.cfgchoices.specs.Inner.Kinds.{IsTarget, production_numbers}
 use Rattle.cfgindex.specs.declared.idxnewtype.PIdx.{PIdx}
-use Rattle.cfgchoices.specs.Inner.Candidates.{Adds, HandlesChains, HasChoice, IsDone, IsHandled, IsKnown, Known, Level, NotAfter, Nominating, Candidates, GivesNoMore, Takes, Waits, left_to_choose, owner, sequence, waiting}
+use Rattle.cfgchoices.specs.Inner.Candidates.{Adds, HandlesChains, HasChoice, IsDone, IsHandled, IsKnown, Known, AreCandidates, NotAfter, Nominating, Candidates, GivesNoMore, Takes, Waits, left_to_choose, owner, sequence, waiting}
 use Rattle.cfgchoices.proofs.ChoosingFirsts.{few}
 use Rattle.lemmas.proofs.Contained.{contains_none}
 use Rattle.cfgchoices.proofs.Pending.{choice_shown}
 use Rattle.std.specs.Prelude.{is_some}
 use Rattle.cfgchoices.proofs.Nominated.{choosing, handled_chosen, chains_chosen, nominating_chosen, holds_done, was_chosen, with_choice}
 
-module _ (k : Known) (f : Candidates) (level : Level k f) (p : ℕ) (rest : List ℕ) where
+module _ (k : Known) (f : Candidates) (candidates : AreCandidates k f) (p : ℕ) (rest : List ℕ) where
   abbrev left_ready : Candidates
-  left_ready = record { choices = f.choices; number = f.number; cost = f.cost; ready = rest; level = f.level; foremost = f.foremost }
+  left_ready = record { choices = f.choices; number = f.number; cost = f.cost; ready = rest; sorted = f.sorted; foremost = f.foremost }
 
   pub take_ready : f.ready ≡ rest ++ p ∷ [] → Takes k p f left_ready
   take_ready e =
@@ -23,15 +23,15 @@ module _ (k : Known) (f : Candidates) (level : Level k f) (p : ℕ) (rest : List
       let old = λ (q : ℕ) (h : Contains rest q). subst (λ l. Contains l q) (sym e) (Contains-append_left rest (p ∷ []) q h) in
       let still = λ (q : ℕ) (h : Waits left_ready q). elim h as (λ _. Waits f q) [ inl ready ↦ inl (old q ready) | inr other ↦ inr other ] in record {
         others = refl;
-        level = record {
-          choosing = level.choosing;
-          costs = level.costs;
-          nominated = λ q h. level.nominated q (still q h);
-          sole = λ q h. level.sole q (old q h);
-          several = level.several;
-          order = level.order;
+        candidates = record {
+          choosing = candidates.choosing;
+          costs = candidates.costs;
+          nominated = λ q h. candidates.nominated q (still q h);
+          sole = λ q h. candidates.sole q (old q h);
+          several = candidates.several;
+          order = candidates.order;
         };
-        next = record { nominated = level.nominated p (inl had); least = inl (level.sole p had) };
+        next = record { nominated = candidates.nominated p (inl had); least = inl (candidates.sole p had) };
         waits = λ q h. elim h [
           | inl ready ↦ elim (Contains-push_cases rest p q (subst (λ l. Contains l q) e ready)) [ inl i ↦ inl (inl i) | inr is ↦ inr (sym is) ]
           | inr other ↦ inl (inr other)
@@ -39,16 +39,16 @@ module _ (k : Known) (f : Candidates) (level : Level k f) (p : ℕ) (rest : List
         together = let long = ap length e in let one = length_push rest p in omega (arith, long, one);
       }
 
-  abbrev left_level : Candidates
-  left_level = record { choices = f.choices; number = f.number; cost = f.cost; ready = f.ready; level = rest; foremost = f.foremost }
+  abbrev left_sorted : Candidates
+  left_sorted = record { choices = f.choices; number = f.number; cost = f.cost; ready = f.ready; sorted = rest; foremost = f.foremost }
 
-  module _ (none : f.ready ≡ []) (e : f.level ≡ rest ++ p ∷ []) where
+  module _ (none : f.ready ≡ []) (e : f.sorted ≡ rest ++ p ∷ []) where
     abbrev NotBefore : ℕ → ℕ → Type 0
     NotBefore a b = NotAfter k.tables f.choices (sequence k.tables b) (sequence k.tables a)
 
     order : (i j : ℕ) → i < j → j < length rest + 1 → NotBefore (get_or (rest ++ p ∷ []) i 0) (get_or (rest ++ p ∷ []) j 0)
     order i j lt short = subst (λ l. NotBefore (get_or l i 0) (get_or l j 0)) e
-        (level.order i j lt (let long = ap length e in let one = length_push rest p in omega (arith, short, long, one)))
+        (candidates.order i j lt (let long = ap length e in let one = length_push rest p in omega (arith, short, long, one)))
 
     prefix : (i : ℕ) → i < length rest → get_or (rest ++ p ∷ []) i 0 ≡ get_or rest i 0
     prefix i lt = get_or_append_left rest (p ∷ []) 0 i lt
@@ -57,23 +57,23 @@ module _ (k : Known) (f : Candidates) (level : Level k f) (p : ℕ) (rest : List
     before_last i lt = subst (λ a. NotBefore a p) (prefix i lt)
         (subst (NotBefore (get_or (rest ++ p ∷ []) i 0)) (get_or-append_seam rest p [] 0) (order i (length rest) lt (omega arith)))
 
-    pub take_level : Takes k p f left_level
-    take_level =
+    pub take_sorted : Takes k p f left_sorted
+    take_sorted =
         let had = subst (λ l. Contains l p) (sym e) (Contains-push rest p) in
         let old = λ (q : ℕ) (h : Contains rest q). subst (λ l. Contains l q) (sym e) (Contains-append_left rest (p ∷ []) q h) in
-        let still = λ (q : ℕ) (h : Waits left_level q). elim h as (λ _. Waits f q) [ inl ready ↦ inl ready | inr other ↦ inr (old q other) ] in record {
+        let still = λ (q : ℕ) (h : Waits left_sorted q). elim h as (λ _. Waits f q) [ inl ready ↦ inl ready | inr other ↦ inr (old q other) ] in record {
           others = refl;
-          level = record {
-            choosing = level.choosing;
-            costs = level.costs;
-            nominated = λ q h. level.nominated q (still q h);
-            sole = level.sole;
-            several = λ q h. level.several q (old q h);
+          candidates = record {
+            choosing = candidates.choosing;
+            costs = candidates.costs;
+            nominated = λ q h. candidates.nominated q (still q h);
+            sole = candidates.sole;
+            several = λ q h. candidates.several q (old q h);
             order = λ i j lt short. subst (λ a. NotBefore a (get_or rest j 0)) (prefix i (omega (arith, lt, short)))
                 (subst (NotBefore (get_or (rest ++ p ∷ []) i 0)) (prefix j short) (order i j lt (omega (arith, short))));
           };
           next = record {
-            nominated = level.nominated p (inr had);
+            nominated = candidates.nominated p (inr had);
             least = inr (λ q h. elim h [
               | inl ready ↦ absurd (contains_none q (subst (λ l. Contains l q) none ready))
               | inr other ↦ let (i, within, at) = other in
@@ -130,7 +130,7 @@ module _ (k : Known) (p : ℕ) (f f' : Candidates) (t : Takes k p f f') where
       module _ (has : HasChoice f'.choices (owner k.tables p)) where
         passed : (q : ℕ) → IsHandled k.tables f' q ⊎ GivesNoMore k.tables f'.choices p q → IsHandled k.tables f' q
         passed q (inl h) = h
-        passed q (inr holds) = inl (holds_done k.tables f'.choices p q (was_chosen k n is f' p t.level t.next.nominated has) holds)
+        passed q (inr holds) = inl (holds_done k.tables f'.choices p q (was_chosen k n is f' p t.candidates t.next.nominated has) holds)
 
         pub passed_handles : (q : ℕ) → IsHandled k.tables f q → IsHandled k.tables f' q
         passed_handles q h = passed q (taken_handled q h)
@@ -138,7 +138,7 @@ module _ (k : Known) (p : ℕ) (f f' : Candidates) (t : Takes k p f f') where
         pub passed_going : HandlesChains k f'
         passed_going = record {
           nominating = record {
-            level = t.level;
+            candidates = t.candidates;
             listed = listed;
             foremost = λ r q e.
                 let (owned, where_is) = foremost r q e in (
@@ -155,23 +155,23 @@ module _ (k : Known) (p : ℕ) (f f' : Candidates) (t : Takes k p f f') where
       -- it gets one
       module _ (unset : rule_choice f'.choices (owner k.tables p) ≡ None) (within : owner k.tables p < k.tables.grammar.rules) where
         abbrev pub now : Candidates
-        now = with_choice k n is f' p t.level t.next unset within
+        now = with_choice k n is f' p t.candidates t.next unset within
 
         pub now_nominating : Nominating k now
-        now_nominating = nominating_chosen k n is f' p t.level t.next unset within listed foremost
+        now_nominating = nominating_chosen k n is f' p t.candidates t.next unset within listed foremost
 
         pub number_fits : f'.number + 1 ≤ k.tables.grammar.rules
-        number_fits = few k.tables _ (f'.number + 1) (choosing k n is f' p t.level t.next unset within)
+        number_fits = few k.tables _ (f'.number + 1) (choosing k n is f' p t.candidates t.next unset within)
 
         -- and the chain productions that lead to the rule are candidates
         module _ (f'' : Candidates) (adds : Adds k.tables (λ q. IsTarget k.tables q (owner k.tables p)) (length k.tables.grammar.productions) now f'') where
           pub chosen_handles : (q : ℕ) → IsHandled k.tables f q → IsHandled k.tables f'' q
-          chosen_handles q h = adds.handles q (inl (handled_chosen k n is f' p t.level t.next unset within q (taken_handled q h)))
+          chosen_handles q h = adds.handles q (inl (handled_chosen k n is f' p t.candidates t.next unset within q (taken_handled q h)))
 
           pub chosen_going : Nominating k f'' → HandlesChains k f''
           chosen_going nominating = record {
             nominating = nominating;
-            chains = chains_chosen k n is f' p t.level t.next unset within f'' adds.choices adds.handles chains;
+            chains = chains_chosen k n is f' p t.candidates t.next unset within f'' adds.choices adds.handles chains;
           }
 
           pub chosen_left : left_to_choose k f'' < left_to_choose k f
@@ -189,8 +189,8 @@ module _ (k : Known) (p : ℕ) (f f' : Candidates) (t : Takes k p f f') where
                   spread (r - b) c w v ((r - a) * (c + 1)) whole all
 
 -- lists of the code as numbers, after the last element was removed
-pub last_taken : {S : Type 0} (number : S → ℕ) (items rest : List (PIdx S)) (p : PIdx S) → items ≡ rest ++ p ∷ [] → positions_of number items ≡ positions_of number rest ++ number p.0 ∷ []
-last_taken number items rest p e = ap (positions_of number) e ∙ map-append (λ (q : PIdx _). number q.0) rest (p ∷ [])
+pub last_taken : {S : Type 0} (number : S → ℕ) (items rest : List (PIdx S)) (p : PIdx S) → items ≡ rest ++ p ∷ [] → production_numbers number items ≡ production_numbers number rest ++ number p.0 ∷ []
+last_taken number items rest p e = ap (production_numbers number) e ∙ map-append (λ (q : PIdx _). number q.0) rest (p ∷ [])
 
 -- a rule has an entry in a list of the code
 pub entry_within : {A B : Type 0} (f : A → B) (items : List A) (rules i r : ℕ) → length (map f items) ≡ rules → i ≡ r → i < rules → r < length items

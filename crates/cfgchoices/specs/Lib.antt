@@ -1,5 +1,5 @@
 -- Contracts of public calls use these definitions; only private contracts use those in Inner.
 pub mod Splits
-pub mod Levels
+pub mod Chains
 pub mod FirstSentence
 pub mod Inner

@@ -1,9 +1,9 @@
-//! The production that makes each rule's first minimal sentence, found level by level, by increasing cost.
+//! The production that makes each rule's first minimal sentence, found by increasing cost.
 
+mod by_cost;
 mod candidates;
 mod compare;
-mod levels;
 mod lists;
 mod optimal;
 
-pub use levels::first_choices;
+pub use by_cost::first_choices;

@@ -68,8 +68,8 @@ fn sequence_kind<S: Storage>(
 ) -> Kind<S>
     requires listed { All (IsListed (length least.now) (length costs.now)) (map (sym_of S.number) symbols.now) }
     requires small { cost < 65536 }
-    ensures { IsSequenceKind S.number (slice_index costs.now) (rule_cost least.now) cost (map (sym_of S.number) symbols.now)
-        result }
+    ensures { IsSequenceKind S.number (slice_index costs.now) (rule_cost least.now) cost
+        (map (sym_of S.number) symbols.now) result }
 {
     let start = Partial {
         production: 0,

@@ -6,7 +6,7 @@ use Rattle.cfgtables.specs.Openings.{nth_production, ArePositionsOf}
 use Rattle.search.specs.Reachable.{FoundBy, Reachable, Reaches, SearchState, led, seed}
 use Rattle.search.proofs.Reaching.{Begun, Searching, popped_reachable, reaches_as, search_begins, search_ends, search_goes_on}
 use Rattle.cfgleast.specs.Generator.{CostTables}
-use Rattle.cfgchoices.specs.Levels.{Along, here, next}
+use Rattle.cfgchoices.specs.Chains.{Along, here, next}
 use Rattle.cfgchoices.specs.Inner.Kinds.{HasTarget, IsBaseProduction, IsTarget, IsBaseBelow}
 use Rattle.cfgcosts.specs.Inner.Minimal.{Lists}
 use Rattle.lemmas.proofs.Contained.{contains_none}
@@ -91,19 +91,19 @@ module _ (x : CostTables) (r : ℕ) where
   abbrev BaseListed : List ℕ → ℕ → Type 0
   BaseListed base b = (p : ℕ) → (nth_production x.grammar p).rule ≡ b → IsBaseProduction x p → Contains base p
 
-  pub record Level (base : List ℕ) (s : SearchState) : Type 0 where
+  pub record BaseSearch (base : List ℕ) (s : SearchState) : Type 0 where
     pub search : Searching x.grammar.rules (λ q. q ≡ r) (HasTarget x) (BaseListed base) s
     pub below : (p : ℕ) → Contains base p → IsBaseBelow x r p
 
-  pub level_begins : (s : SearchState) → Begun x.grammar.rules (λ q. q ≡ r) s → Level [] s
-  level_begins s b = record {
+  pub base_search_begins : (s : SearchState) → Begun x.grammar.rules (λ q. q ≡ r) s → BaseSearch [] s
+  base_search_begins s b = record {
     search = search_begins x.grammar.rules (λ q. q ≡ r) (HasTarget x) (BaseListed []) s b;
     below = λ p h. absurd (contains_none p h);
   }
 
-  pub level_goes_on : (b : ℕ) (old mid new : SearchState) (base base' : List ℕ) → Level base old → mid.reachable ≡ old.reachable → old.waiting ≡ mid.waiting ++ b ∷ []
-      → Reaches (HasTarget x b) mid new → Lists (λ p. ((nth_production x.grammar p).rule ≡ b) × IsBaseProduction x p) base base' → Level base' new
-  level_goes_on b old mid new base base' l same popped w lists = record {
+  pub base_search_goes_on : (b : ℕ) (old mid new : SearchState) (base base' : List ℕ) → BaseSearch base old → mid.reachable ≡ old.reachable → old.waiting ≡ mid.waiting ++ b ∷ []
+      → Reaches (HasTarget x b) mid new → Lists (λ p. ((nth_production x.grammar p).rule ≡ b) × IsBaseProduction x p) base base' → BaseSearch base' new
+  base_search_goes_on b old mid new base base' l same popped w lists = record {
     search = search_goes_on x.grammar.rules (λ q. q ≡ r) (HasTarget x) (BaseListed base) b old mid l.search popped new (BaseListed base')
         (λ a d p owner without. (lists p).1 (inl (d p owner without))) (λ p owner without. (lists p).1 (inr (owner, without))) same w;
     below = λ p h. elim ((lists p).0 h) [
@@ -115,8 +115,8 @@ module _ (x : CostTables) (r : ℕ) where
       leads : Along (HasTarget x) r b
       leads = along_reached (HasTarget x) r (l.search.sound b (popped_reachable x.grammar.rules (λ q. q ≡ r) (HasTarget x) (BaseListed base) b old mid l.search popped))
 
-  pub level_ends : (base : List ℕ) (s : SearchState) → Level base s → s.waiting ≡ [] → (p : ℕ) → Contains base p ↔ IsBaseBelow x r p
-  level_ends base s l none p = (
+  pub base_search_ends : (base : List ℕ) (s : SearchState) → BaseSearch base s → s.waiting ≡ [] → (p : ℕ) → Contains base p ↔ IsBaseBelow x r p
+  base_search_ends base s l none p = (
     l.below p,
     (λ h. (search_ends x.grammar.rules (λ q. q ≡ r) (HasTarget x) (BaseListed base) s l.search none (reached_along (HasTarget x) r h.leads)).1 p refl h.base),
   )

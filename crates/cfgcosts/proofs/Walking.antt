@@ -38,7 +38,7 @@ derives_more g p none s = next s none
 derives_more g p (next t d) s = next t (derives_more g p d s)
 
 -- where a walk goes: to what the choices give for a rule, which is its first minimal sentence
-pub record LeadsTo (x : CostTables) (r : ℕ) (sentence : List ℕ) : Type 0 where
+pub record WalksTo (x : CostTables) (r : ℕ) (sentence : List ℕ) : Type 0 where
   pub walks : AreChosen x
   pub grammar : IsGrammar x.grammar
   pub first : AreFirst x
@@ -48,7 +48,7 @@ pub record LeadsTo (x : CostTables) (r : ℕ) (sentence : List ℕ) : Type 0 whe
 -- The opened productions derive the pending symbols, followed by the tokens of the word with rules of cost 0 between them.
 pub record IsOnTheWay (x : CostTables) (r : ℕ) (HasOpened : List ℕ → Type 0) (pending : List Sym) (word : List ℕ) : Type 0 where
   pub sentence : List ℕ
-  pub leads : LeadsTo x r sentence
+  pub goal : WalksTo x r sentence
   pub later : List ℕ
   pub left : ℕ
   pub plan : Planned x (reverse pending) later left
@@ -70,7 +70,7 @@ module _ (x : CostTables) (r : ℕ) (HasOpened : List ℕ → Type 0) where
       let p = plan_of x walks grammar r w given in
       subst (λ a. IsOnTheWay x r HasOpened a word) (sym e) (subst (IsOnTheWay x r HasOpened (Rule r ∷ [])) (sym f) (record {
         sentence = w;
-        leads = record { walks = walks; grammar = grammar; first = first; rule = rule; given = given };
+        goal = record { walks = walks; grammar = grammar; first = first; rule = rule; given = given };
         later = reverse w;
         left = p.openings;
         plan = p.plan;
@@ -87,12 +87,12 @@ module _ (x : CostTables) (r : ℕ) (HasOpened : List ℕ → Type 0) where
   module _ (rest : List Sym) (word : List ℕ) where
     pub after_token : (t : ℕ) → IsOnTheWay x r HasOpened (rest ++ Token t ∷ []) word → IsOnTheWay x r HasOpened rest (word ++ t ∷ [])
     after_token t way =
-        let l = way.leads in
+        let l = way.goal in
         let (later, e, plan) = plan_token x l.walks l.grammar t (reverse rest) way.later way.left
         (subst (λ a. Planned x a way.later way.left) (reverse-append rest (Token t ∷ [])) way.plan) in
         record {
           sentence = way.sentence;
-          leads = l;
+          goal = l;
           later = later;
           left = way.left;
           plan = plan;
@@ -108,12 +108,12 @@ module _ (x : CostTables) (r : ℕ) (HasOpened : List ℕ → Type 0) where
 
     pub after_free : (q : ℕ) → rule_choice x.choices q ≡ None → IsOnTheWay x r HasOpened (rest ++ Rule q ∷ []) word → IsOnTheWay x r HasOpened rest word
     after_free q unchosen way =
-        let l = way.leads in
+        let l = way.goal in
         let (nothing, plan) = plan_free x l.walks l.grammar q (reverse rest) way.later way.left
         (subst (λ a. Planned x a way.later way.left) (reverse-append rest (Rule q ∷ [])) way.plan) unchosen in
         record {
           sentence = way.sentence;
-          leads = l;
+          goal = l;
           later = way.later;
           left = way.left;
           plan = plan;
@@ -128,26 +128,26 @@ module _ (x : CostTables) (r : ℕ) (HasOpened : List ℕ → Type 0) where
         }
 
     pub rule_within : (q : ℕ) → IsOnTheWay x r HasOpened (rest ++ Rule q ∷ []) word → q < x.grammar.rules
-    rule_within q way = plan_within x way.leads.walks way.leads.grammar q (reverse rest) way.later way.left
+    rule_within q way = plan_within x way.goal.walks way.goal.grammar q (reverse rest) way.later way.left
         (subst (λ a. Planned x a way.later way.left) (reverse-append rest (Rule q ∷ [])) way.plan)
 
     -- the choice of a rule, as it is read
     pub choice_at : {S : Type 0} (number : S → ℕ) (items : List (Option (PIdx S × ℕ))) (q i : ℕ) (entry found : Option (PIdx S × ℕ)) → map (choice_of number) items ≡ x.choices → i ≡ q
         → entry ≡ get_or items i entry → entry ≡ found → IsOnTheWay x r HasOpened (rest ++ Rule q ∷ []) word → rule_choice x.choices q ≡ choice_of number found
     choice_at number items q i entry found shown holds at is way =
-        item_shown (choice_of number) items x.choices q entry None shown (subst (λ m. q < m) (sym way.leads.walks.listed) (rule_within q way))
+        item_shown (choice_of number) items x.choices q entry None shown (subst (λ m. q < m) (sym way.goal.walks.listed) (rule_within q way))
         (subst (λ m. entry ≡ get_or items m entry) holds at) ∙ ap (choice_of number) is
 
     -- the production that is opened next
     pub chosen_next : (q p m : ℕ) → rule_choice x.choices q ≡ Some (p, m) → IsOnTheWay x r HasOpened (rest ++ Rule q ∷ []) word → Chosen x q p m
-    chosen_next q p m choice way = (plan_opened x way.leads.walks way.leads.grammar q (p, m) (reverse rest) way.later way.left
+    chosen_next q p m choice way = (plan_opened x way.goal.walks way.goal.grammar q (p, m) (reverse rest) way.later way.left
         (subst (λ a. Planned x a way.later way.left) (reverse-append rest (Rule q ∷ [])) way.plan) choice).chosen
 
     pub after_opened : (q p m : ℕ) → rule_choice x.choices q ≡ Some (p, m) → (way : IsOnTheWay x r HasOpened (rest ++ Rule q ∷ []) word) → (HasOpened' : List ℕ → Type 0)
         → ((positions : List ℕ) → HasOpened positions → HasOpened' (positions ++ p ∷ [])) → (pending : List Sym) → pending ≡ rest ++ (nth_production x.grammar p).symbols
         → IsOnTheWay x r HasOpened' pending word
     after_opened q p m choice way HasOpened' more pending e =
-        let l = way.leads in
+        let l = way.goal in
         let symbols = (nth_production x.grammar p).symbols in
         let next = plan_opened x l.walks l.grammar q (p, m) (reverse rest) way.later way.left
         (subst (λ a. Planned x a way.later way.left) (reverse-append rest (Rule q ∷ [])) way.plan) choice in
@@ -156,7 +156,7 @@ module _ (x : CostTables) (r : ℕ) (HasOpened : List ℕ → Type 0) where
         let longer = length-append way.positions (p ∷ []) in
         subst (λ a. IsOnTheWay x r HasOpened' a word) (sym e) (record {
           sentence = way.sentence;
-          leads = l;
+          goal = l;
           later = way.later;
           left = next.left;
           plan = subst (λ a. Planned x a way.later next.left) (sym (reverse_aux-append rest symbols [])) next.plan;
@@ -188,7 +188,7 @@ module _ (x : CostTables) (r : ℕ) (HasOpened : List ℕ → Type 0) where
   module _ (pending : List Sym) (word : List ℕ) (way : IsOnTheWay x r HasOpened pending word) where
     is_first : IsFirstSentence x.grammar (token_cost x) r way.sentence
     is_first =
-        let l = way.leads in
+        let l = way.goal in
         let found = first_given x l.walks l.grammar l.first r way.sentence l.given in
         record {
           first = found;
@@ -206,7 +206,7 @@ module _ (x : CostTables) (r : ℕ) (HasOpened : List ℕ → Type 0) where
     -- no count is too large
     pub countable : (c : ℕ) → cost_answer x r ≡ Some c → x.grammar.rules < 2 ^ 32 → (positions : List ℕ) × HasOpened positions × (length positions < 2 ^ 64 - 1)
     countable c answer fits =
-        let l = way.leads in
+        let l = way.goal in
         let few = few_opened c (least_of (known x l.walks l.grammar) l.walks.number l.walks.generator l.grammar r c answer) in
         let most : c * x.grammar.rules ≤ 65535 * x.grammar.rules = mul-le-mul_right x.grammar.rules (answered_some (rule_cost x.least r) c answer).1 in
         (way.positions, way.opened, omega (arith, few, most, fits))
@@ -222,7 +222,7 @@ module _ (x : CostTables) (r : ℕ) (HasOpened : List ℕ → Type 0) where
   -- when nothing is pending, the word in reverse is the first minimal sentence
   walked : (word : List ℕ) → IsOnTheWay x r HasOpened [] word → HasWalked x.grammar (token_cost x) r HasOpened (reverse word)
   walked word way =
-      let none = plan_ended x way.leads.walks way.leads.grammar way.later way.left way.plan in
+      let none = plan_ended x way.goal.walks way.goal.grammar way.later way.left way.plan in
       let same : way.sentence ≡ reverse word =
       sym (reverse-reverse way.sentence) ∙ ap reverse (sym way.whole ∙ ap (λ l. word ++ l) none ∙ append-nil word) in
       let few = subst (λ (w : List ℕ). length way.positions + way.left ≤ length w * x.grammar.rules) same way.few in

@@ -9,7 +9,7 @@ ghost use Rattle.derivation.specs.Sentence.{Sentence, cost_of};
 ghost use Rattle.derivation.specs.Costs.{Least, Minimal};
 ghost use Rattle.derivation.specs.CostLists.{rule_cost};
 ghost use Rattle.cfgleast.specs.Certificate.{IsCovered, IsReached};
-ghost use Rattle.cfgchoices.specs.Levels.{IsMadeAlongChain};
+ghost use Rattle.cfgchoices.specs.Chains.{IsMadeAlongChain};
 ghost use Rattle.cfgchoices.specs.FirstSentence.{FirstMinimal, lexicographic};
 ghost use Rattle.cfgchoices.specs.Splits.{Split};
 ghost use Rattle.cfgcosts.specs.declared.errors.SentenceError.{SentenceError};

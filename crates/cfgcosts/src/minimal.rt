@@ -1,6 +1,6 @@
 //! All minimal sentences of a rule.
 
 mod all;
-mod levels;
+mod base;
 mod products;
 mod requested;

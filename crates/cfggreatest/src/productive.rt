@@ -109,7 +109,8 @@ impl<S: Storage> Analysis<S> for Productive {
         users: &mut Users,
     ) -> Result<(), AllocError>
         requires { CanNote users.old (shown S.number _rule symbols.now) }
-        ensures { IfOk result (λ _. Notes production (HoldsRule (shown S.number _rule symbols.now)) users.old users.new) }
+        ensures { IfOk result (λ _. Notes production (HoldsRule (shown S.number _rule symbols.now))
+            users.old users.new) }
     {
         note_rules(production, symbols, users)
     }

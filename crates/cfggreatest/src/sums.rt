@@ -197,7 +197,8 @@ fn take_sequence<S: Storage>(
 ) -> Result<(), Stop>
     requires { All (IsListed (length known.now) (length costs.now)) (map (sym_of S.number) symbols.now) }
     ensures { MatchResult result
-        (λ _. TakesSequence (slice_index costs.now) known.now start (map (sym_of S.number) symbols.now) sums.old sums.new)
+        (λ _. TakesSequence (slice_index costs.now) known.now start (map (sym_of S.number) symbols.now)
+        sums.old sums.new)
         (StopsSequence (slice_index costs.now) known.now start (map (sym_of S.number) symbols.now)) }
 {
     if !are_productive(known, symbols) {

@@ -49,7 +49,7 @@ pub use Rattle.cfganalysis.specs.Paths
 pub use Rattle.cfgleast.specs.Certificate
 pub use Rattle.cfgleast.specs.Generator
 pub use Rattle.cfgchoices.specs.Splits
-pub use Rattle.cfgchoices.specs.Levels
+pub use Rattle.cfgchoices.specs.Chains
 pub use Rattle.cfgchoices.specs.FirstSentence
 pub use Rattle.cfgcosts.specs.Sentences
 pub use Rattle.cfgcosts.specs.DerivedBy

@@ -1,10 +1,10 @@
 -- Each error of a text's section has at least one span, and each of its spans is a piece of the text. So are the spans of its values, and
 -- the text may be cut where the section ends.
-use Rattle.std.proofs.Common.{◌≡◌, ℕ, suc, ◌<◌, Bool, true, false, cond, List, [], ◌∷◌, ◌++◌, filter, length, Result, Ok, Err, eqb, eqb-true, refl, ap, subst, length-append, ◌∙◌, append_assoc, arith, All}
+use Rattle.std.proofs.Common.{◌≡◌, ℕ, ◌<◌, Bool, List, [], ◌∷◌, ◌++◌, get_or, length, Result, Ok, Err, ap, subst, length-append, arith, All}
 use Rattle.std.specs.Str.{IsUtf8, bytes_eq}
-use Rattle.std.proofs.lemmas.List.{length-map}
+use Rattle.std.proofs.lemmas.Cmp.{nat_list_eq_equiv}
 use Rattle.std.proofs.lemmas.List.Elements.{All-nil, All-cons, All-head, All-tail, All-append, All-map, All-filter, All-weaker}
-use Rattle.lemmas.specs.Lists.{with_prefixes, with_prefixes_from}
+use Rattle.lemmas.proofs.Repeats.{count-map, repeated-some}
 use Rattle.constructs.specs.Construct.{computes}
 use Rattle.constructs.proofs.Agree.{agree}
 use Rattle.constructs.proofs.Keeps.{keeps}
@@ -14,60 +14,29 @@ use Rattle.cfgbase.specs.declared.span.Span.{Span}
 use Rattle.cfgwords.proofs.Cuts.{IsCut, cut_here}
 use Rattle.cfgwords.proofs.WordOffsets.{ComesAfter, is_here, moves_on}
 use Rattle.cfgerrors.specs.HeaderErrors.{ShownError}
-use Rattle.cfgsection.specs.SectionErrors.{offsets_of, is_first_repeat, repeated, duplicate_error, duplicate_errors, section_errors, stopped_by}
+use Rattle.cfgsection.specs.SectionErrors.{spans_of, keys_of, duplicate_error, duplicate_errors, section_errors, stopped_by}
 use Rattle.cfgsection.specs.SectionGrammar.{Entry, Fault, section}
 use Rattle.cfgsection.specs.SectionOffsets.{IsErrorAt}
 use Rattle.cfgsection.specs.SectionReads.{end_of, unless_errors, section_of}
 use Rattle.cfgsection.proofs.SectionKept.{IsEntryAt, section_kept}
+use Rattle.cfgsection.proofs.SectionRepeats.{repeats}
 use Rattle.cfgkinds.proofs.ValueOffsets.{EachKindOffset}
 
--- a repeated key has at least one span
-prefix_offsets : (prefix rest : List Entry) (key : List ℕ) → 0 < length (offsets_of prefix key) → 0 < length (offsets_of (prefix ++ rest) key)
-prefix_offsets prefix rest key some = omega (
-  arith,
-  length-map (filter (λ (e : Entry). bytes_eq e.key key) prefix) (λ (e : Entry). e.key_span),
-  length-map (filter (λ (e : Entry). bytes_eq e.key key) (prefix ++ rest)) (λ (e : Entry). e.key_span),
-  longer prefix,
-)
-  where
-    longer : (prefix : List Entry) → length (filter (λ (e : Entry). bytes_eq e.key key) prefix) < suc (length (filter (λ (e : Entry). bytes_eq e.key key) (prefix ++ rest)))
-    longer [] = omega arith
-    longer (e ∷ prefix) = go (bytes_eq e.key key) (longer prefix)
-      where
-        go : (b : Bool) → length (filter (λ (e : Entry). bytes_eq e.key key) prefix) < suc (length (filter (λ (e : Entry). bytes_eq e.key key) (prefix ++ rest)))
-            → length (cond b (e ∷ filter (λ (e : Entry). bytes_eq e.key key) prefix) (filter (λ (e : Entry). bytes_eq e.key key) prefix))
-            < suc (length (cond b (e ∷ filter (λ (e : Entry). bytes_eq e.key key) (prefix ++ rest)) (filter (λ (e : Entry). bytes_eq e.key key) (prefix ++ rest))))
-        go true less = omega arith
-        go false less = less
-
 module _ (whole : List ℕ) where
-  offsets_at : (entries : List Entry) (key : List ℕ) → All (IsEntryAt whole) entries → All (IsPiece whole) (offsets_of entries key)
+  offsets_at : (entries : List Entry) (key : List ℕ) → All (IsEntryAt whole) entries → All (IsPiece whole) (spans_of entries key)
   offsets_at entries key all =
       All-map (IsPiece whole) (λ (e : Entry). e.key_span) _ (All-weaker (IsEntryAt whole) (λ entry. IsPiece whole entry.key_span) (λ entry at. at.0) _ (All-filter _ (IsEntryAt whole) entries all))
 
   module _ (entries : List Entry) (all : All (IsEntryAt whole) entries) where
-    abbrev IsLocated : List Entry × Entry → Type 0
-    IsLocated x = 0 < length (offsets_of entries x.1.key)
-
-    repeats_located : (prefix rest : List Entry) → prefix ++ rest ≡ entries → All IsLocated (filter is_first_repeat (with_prefixes_from prefix rest))
-    repeats_located prefix [] e = All-nil IsLocated
-    repeats_located prefix (x ∷ rest) e = go (eqb (length (offsets_of prefix x.key)) 1) refl (repeats_located (prefix ++ x ∷ []) rest (append_assoc prefix (x ∷ []) rest ∙ e))
-      where
-        go : (b : Bool) → eqb (length (offsets_of prefix x.key)) 1 ≡ b → All IsLocated (filter is_first_repeat (with_prefixes_from (prefix ++ x ∷ []) rest))
-            → All IsLocated (cond b ((prefix, x) ∷ filter is_first_repeat (with_prefixes_from (prefix ++ x ∷ []) rest)) (filter is_first_repeat (with_prefixes_from (prefix ++ x ∷ []) rest)))
-        go true is more =
-            let one : length (offsets_of prefix x.key) ≡ 1 = eqb-true _ _ is in
-            let here : IsLocated (prefix, x) = subst (λ es. 0 < length (offsets_of es x.key)) e (prefix_offsets prefix (x ∷ rest) x.key (omega arith)) in
-            All-cons IsLocated (prefix, x) _ here more
-        go false is more = more
-
     duplicates_at : All (IsErrorAt whole) (duplicate_errors entries)
-    unfolding duplicate_errors repeated
-    duplicates_at = All-map (IsErrorAt whole) (duplicate_error entries) _ (All-map (λ key. IsErrorAt whole (duplicate_error entries key)) (λ (x : List Entry × Entry). x.1.key) _ (at (filter is_first_repeat (with_prefixes entries)) (repeats_located [] entries refl)))
-      where
-        at : (xs : List (List Entry × Entry)) → All IsLocated xs → All (λ (x : List Entry × Entry). IsErrorAt whole (duplicate_error entries x.1.key)) xs
-        at [] located = All-nil (λ (x : List Entry × Entry). IsErrorAt whole (duplicate_error entries x.1.key))
-        at (x ∷ xs) located = All-cons (λ (x : List Entry × Entry). IsErrorAt whole (duplicate_error entries x.1.key)) x xs (record { some = All-head IsLocated x xs located; each = offsets_at entries x.1.key all }) (at xs (All-tail IsLocated x xs located))
+    unfolding duplicate_errors
+    duplicates_at = All-map (IsErrorAt whole) (duplicate_error entries) (repeats entries) (λ k d within.
+        let key = get_or (repeats entries) k d in
+        record {
+          some = subst (λ n. 0 < n) (count-map bytes_eq (λ (e : Entry). e.key) (λ (e : Entry). e.key_span) key entries)
+              (repeated-some bytes_eq nat_list_eq_equiv (keys_of entries) k d within);
+          each = offsets_at entries key all;
+        })
 
     errors_at : (end : Result (List ℕ × List ℕ) Fault) → EndsIn (ComesAfter whole whole) (IsErrorAt whole) (IsCut whole) end → All (IsErrorAt whole) (section_errors entries (end_of end))
     errors_at (Ok (rest, left)) t = All-append (IsErrorAt whole) (duplicate_errors entries) [] duplicates_at (All-nil (IsErrorAt whole))

@@ -9,12 +9,11 @@ use Rattle.std.specs.Prelude.{IfOk}
 use Rattle.std.proofs.lemmas.Slice.Eq.{bytes_eq-Decides}
 use Rattle.std.specs.Str.{bytes_eq}
 use Rattle.std.proofs.lemmas.List.{map-append, take_more}
-use Rattle.std.proofs.lemmas.List.Elements.{filter-append}
-use Rattle.lemmas.specs.Lists.{with_prefixes}
-use Rattle.lemmas.proofs.Prefixes.{with_prefixes-push}
+use Rattle.lemmas.specs.Lists.{repeated}
+use Rattle.lemmas.proofs.Repeats.{count-map, filtered-push, repeated-none, repeated-push}
 use Rattle.cfgbase.specs.declared.span.Span.{Span}
 use Rattle.cfgsection.specs.SectionGrammar.{Entry}
-use Rattle.cfgsection.specs.SectionErrors.{offsets_of, is_first_repeat, repeated, duplicate_error, duplicate_errors}
+use Rattle.cfgsection.specs.SectionErrors.{duplicate_error, duplicate_errors, keys_of, spans_of}
 use Rattle.cfgerrors.specs.declared.header.HeaderError.{HeaderError}
 use Rattle.cfgerrors.specs.declared.header.HeaderErrorKind.TheVariants as kinds
 use Rattle.cfgerrors.specs.HeaderErrors.{DuplicateEntry, error_view}
@@ -22,71 +21,54 @@ use Rattle.cfgsection.specs.SectionReads.{entry_view, errors_view}
 use Rattle.cfgsection.specs.declared.section.entry.Entry.{Entry as CodeEntry}
 use Rattle.cfgsection.specs.Inner.Steps.{spans_at, duplicate_at}
 
-pub offsets_of-push : (done : List Entry) (x : Entry) (key : List ℕ)
-    → offsets_of (done ++ x ∷ []) key ≡ cond (bytes_eq x.key key) (offsets_of done key ++ x.key_span ∷ []) (offsets_of done key)
-offsets_of-push done x key =
-    ap (map (λ (e : Entry). e.key_span)) (filter-append is done (x ∷ []))
-    ∙ map-append (λ (e : Entry). e.key_span) (filter is done) (filter is (x ∷ [])) ∙ go (is x)
-  where
-    is : Entry → Bool
-    is e = bytes_eq e.key key
+abbrev pub repeats : List Entry → List (List ℕ)
+repeats entries = repeated bytes_eq (keys_of entries)
 
-    go : (here : Bool) → offsets_of done key ++ map (λ (e : Entry). e.key_span) (cond here (x ∷ []) []) ≡ cond here (offsets_of done key ++ x.key_span ∷ []) (offsets_of done key)
-    go true = refl
-    go false = append-nil _
+pub spans_of-push : (done : List Entry) (x : Entry) (key : List ℕ)
+    → spans_of (done ++ x ∷ []) key ≡ cond (bytes_eq x.key key) (spans_of done key ++ x.key_span ∷ []) (spans_of done key)
+spans_of-push done x key = filtered-push (λ (e : Entry). e.key_span) (λ e. bytes_eq e.key key) done x
 
-pub repeated-push : (done : List Entry) (x : Entry) → repeated (done ++ x ∷ []) ≡ cond (eqb (length (offsets_of done x.key)) 1) (repeated done ++ x.key ∷ []) (repeated done)
-unfolding repeated
-repeated-push done x =
-    ap (λ t. map key_of (filter is_first_repeat t)) (with_prefixes-push done x)
-    ∙ ap (map key_of) (filter-append is_first_repeat (with_prefixes done) ((done, x) ∷ []))
-    ∙ map-append key_of (filter is_first_repeat (with_prefixes done)) (filter is_first_repeat ((done, x) ∷ []))
-    ∙ go (is_first_repeat (done, x))
-  where
-    key_of : List Entry × Entry → List ℕ
-    key_of x = x.1.key
-
-    go : (again : Bool) → repeated done ++ map key_of (cond again ((done, x) ∷ []) []) ≡ cond again (repeated done ++ x.key ∷ []) (repeated done)
-    go true = refl
-    go false = append-nil _
+pub repeats-push : (done : List Entry) (x : Entry) → repeats (done ++ x ∷ []) ≡ cond (eqb (length (spans_of done x.key)) 1) (repeats done ++ x.key ∷ []) (repeats done)
+repeats-push done x =
+    ap (repeated bytes_eq) (map-append (λ (e : Entry). e.key) done (x ∷ [])) ∙ repeated-push bytes_eq (keys_of done) x.key
+    ∙ ap (λ n. cond (eqb n 1) (repeats done ++ x.key ∷ []) (repeats done)) (count-map bytes_eq (λ (e : Entry). e.key) (λ (e : Entry). e.key_span) x.key done)
 
 -- the spans and the repeated keys of the entries so far
 pub record InOffsets (done : List Entry) (offsets : BTreeMap (Bor (List ℕ)) (Vec Span Global)) (again : List (Bor (List ℕ))) : Type 0 where
-  pub spans : (key : List ℕ) → spans_at offsets key ≡ offsets_of done key
-  pub keys : map (λ (key : Bor (List ℕ)). key.now) again ≡ repeated done
+  pub spans : (key : List ℕ) → spans_at offsets key ≡ spans_of done key
+  pub keys : map (λ (key : Bor (List ℕ)). key.now) again ≡ repeats done
 
 pub offsets_start : (offsets : BTreeMap (Bor (List ℕ)) (Vec Span Global)) (again : List (Bor (List ℕ))) → offsets.entries ≡ [] → again ≡ [] → InOffsets [] offsets again
-unfolding repeated
 offsets_start offsets again none nobody = record {
   spans = λ key. ap (λ es. option_map_or (λ (spans : Vec Span Global). spans.items) (lookup (is_at (λ (k : Bor (List ℕ)). slice_cmp nat_cmp key k.now)) es) []) none;
-  keys = ap (map (λ (key : Bor (List ℕ)). key.now)) nobody;
+  keys = ap (map (λ (key : Bor (List ℕ)). key.now)) nobody ∙ sym (repeated-none bytes_eq);
 }
 
 module _ (done : List Entry) (offsets : BTreeMap (Bor (List ℕ)) (Vec Span Global)) (again : List (Bor (List ℕ))) (so_far : InOffsets done offsets again)
     (x : Entry) (key : Bor (List ℕ)) (is : key.now ≡ x.key) (grown : BTreeMap (Bor (List ℕ)) (Vec Span Global))
     (noted : (other : List ℕ) → spans_at grown other ≡ cond (bytes_eq key.now other) (spans_at offsets other ++ x.key_span ∷ []) (spans_at offsets other))
     (all : List Entry) (all_are : all ≡ done ++ x ∷ []) where
-  offsets_on : (other : List ℕ) → spans_at grown other ≡ offsets_of (done ++ x ∷ []) other
+  offsets_on : (other : List ℕ) → spans_at grown other ≡ spans_of (done ++ x ∷ []) other
   offsets_on other = noted other
       ∙ (λ i. cond (bytes_eq (is i) other) (so_far.spans other i ++ x.key_span ∷ []) (so_far.spans other i))
-      ∙ sym (offsets_of-push done x other)
+      ∙ sym (spans_of-push done x other)
 
-  counted : eqb (length (spans_at offsets key.now)) 1 ≡ eqb (length (offsets_of done x.key)) 1
-  counted = ap (λ ps. eqb (length ps) 1) (so_far.spans key.now) ∙ ap (λ k. eqb (length (offsets_of done k)) 1) is
+  counted : eqb (length (spans_at offsets key.now)) 1 ≡ eqb (length (spans_of done x.key)) 1
+  counted = ap (λ ps. eqb (length ps) 1) (so_far.spans key.now) ∙ ap (λ k. eqb (length (spans_of done k)) 1) is
 
   pub offsets_again : eqb (length (spans_at offsets key.now)) 1 ≡ true → (more : List (Bor (List ℕ))) → more ≡ again ++ key ∷ [] → InOffsets all grown more
   offsets_again second more e = subst (λ d. InOffsets d grown more) (sym all_are) (record {
     spans = offsets_on;
     keys = ap (map (λ (key : Bor (List ℕ)). key.now)) e ∙ map-append (λ (key : Bor (List ℕ)). key.now) again (key ∷ [])
         ∙ (λ i. so_far.keys i ++ is i ∷ [])
-        ∙ sym (repeated-push done x ∙ ap (λ b. cond b (repeated done ++ x.key ∷ []) (repeated done)) (sym counted ∙ second));
+        ∙ sym (repeats-push done x ∙ ap (λ b. cond b (repeats done ++ x.key ∷ []) (repeats done)) (sym counted ∙ second));
   })
 
   pub offsets_once : eqb (length (spans_at offsets key.now)) 1 ≡ false → (more : List (Bor (List ℕ))) → more ≡ again → InOffsets all grown more
   offsets_once other more e = subst (λ d. InOffsets d grown more) (sym all_are) (record {
     spans = offsets_on;
     keys = ap (map (λ (key : Bor (List ℕ)). key.now)) e ∙ so_far.keys
-        ∙ sym (repeated-push done x ∙ ap (λ b. cond b (repeated done ++ x.key ∷ []) (repeated done)) (sym counted ∙ other));
+        ∙ sym (repeats-push done x ∙ ap (λ b. cond b (repeats done ++ x.key ∷ []) (repeats done)) (sym counted ∙ other));
   })
 
 -- the entries up to one more
@@ -128,7 +110,7 @@ one_more_error offsets keys key old locations new so_far e at =
 
 -- the errors for all repeated keys
 module _ (entries : List Entry) (offsets : BTreeMap (Bor (List ℕ)) (Vec Span Global)) (keys : List (Bor (List ℕ)))
-    (spans : (key : List ℕ) → spans_at offsets key ≡ offsets_of entries key) (again : map (λ (key : Bor (List ℕ)). key.now) keys ≡ repeated entries) where
+    (spans : (key : List ℕ) → spans_at offsets key ≡ spans_of entries key) (again : map (λ (key : Bor (List ℕ)). key.now) keys ≡ repeats entries) where
   all_errors : map (λ (key : Bor (List ℕ)). duplicate_at offsets key.now) keys ≡ duplicate_errors entries
   unfolding duplicate_errors
   all_errors = go keys ∙ ap (map (duplicate_error entries)) again

@@ -10,7 +10,8 @@ use Rattle.constructs.proofs.Agree.{agree}
 use Rattle.constructs.proofs.Keeps.{Keeps, keeps}
 use Rattle.cfgwords.specs.SectionWords.{ascii_characters, wide_characters}
 use Rattle.cfgerrors.specs.HeaderErrors.{ShownError}
-use Rattle.cfgsection.specs.SectionErrors.{duplicate_errors, repeated}
+use Rattle.cfgsection.specs.SectionErrors.{duplicate_errors}
+use Rattle.lemmas.specs.Lists.{repeated}
 use Rattle.cfgsection.specs.SectionGrammar.{Entry, Fault, Turn, one_of, wide_character, white_character, white, missing, section}
 use Rattle.cfgsection.specs.SectionReads.{end_of, section_answer, section_of}
 

@@ -1,14 +1,11 @@
 -- Each error of a text has a span, and its spans begin and end at character boundaries of the text.
-use Rattle.std.proofs.Common.{◌≡◌, ℕ, ◌<◌, Bool, true, false, cond, not, ◌||◌, List, [], ◌∷◌, ◌++◌, map, filter, length, All, get_or, slice_get, option_map, Option, Some, None, Ok, Err, Result, sym, subst, arith, true≢false, if◌then◌else◌}
-use Rattle.std.specs.List.{list_any}
+use Rattle.std.proofs.Common.{◌≡◌, ℕ, ◌<◌, Bool, true, false, not, ◌||◌, List, [], ◌∷◌, ◌++◌, map, length, All, get_or, slice_get, option_map, Option, Some, None, Ok, Err, Result, sym, subst, arith, if◌then◌else◌}
 use Rattle.std.specs.Prelude.{IfSome}
 use Rattle.std.specs.Option.{option_or, option_and_then, option_to_list}
 use Rattle.std.specs.Str.{IsUtf8, IsCharBoundary}
 use Rattle.std.proofs.lemmas.Str.{IsCharBoundary-start}
-use Rattle.std.proofs.lemmas.List.{length-map}
 use Rattle.std.proofs.lemmas.List.Elements.{All-nil, All-cons, All-head, All-tail, All-append, All-map, All-filter, All-weaker}
-use Rattle.std.proofs.lemmas.List.Folds.{list_any_at}
-use Rattle.lemmas.proofs.Prefixes.{All-with_prefixes}
+use Rattle.lemmas.proofs.Repeats.{count-map, repeated-some}
 use Rattle.lemmas.proofs.Options.{All-slice_get, All-option_to_list}
 use Rattle.cfgbase.specs.declared.span.Span.{Span}
 use Rattle.constructs.specs.Read.{stop_of}
@@ -18,10 +15,9 @@ use Rattle.cfgwords.specs.FileWords.{Word}
 use Rattle.cfgwords.proofs.Cuts.{IsCut, cut_here}
 use Rattle.cfgast.specs.Items.{Item}
 use Rattle.cfgast.specs.Building.{has_entry, has_name, has_rule}
-use Rattle.cfgast.specs.Occurrences.{Unique, Occurrence}
-use Rattle.cfgast.specs.Syntax.{each_once}
-use Rattle.cfgtree.specs.Duplicates.{is_same, repeats, offsets_of, duplicates}
-use Rattle.cfgtree.proofs.Repeats.{is_same_equivalence}
+use Rattle.cfgast.specs.Occurrences.{Occurrence}
+use Rattle.cfgtree.specs.Duplicates.{declared_by, duplicates, is_same, spans_of}
+use Rattle.cfgtree.proofs.Repeats.{is_same_equivalence, repeats}
 use Rattle.cfgast.specs.Syntax.{Symbol, RuleSymbol, TokenSymbol, EachProductionSpan, EachSpan, symbol_word, Production, Rule, Syntax, syntax_of}
 use Rattle.cfgkinds.specs.declared.kind.YaccKind.{YaccKind}
 use Rattle.cfgerrors.specs.HeaderErrors.{ShownError}
@@ -55,36 +51,6 @@ IsStopAt text (Some (InFile fault)) = IsPiece text fault.span
 file_stop_at : (text : List ℕ) (fault : Option Fault) → IfSome fault (λ f. IsPiece text f.span) → IsStopAt text (option_map InFile fault)
 file_stop_at text None h = tt
 file_stop_at text (Some fault) h = h
-
--- What is declared again has a span.
-
-filter_some : {A : Type 0} (p : A → Bool) (xs : List A) → list_any p xs ≡ true → 0 < length (filter p xs)
-filter_some p [] found = absurd (true≢false (sym found))
-filter_some {A} p (x ∷ xs) found = go (p x) found (filter_some p xs)
-  where
-    go : (here : Bool) → (here || list_any p xs) ≡ true → (list_any p xs ≡ true → 0 < length (filter p xs)) → 0 < length (cond here (x ∷ filter p xs) (filter p xs))
-    go true found rest = omega arith
-    go false found rest = rest found
-
-each_once_all : {A : Type 0} (same : A → A → Bool) (P : A → Type 0) (xs : List A) → All P xs → All P (each_once same xs)
-each_once_all same P xs all =
-    All-map P (λ x. x.1) _ (All-filter _ (λ x. P x.1) _ (All-with_prefixes (λ x. P x.1) P (λ prefix x h. h) xs all))
-
-abbrev IsLocated : List Occurrence → Unique → Type 0
-IsLocated occurrences what = 0 < length (offsets_of occurrences what)
-
-repeats_located : (occurrences : List Occurrence) → All (IsLocated occurrences) (repeats occurrences)
-unfolding repeats
-repeats_located occurrences =
-    All-map (IsLocated occurrences) (λ x. x.1.what) _ (All-filter _ (λ x. IsLocated occurrences x.1.what) _
-    (All-with_prefixes (λ x. IsLocated occurrences x.1.what) (λ o. IsLocated occurrences o.what) (λ prefix o h. h) occurrences located))
-  where
-    located : All (λ o. IsLocated occurrences o.what) occurrences
-    located k d within =
-        let o = get_or occurrences k d in
-        let is = λ (other : Occurrence). is_same other.what o.what in
-        subst (λ n. 0 < n) (sym (length-map (filter is occurrences) (λ (o : Occurrence). o.span)))
-        (filter_some is occurrences (list_any_at is occurrences k d within (is_same_equivalence.refl o.what)))
 
 -- The first of several errors.
 
@@ -173,10 +139,11 @@ module _ (text : List ℕ) where
   unfolding duplicates
   duplicates_at occurrences h =
       All-map (IsErrorAt text) duplicate_error (duplicates occurrences)
-      (All-map (λ d. IsErrorAt text (duplicate_error d)) (λ what. record { what = what; spans = offsets_of occurrences what }) (each_once is_same (repeats occurrences))
+      (All-map (λ d. IsErrorAt text (duplicate_error d)) (λ what. record { what = what; spans = spans_of occurrences what }) (repeats occurrences)
       (λ k d lt. record {
-        some = each_once_all is_same (IsLocated occurrences) (repeats occurrences) (repeats_located occurrences) k d lt;
-        each = All-map (IsPiece text) (λ o. o.span) _ (All-filter (λ o. is_same o.what (get_or (each_once is_same (repeats occurrences)) k d)) (λ o. IsPiece text o.span) occurrences h);
+        some = subst (λ n. 0 < n) (count-map is_same (λ (o : Occurrence). o.what) (λ (o : Occurrence). o.span) (get_or (repeats occurrences) k d) occurrences)
+            (repeated-some is_same is_same_equivalence (declared_by occurrences) k d lt);
+        each = All-map (IsPiece text) (λ o. o.span) _ (All-filter (λ o. is_same o.what (get_or (repeats occurrences) k d)) (λ o. IsPiece text o.span) occurrences h);
       }))
 
   ended_at : {A : Type 0} (T : List ℕ → Type 0) (S : Fault → Type 0) (Q : A → Type 0) (o : Result (A × List ℕ) Fault) → EndsIn T S Q o → IfSome (stop_of o) S

@@ -122,7 +122,8 @@ fn write_requested<W: Sink>(
 ) -> Result<Outcome, ReportFault>
     requires { W.faults_counted out.old < 2 ^ 64 - 1 }
     ensures reported { (found : Found) × IsFound kind text.now found
-        × Reports (AreRequestedLines request.entry text.now) text.now found (W.written out.old) (W.written out.new) result }
+        × Reports (AreRequestedLines request.entry text.now) text.now found
+        (W.written out.old) (W.written out.new) result }
     ensures faults { W.faults_counted out.new ≡ W.faults_counted out.old + faults_met result }
     ensures untouched { IsErrOf result variants.OutOfMemory → out.new ≡ out.old }
 {

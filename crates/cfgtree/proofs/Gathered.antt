@@ -6,23 +6,23 @@ use Rattle.std.specs.Map.{lookup, set_value, keys_of}
 use Rattle.cfgbase.specs.declared.span.Span.{Span}
 use Rattle.cfgast.specs.declared.occurrence.Unique.{Unique as CodeUnique}
 use Rattle.cfgast.specs.Occurrences.{Unique, Occurrence}
-use Rattle.cfgtree.specs.Duplicates.{Duplicate, is_same, offsets_of}
+use Rattle.cfgtree.specs.Duplicates.{Duplicate, is_same, spans_of}
 use Rattle.cfgtree.specs.TreeView.{duplicate_view}
-use Rattle.cfgtree.proofs.Repeats.{is_same_equivalence, key_view, same_key, same_shown, offsets_of-push}
+use Rattle.cfgtree.proofs.Repeats.{is_same_equivalence, key_view, same_key, same_shown, spans_of-push}
 use Rattle.cfgast.proofs.Written.{changed-absent, changed-set_value}
 
 -- with its spans so far, and one more if the occurrence is of the same
 abbrev pub located : List Occurrence → Unique → Duplicate
-located done what = record { what = what; spans = offsets_of done what }
+located done what = record { what = what; spans = spans_of done what }
 
 abbrev pub longer : Occurrence → Duplicate → Duplicate
 longer o d = cond (is_same o.what d.what) (record d { spans = d.spans ++ o.span ∷ [] }) d
 
 located-push : (done : List Occurrence) (o : Occurrence) (us : List Unique) → map (longer o) (map (located done) us) ≡ map (located (done ++ o ∷ [])) us
 located-push done o [] = refl
-located-push done o (u ∷ us) = λ i. (go (is_same o.what u) ∙ ap (λ spans. record { what = u; spans = spans }) (sym (offsets_of-push done o u))) i ∷ located-push done o us i
+located-push done o (u ∷ us) = λ i. (go (is_same o.what u) ∙ ap (λ spans. record { what = u; spans = spans }) (sym (spans_of-push done o u))) i ∷ located-push done o us i
   where
-    go : (b : Bool) → cond b (record { what = u; spans = offsets_of done u ++ o.span ∷ [] }) (located done u) ≡ record { what = u; spans = cond b (offsets_of done u ++ o.span ∷ []) (offsets_of done u) }
+    go : (b : Bool) → cond b (record { what = u; spans = spans_of done u ++ o.span ∷ [] }) (located done u) ≡ record { what = u; spans = cond b (spans_of done u ++ o.span ∷ []) (spans_of done u) }
     go true = refl
     go false = refl
 

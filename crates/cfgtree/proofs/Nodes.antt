@@ -16,7 +16,7 @@ use Rattle.search.proofs.Reaching.{reaches_as, reaches_known, reaches_then}
 use Rattle.cfgbase.specs.declared.span.Span.{Span}
 use Rattle.cfgast.specs.Syntax.{Syntax, Rule, entry_name}
 use Rattle.cfgtree.specs.Unused.{Name, RuleName, TokenName, Holds, IsReachable, IsStart, Leads, Expected, implicit, name_of, entry_token, named as expected_name}
-use Rattle.cfgtree.specs.Inner.Nodes.{nodes, IsNodeOf, HeldAt, Knows, LeadsTo}
+use Rattle.cfgtree.specs.Inner.Nodes.{nodes, IsNodeOf, HeldAt, Knows, IsEdge}
 
 -- the elements of the second of two lists
 after : {A : Type 0} (xs ys : List A) (n i : ℕ) → n ≡ length xs + i → slice_get (xs ++ ys) n ≡ slice_get ys i
@@ -89,14 +89,14 @@ module _ (s : Syntax) where
       (position_or_len (bytes_eq name) (map entry_name s.rules), first_position (bytes_eq name) (map entry_name s.rules) known)
 
   module _ (Seed : ℕ → Type 0) (seeds : (n : ℕ) → (Seed n ↔ ((name : Name) × IsStart s name × IsNodeOf s name n))) where
-    pub name_reachable : {n : ℕ} → Reachable Seed (LeadsTo s) n → (name : Name) × (slice_get (nodes s) n ≡ Some name) × IsReachable s name
+    pub name_reachable : {n : ℕ} → Reachable Seed (IsEdge s) n → (name : Name) × (slice_get (nodes s) n ≡ Some name) × IsReachable s name
     name_reachable (seed {a = n} h) = let k = (seeds n).0 h in (k.0, named k.0 n k.2, seed k.1)
     name_reachable (led {a = m} {b = n} r h) =
         let k = name_reachable r in
         let from = subst (λ name. Leads s name h.to) (same_Some _ _ (sym h.there ∙ k.1)) h.leads in
         (h.to, named h.to n h.is, led k.2 from)
 
-    pub node_reachable : {name : Name} → IsReachable s name → (n : ℕ) → IsNodeOf s name n → Reachable Seed (LeadsTo s) n
+    pub node_reachable : {name : Name} → IsReachable s name → (n : ℕ) → IsNodeOf s name n → Reachable Seed (IsEdge s) n
     node_reachable (seed {a = name} h) n is = seed ((seeds n).1 (name, h, is))
     node_reachable (led {a = RuleName rule} {b = name} r h) n is =
         let at = rule_node rule h.head h.named in
@@ -138,8 +138,8 @@ module _ (s : Syntax) where
 
   -- what the productions of a node's rule hold is what the node leads to
   pub leads_to : (node : ℕ) (name : List ℕ) (head : Rule) (old new : SearchState) → slice_get (nodes s) node ≡ Some (RuleName name)
-      → lookup (bytes_eq name) s.rules ≡ Some head → Reaches (FoundBy (HeldAt s) head.productions) old new → Reaches (LeadsTo s node) old new
-  leads_to node name head old new at found w = reaches_as _ (LeadsTo s node) old new
+      → lookup (bytes_eq name) s.rules ≡ Some head → Reaches (FoundBy (HeldAt s) head.productions) old new → Reaches (IsEdge s node) old new
+  leads_to node name head old new at found w = reaches_as _ (IsEdge s node) old new
       (λ n h. record {
         from = RuleName name;
         there = at;
@@ -166,7 +166,7 @@ module _ (s : Syntax) where
       }
 
   -- a token leads to nothing
-  pub leads_nowhere : (node : ℕ) (x : SearchState) → slice_get s.rules node ≡ None → Reaches (LeadsTo s node) x x
+  pub leads_nowhere : (node : ℕ) (x : SearchState) → slice_get s.rules node ≡ None → Reaches (IsEdge s node) x x
   leads_nowhere node x none = reaches_known _ x (λ n h. absurd (nothing h.from h.there h.to h.leads))
     where
       nothing : (from : Name) → slice_get (nodes s) node ≡ Some from → (to : Name) → Leads s from to → ⊥
@@ -185,7 +185,7 @@ module _ (s : Syntax) where
   -- names that differ from each other are known as their nodes are
   pub knows : IsDistinct bytes_eq (map entry_name s.rules) → IsDistinct bytes_eq s.tokens → (Seed : ℕ → Type 0)
       → ((n : ℕ) → (Seed n ↔ ((name : Name) × IsStart s name × IsNodeOf s name n))) → (mid new : SearchState) → length mid.reachable ≡ length (nodes s)
-      → ((n : ℕ) → (IsReachableIn mid n ↔ Reachable Seed (LeadsTo s) n)) → Reaches ExpectedNode mid new → Knows s new
+      → ((n : ℕ) → (IsReachableIn mid n ↔ Reachable Seed (IsEdge s) n)) → Reaches ExpectedNode mid new → Knows s new
   knows rules tokens Seed seeds mid new long found w = record {
     shape = w.shape ∙ long;
     each = λ node name at. (

@@ -8,9 +8,8 @@ use Rattle.std.specs.Option.{option_eq, option_map}
 use Rattle.std.specs.Str.{bytes_eq}
 use Rattle.std.proofs.lemmas.Cmp.{and_equiv, nat_list_eq_equiv, on_equiv}
 use Rattle.std.proofs.lemmas.List.{map-append, take_more}
-use Rattle.lemmas.specs.Lists.{with_prefixes, pushed_unless}
-use Rattle.lemmas.proofs.Prefixes.{with_prefixes-push}
-use Rattle.lemmas.proofs.Tests.{list_any-map}
+use Rattle.lemmas.specs.Lists.{pushed_unless, repeated}
+use Rattle.lemmas.proofs.Repeats.{filtered-push, repeated-none, repeated-unless}
 use Rattle.indexmap.specs.IndexMap.{insert_entry}
 use Rattle.indexmap.specs.IndexSet.{insert_key}
 use Rattle.cfgbase.specs.declared.span.Span.{Span}
@@ -21,10 +20,10 @@ use Rattle.cfgast.specs.contracts.occurrence.UniqueKindEq.TheImpl.Laws.{laws-law
 use Rattle.cfgast.specs.contracts.occurrence.UniquePartialEq.TheImpl.{ghosts as uniques}
 use Rattle.cfgast.specs.Occurrences.{Unique, Occurrence}
 use Rattle.cfgast.specs.Syntax.{each_once}
-use Rattle.cfgtree.specs.Duplicates.{Duplicate, is_same, is_repeat, repeats, offsets_of}
+use Rattle.cfgtree.specs.Duplicates.{Duplicate, declared_by, is_same, spans_of}
 use Rattle.cfgast.specs.SyntaxView.{unique_view, occurrence_view}
 use Rattle.cfgtree.specs.TreeView.{duplicate_view}
-use Rattle.cfgast.proofs.Once.{filtered-push, each_once-push, known_once, key_known, key_inserted}
+use Rattle.cfgast.proofs.Once.{key_known, key_inserted}
 
 pub is_same_equivalence : IsEquivalence is_same
 is_same_equivalence = and_equiv (on_equiv (λ u. u.kind) laws-law) (on_equiv (λ u. u.token) (options_equiv nat_list_eq_equiv))
@@ -44,18 +43,8 @@ same_shown x y = ap (λ b. kinds.eq x.now.kind y.now.kind && b) (go x.now.token 
     go (Some a) None = refl
     go (Some a) (Some b) = refl
 
-abbrev pub whats : List Occurrence → List Unique
-whats occurrences = map (λ o. o.what) occurrences
-
-pub repeats-push : (done : List Occurrence) (o : Occurrence) → repeats (done ++ o ∷ []) ≡ cond (list_any (is_same o.what) (whats done)) (repeats done ++ o.what ∷ []) (repeats done)
-unfolding repeats
-repeats-push done o =
-    ap (λ t. map (λ (x : List Occurrence × Occurrence). x.1.what) (filter is_repeat t)) (with_prefixes-push done o)
-    ∙ filtered-push (λ (x : List Occurrence × Occurrence). x.1.what) is_repeat (with_prefixes done) (done, o)
-    ∙ ap (λ b. cond b (repeats done ++ o.what ∷ []) (repeats done)) (sym (list_any-map (is_same o.what) (λ (o : Occurrence). o.what) done))
-
-pub offsets_of-push : (done : List Occurrence) (o : Occurrence) (what : Unique) → offsets_of (done ++ o ∷ []) what ≡ cond (is_same o.what what) (offsets_of done what ++ o.span ∷ []) (offsets_of done what)
-offsets_of-push done o what = filtered-push (λ (o : Occurrence). o.span) (λ o. is_same o.what what) done o
+pub spans_of-push : (done : List Occurrence) (o : Occurrence) (what : Unique) → spans_of (done ++ o ∷ []) what ≡ cond (is_same o.what what) (spans_of done what ++ o.span ∷ []) (spans_of done what)
+spans_of-push done o what = filtered-push (λ (o : Occurrence). o.span) (λ o. is_same o.what what) done o
 
 -- what is declared more than once, without spans yet
 abbrev pub bare : Unique → Duplicate
@@ -86,41 +75,44 @@ module _ (k : Bor CodeUnique) (none : Vec Span Global) (empty : none.items ≡ [
       go true false same here there rest = cc
       go false true same here there rest = cc
 
+abbrev pub repeats : List Occurrence → List Unique
+repeats occurrences = repeated is_same (declared_by occurrences)
+
 -- The keys of what was declared so far, and the entries of what was declared again.
 pub record InRepeats (done : List Occurrence) (keys : List (Bor CodeUnique)) (entries : List (Bor CodeUnique × Vec Span Global)) : Type 0 where
-  pub declared : map key_view keys ≡ each_once is_same (whats done)
-  pub found : map duplicate_view entries ≡ map bare (each_once is_same (repeats done))
+  pub declared : map key_view keys ≡ each_once is_same (declared_by done)
+  pub found : map duplicate_view entries ≡ map bare (repeats done)
 
 pub repeats_start : (keys : List (Bor CodeUnique)) (entries : List (Bor CodeUnique × Vec Span Global)) → keys ≡ [] → entries ≡ [] → InRepeats [] keys entries
-unfolding repeats
-repeats_start keys entries no_keys no_entries = record { declared = ap (map key_view) no_keys; found = ap (map duplicate_view) no_entries }
+repeats_start keys entries no_keys no_entries = record {
+  declared = ap (map key_view) no_keys;
+  found = ap (map duplicate_view) no_entries ∙ ap (map bare) (sym (repeated-none is_same));
+}
 
 module _ (done : List Occurrence) (keys more : List (Bor CodeUnique)) (entries : List (Bor CodeUnique × Vec Span Global)) (so_far : InRepeats done keys entries)
     (o : Occurrence) (k : Bor CodeUnique) (is : key_view k ≡ o.what) (inserted : more ≡ insert_key same_key keys k)
     (all : List Occurrence) (all_are : all ≡ done ++ o ∷ []) (grown : List (Bor CodeUnique × Vec Span Global)) where
-  declared_on : map key_view more ≡ each_once is_same (whats (done ++ o ∷ []))
-  declared_on = ap (map key_view) inserted ∙ key_inserted same_key is_same is_same_equivalence key_view same_shown k keys (whats done) so_far.declared
-      ∙ ap (λ what. each_once is_same (whats done ++ what ∷ [])) is ∙ ap (each_once is_same) (sym (map-append (λ (o : Occurrence). o.what) done (o ∷ [])))
+  declared_on : map key_view more ≡ each_once is_same (declared_by (done ++ o ∷ []))
+  declared_on = ap (map key_view) inserted ∙ key_inserted same_key is_same is_same_equivalence key_view same_shown k keys (declared_by done) so_far.declared
+      ∙ ap (λ what. each_once is_same (declared_by done ++ what ∷ [])) is ∙ ap (each_once is_same) (sym (map-append (λ (o : Occurrence). o.what) done (o ∷ [])))
 
-  known : (b : Bool) → list_any (same_key k) keys ≡ b → repeats (done ++ o ∷ []) ≡ cond b (repeats done ++ o.what ∷ []) (repeats done)
-  known b e = repeats-push done o ∙ ap (λ b. cond b (repeats done ++ o.what ∷ []) (repeats done))
-      (ap (λ what. list_any (is_same what) (whats done)) (sym is) ∙ sym (key_known same_key is_same is_same_equivalence key_view same_shown k keys (whats done) so_far.declared) ∙ e)
+  known : (b : Bool) → list_any (same_key k) keys ≡ b
+      → repeats (done ++ o ∷ []) ≡ cond b (pushed_unless (list_any (is_same o.what) (repeats done)) (repeats done) o.what) (repeats done)
+  known b e = ap (repeated is_same) (map-append (λ (o : Occurrence). o.what) done (o ∷ [])) ∙ repeated-unless is_same is_same_equivalence (declared_by done) o.what b
+      (ap (λ what. list_any (is_same what) (declared_by done)) (sym is) ∙ sym (key_known same_key is_same is_same_equivalence key_view same_shown k keys (declared_by done) so_far.declared) ∙ e)
 
   pub repeats_first : list_any (same_key k) keys ≡ false → grown ≡ entries → InRepeats all more grown
   repeats_first new e = subst (λ d. InRepeats d more grown) (sym all_are) (record {
     declared = declared_on;
-    found = ap (map duplicate_view) e ∙ so_far.found ∙ ap (λ us. map bare (each_once is_same us)) (sym (known false new));
+    found = ap (map duplicate_view) e ∙ so_far.found ∙ ap (map bare) (sym (known false new));
   })
 
   pub repeats_again : list_any (same_key k) keys ≡ true → (none : Vec Span Global) → none.items ≡ []
       → grown ≡ insert_entry same_key entries k none → InRepeats all more grown
   repeats_again again none empty e = subst (λ d. InRepeats d more grown) (sym all_are) (record {
     declared = declared_on;
-    found = ap (map duplicate_view) e ∙ insert_bare k none empty entries (each_once is_same (repeats done)) so_far.found
-        ∙ (λ i. map bare (pushed_unless (known_once is_same is_same_equivalence (key_view k) (repeats done) i) (each_once is_same (repeats done)) (key_view k)))
-        ∙ ap (map bare) (sym (each_once-push is_same (repeats done) (key_view k)))
-        ∙ ap (λ what. map bare (each_once is_same (repeats done ++ what ∷ []))) is
-        ∙ ap (λ us. map bare (each_once is_same us)) (sym (known true again));
+    found = ap (map duplicate_view) e ∙ insert_bare k none empty entries (repeats done) so_far.found
+        ∙ ap (λ what. map bare (pushed_unless (list_any (is_same what) (repeats done)) (repeats done) what)) is ∙ ap (map bare) (sym (known true again));
   })
 
 -- the occurrences up to one more

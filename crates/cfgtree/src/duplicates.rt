@@ -1,8 +1,8 @@
 //! What a file declares more than once, though it may declare it only once.
 
 ghost use Rattle.std.specs.Prelude.{◌≡◌, [], map, IfOk};
-ghost use Rattle.cfgast.specs.Syntax.{each_once};
-ghost use Rattle.cfgtree.specs.Duplicates.{is_same, repeats, duplicates};
+ghost use Rattle.lemmas.specs.Lists.{repeated};
+ghost use Rattle.cfgtree.specs.Duplicates.{declared_by, duplicates, is_same};
 ghost use Rattle.cfgast.specs.SyntaxView.{occurrence_view};
 ghost use Rattle.cfgtree.specs.TreeView.{duplicate_view};
 
@@ -39,7 +39,7 @@ fn repeated(
 ) -> Result<IndexMap<&Unique, Vec<Span>>, AllocError>
     ensures { IfOk result (λ found. map duplicate_view found.entries
         ≡ map (λ what. record { what = what; spans = [] })
-        (each_once is_same (repeats (map occurrence_view occurrences.now)))) }
+        (repeated is_same (declared_by (map occurrence_view occurrences.now)))) }
 {
     let mut declared = IndexSet::with_capacity(alloc, occurrences.len())?;
     let mut again = IndexMap::new(alloc);

@@ -186,12 +186,12 @@ impl GrammarAST {
 // Rules lead to what their productions hold, and tokens to nothing.
 impl Edges<Bits> for GrammarAST {
     ghost use Rattle.std.specs.Prelude.{length};
-    ghost use Rattle.cfgtree.specs.Inner.Nodes.{nodes, LeadsTo};
+    ghost use Rattle.cfgtree.specs.Inner.Nodes.{nodes, IsEdge};
     ghost use Rattle.cfgtree.specs.TreeView.{syntax};
 
     ghost nodes = { λ tree. length (nodes (syntax tree)) };
 
-    ghost leads = { λ tree. LeadsTo (syntax tree) };
+    ghost leads = { λ tree. IsEdge (syntax tree) };
 
     fn reach_from(&self, node: usize, search: &mut Search) -> Result<(), AllocError> {
         match self.syntax.rules.get_index(node) {

@@ -9,7 +9,7 @@ use Rattle.cfgtables.specs.Openings.{nth_production}
 use Rattle.cfgleast.specs.Certificate.{choice_of, rule_choice}
 use Rattle.cfgchoices.specs.Inner.Choices.{ChoicesGive}
 use Rattle.cfgleast.specs.Generator.{CostTables, IsGenerator, cost_answer}
-use Rattle.cfgchoices.specs.Inner.Kinds.{IsBaseProduction, IsTarget, IsOptimal, positions_of}
+use Rattle.cfgchoices.specs.Inner.Kinds.{IsBaseProduction, IsTarget, IsOptimal, production_numbers}
 use Rattle.cfgchoices.specs.FirstSentence.{lexicographic}
 use Rattle.cfgchoices.specs.declared.kinds.Kind.{Kind}
 use Rattle.cfgchoices.specs.declared.kinds.Kind.TheVariants.{Suboptimal}
@@ -22,8 +22,8 @@ abbrev pub Choices : Type 0
 Choices = List (Option (ℕ × ℕ))
 
 -- the tables, but with these choices
-abbrev pub by : CostTables → Choices → CostTables
-by x l = record { grammar = x.grammar; costs = x.costs; least = x.least; choices = l }
+abbrev pub with_choices : CostTables → Choices → CostTables
+with_choices x l = record { grammar = x.grammar; costs = x.costs; least = x.least; choices = l }
 
 -- rule q costs nothing, so that it needs no choice, or has one with a number less than n
 abbrev pub IsReady : CostTables → Choices → ℕ → ℕ → Type 0
@@ -41,17 +41,16 @@ pub record Choosing (x : CostTables) (l : Choices) (n : ℕ) : Type 0 where
   pub count : count_by is_some l ≡ n
   pub each : (r p m : ℕ) → rule_choice l r ≡ Some (p, m) → IsChoice x l r p m × (m < n)
 
-abbrev pub steps_of : Grammar → ℕ → (Sym → ℕ) → Option (ℕ × ℕ) → ℕ
-steps_of g each f None = each
-steps_of g each f (Some choice) = sum_by f (nth_production g choice.0).symbols + each
+abbrev pub tree_size_of : Grammar → ℕ → (Sym → ℕ) → Option (ℕ × ℕ) → ℕ
+tree_size_of g each f None = each
+tree_size_of g each f (Some choice) = sum_by f (nth_production g choice.0).symbols + each
 
--- the steps that it takes to expand a symbol by the choices, nested at most n deep: 1 for a token; for a rule `each`, and the steps of the
--- symbols of its choice
-unfoldable pub steps : Grammar → Choices → ℕ → ℕ → Sym → ℕ
-steps g choices each zero (Token t) = 1
-steps g choices each zero (Rule r) = each
-steps g choices each (suc n) (Token t) = 1
-steps g choices each (suc n) (Rule r) = steps_of g each (steps g choices each n) (rule_choice choices r)
+-- the size of the tree that the choices give for a symbol, at most n choices deep: a token counts 1, and a rule `each`
+unfoldable pub tree_size : Grammar → Choices → ℕ → ℕ → Sym → ℕ
+tree_size g choices each zero (Token t) = 1
+tree_size g choices each zero (Rule r) = each
+tree_size g choices each (suc n) (Token t) = 1
+tree_size g choices each (suc n) (Rule r) = tree_size_of g each (tree_size g choices each n) (rule_choice choices r)
 
 -- R holds of each element and each later one
 abbrev pub IsInOrder : {X : Type 0} → (X → X → Type 0) → X → List X → Type 0
@@ -65,11 +64,11 @@ owner x p = (nth_production x.grammar p).rule
 
 -- what the choices give for symbols
 abbrev pub Gives : CostTables → Choices → List Sym → List ℕ → Type 0
-Gives x l = ChoicesGive (by x l)
+Gives x l = ChoicesGive (with_choices x l)
 
 -- what the choices give for the pending symbols: a stack, whose last symbol is expanded first
 abbrev pub Pends : CostTables → Choices → List Sym → List ℕ → Type 0
-Pends x l pending w = ChoicesGive (by x l) (reverse pending) w
+Pends x l pending w = ChoicesGive (with_choices x l) (reverse pending) w
 
 -- both lists of symbols begin with tokens, and `ordering` is how these two compare
 pub record FirstTokensAre (a b : List Sym) (ordering : Ordering) : Type 0 where
@@ -81,13 +80,13 @@ pub record FirstTokensAre (a b : List Sym) (ordering : Ordering) : Type 0 where
   pub second : b ≡ Token other ∷ others
   pub is : ordering ≡ nat_cmp one other
 
--- in how many steps the pending symbols are expanded
+-- the size of the trees of all pending symbols
 abbrev pub left_to_open : CostTables → Choices → List Sym → ℕ
-left_to_open x l pending = sum_by (steps x.grammar l 1 x.grammar.rules) pending
+left_to_open x l pending = sum_by (tree_size x.grammar l 1 x.grammar.rules) pending
 
 -- what the choices give for a isn't greater than what they give for b
 abbrev pub NotAfter : CostTables → Choices → List Sym → List Sym → Type 0
-NotAfter x l a b = (u v : List ℕ) → ChoicesGive (by x l) a u → ChoicesGive (by x l) b v → lexicographic u v ≡ Greater → ⊥
+NotAfter x l a b = (u v : List ℕ) → ChoicesGive (with_choices x l) a u → ChoicesGive (with_choices x l) b v → lexicographic u v ≡ Greater → ⊥
 
 abbrev pub HasChoice : Choices → ℕ → Type 0
 HasChoice l r = (choice : ℕ × ℕ) × (rule_choice l r ≡ Some choice)
@@ -95,13 +94,13 @@ HasChoice l r = (choice : ℕ × ℕ) × (rule_choice l r ≡ Some choice)
 -- the rule of production p has a choice, which gives nothing greater than p
 pub record IsDone (x : CostTables) (l : Choices) (p : ℕ) : Type 0 where
   pub chosen : HasChoice l (owner x p)
-  pub given : (w : List ℕ) × ChoicesGive (by x l) (sequence x p) w
+  pub given : (w : List ℕ) × ChoicesGive (with_choices x l) (sequence x p) w
   pub first : NotAfter x l (Rule (owner x p) ∷ []) (sequence x p)
 
 -- p and q are productions of one rule, and p gives nothing greater than q
 pub record GivesNoMore (x : CostTables) (l : Choices) (p q : ℕ) : Type 0 where
   pub same : owner x p ≡ owner x q
-  pub given : (w : List ℕ) × ChoicesGive (by x l) (sequence x q) w
+  pub given : (w : List ℕ) × ChoicesGive (with_choices x l) (sequence x q) w
   pub before : NotAfter x l (sequence x p) (sequence x q)
 
 -- a generator's tables, which rules have only one optimal production, and a number above all costs
@@ -135,18 +134,18 @@ abbrev pub IsOptimalByKind : {S : Type 0} → List (Kind S) → ℕ → Type 0
 IsOptimalByKind kinds p = (p < length kinds) × (slice_index_or kinds p Suboptimal ≡ Suboptimal → ⊥)
 
 -- the production's number
-abbrev pub position_of : {S : Type 0} → (S → ℕ) → Option (PIdx S) → Option ℕ
-position_of number None = None
-position_of number (Some p) = Some (number p.0)
+abbrev pub production_number : {S : Type 0} → (S → ℕ) → Option (PIdx S) → Option ℕ
+production_number number None = None
+production_number number (Some p) = Some (number p.0)
 
 -- The choices made so far, and their `number`; the cost of the current candidates; `ready`: those that are their rule's only optimal
--- production; `level`: the others; `foremost`: for each rule its candidate that gives the lexicographically first sentence.
+-- production; `sorted`: the others; `foremost`: for each rule its candidate that gives the lexicographically first sentence.
 pub record Candidates : Type 0 where
   pub choices : Choices
   pub number : ℕ
   pub cost : ℕ
   pub ready : List ℕ
-  pub level : List ℕ
+  pub sorted : List ℕ
   pub foremost : List (Option ℕ)
 
 abbrev pub candidates_of : {S : Type 0} → (S → ℕ) → Firsts S → Candidates
@@ -154,21 +153,21 @@ candidates_of number f = record {
   choices = map (choice_of number) f.choices.items;
   number = f.number;
   cost = f.cost;
-  ready = positions_of number f.ready.items;
-  level = positions_of number f.level.items;
-  foremost = map (position_of number) f.foremost.items;
+  ready = production_numbers number f.ready.items;
+  sorted = production_numbers number f.sorted.items;
+  foremost = map (production_number number) f.foremost.items;
 }
 
 -- the tables with these choices
 abbrev pub chosen_tables : CostTables → Candidates → CostTables
-chosen_tables x f = by x f.choices
+chosen_tables x f = with_choices x f.choices
 
 -- production p is a candidate and wasn't chosen or dropped yet
 abbrev pub Waits : Candidates → ℕ → Type 0
-Waits f p = Contains f.ready p ⊎ Contains f.level p
+Waits f p = Contains f.ready p ⊎ Contains f.sorted p
 
 abbrev pub waiting : Candidates → ℕ
-waiting f = length f.ready + length f.level
+waiting f = length f.ready + length f.sorted
 
 -- production q is done, or a candidate of its rule waits that gives nothing greater
 abbrev pub IsHandled : CostTables → Candidates → ℕ → Type 0
@@ -185,18 +184,18 @@ pub record IsCandidate (k : Known) (l : Choices) (n c p : ℕ) : Type 0 where
   pub ready : (q : ℕ) → Contains (sequence k.tables p) (Rule q) → IsReady k.tables l n q
   pub floor : IsFloor k l c p
 
--- the productions that wait are candidates, and `level` is in descending lexicographic order
-pub record Level (k : Known) (f : Candidates) : Type 0 where
+-- the productions that wait are candidates, and `sorted` is in descending lexicographic order
+pub record AreCandidates (k : Known) (f : Candidates) : Type 0 where
   pub choosing : Choosing k.tables f.choices f.number
   pub costs : (r : ℕ) → HasChoice f.choices r → (d : ℕ) × (cost_answer k.tables r ≡ Some d) × (d ≤ f.cost)
   pub nominated : (p : ℕ) → Waits f p → IsCandidate k f.choices f.number f.cost p
   pub sole : (p : ℕ) → Contains f.ready p → is_sole k (owner k.tables p) ≡ true
-  pub several : (p : ℕ) → Contains f.level p → is_sole k (owner k.tables p) ≡ false
-  pub order : IsInOrder (λ p q. NotAfter k.tables f.choices (sequence k.tables q) (sequence k.tables p)) 0 f.level
+  pub several : (p : ℕ) → Contains f.sorted p → is_sole k (owner k.tables p) ≡ false
+  pub order : IsInOrder (λ p q. NotAfter k.tables f.choices (sequence k.tables q) (sequence k.tables p)) 0 f.sorted
 
 -- a rule's foremost candidate waits, unless the rule has a choice
 pub record Nominating (k : Known) (f : Candidates) : Type 0 where
-  pub level : Level k f
+  pub candidates : AreCandidates k f
   pub listed : length f.foremost ≡ k.tables.grammar.rules
   pub foremost : (r p : ℕ) → slice_index_or f.foremost r None ≡ Some p → (owner k.tables p ≡ r) × (Waits f p ⊎ HasChoice f.choices r)
 
@@ -212,8 +211,8 @@ pub record IsNext (k : Known) (f : Candidates) (p : ℕ) : Type 0 where
 
 -- p, which can be chosen now, was removed from the candidates
 pub record Takes (k : Known) (p : ℕ) (f f' : Candidates) : Type 0 where
-  pub others : f' ≡ record { choices = f.choices; number = f.number; cost = f.cost; ready = f'.ready; level = f'.level; foremost = f.foremost }
-  pub level : Level k f'
+  pub others : f' ≡ record { choices = f.choices; number = f.number; cost = f.cost; ready = f'.ready; sorted = f'.sorted; foremost = f.foremost }
+  pub candidates : AreCandidates k f'
   pub next : IsNext k f' p
   pub waits : (q : ℕ) → Waits f q → Waits f' q ⊎ (q ≡ p)
   pub together : waiting f ≡ waiting f' + 1

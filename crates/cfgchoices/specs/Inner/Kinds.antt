@@ -7,7 +7,7 @@ use Rattle.cfgtables.specs.Openings.{nth_production}
 use Rattle.derivation.specs.Sums.{sum_of, symbol_cost}
 use Rattle.derivation.specs.CostLists.{rule_cost}
 use Rattle.cfgleast.specs.Generator.{CostTables, cost_answer, token_cost}
-use Rattle.cfgchoices.specs.Levels.{Along}
+use Rattle.cfgchoices.specs.Chains.{Along}
 use Rattle.cfgchoices.specs.declared.kinds.Kind.{Kind}
 use Rattle.cfgchoices.specs.declared.kinds.Kind.TheVariants.{Suboptimal, Base, ChainsTo}
 use Rattle.cfgindex.specs.declared.idxnewtype.RIdx.{RIdx}
@@ -66,8 +66,8 @@ pub record IsBaseBelow (x : CostTables) (r p : ℕ) : Type 0 where
   pub base : IsBaseProduction x p
 
 -- the numbers of productions
-abbrev pub positions_of : {S : Type 0} → (S → ℕ) → List (PIdx S) → List ℕ
-positions_of number productions = map (λ p. number p.0) productions
+abbrev pub production_numbers : {S : Type 0} → (S → ℕ) → List (PIdx S) → List ℕ
+production_numbers number productions = map (λ p. number p.0) productions
 
 -- each chain production in the list leads to a rule of the grammar
 abbrev pub HasRulesAsTargets : {S : Type 0} → (S → ℕ) → Grammar → List (Kind S) → Type 0

@@ -5,7 +5,7 @@ ghost use Rattle.std.specs.Prelude.{slice_index_or, true};
 ghost use Rattle.cfgchoices.specs.Inner.Kinds.{IsTarget};
 ghost use Rattle.cfgchoices.specs.Inner.Lists.{IsIn};
 ghost use Rattle.cfgchoices.specs.Inner.Candidates.{Adds, HandlesChains, HasList, IsDrained, IsHandled, IsKnown, IsCandidate};
-ghost use Rattle.cfgchoices.specs.Inner.Candidates.{Known, Level, NotAfter, Nominating};
+ghost use Rattle.cfgchoices.specs.Inner.Candidates.{Known, AreCandidates, NotAfter, Nominating};
 ghost use Rattle.cfgchoices.specs.Inner.Candidates.{Takes, is_sole, left_to_choose};
 ghost use Rattle.cfgchoices.specs.Inner.Candidates.{candidates_of, owner, sequence, waiting};
 
@@ -29,12 +29,12 @@ pub(crate) struct Firsts<S: Storage> {
     pub(crate) ready: Vec<PIdx<S>>,
     /// The other candidates, except those that gave no less than an earlier one of their rule, in descending
     /// lexicographic order.
-    pub(crate) level: VecDeque<PIdx<S>>,
-    /// For each rule the last candidate that was added to `level`.
+    pub(crate) sorted: VecDeque<PIdx<S>>,
+    /// For each rule the last candidate that was added to `sorted`.
     pub(crate) foremost: Vec<Option<PIdx<S>>>,
 }
 
-/// Which index of the range to probe next: the level's last, its first, and then the middle one.
+/// Which index of the range to probe next: its last, its first, and then the middle one.
 fn probe(low: usize, high: usize, len: usize) -> usize
     requires { low < high }
     ensures from { low ≤ result }
@@ -50,7 +50,7 @@ fn probe(low: usize, high: usize, len: usize) -> usize
 }
 
 impl<S: Storage> Firsts<S> {
-    /// The index at which to insert a production into the level: after those that give nothing less.
+    /// The index at which to insert a production into the sorted candidates: after those that give nothing less.
     ///
     /// # Errors
     ///
@@ -60,24 +60,24 @@ impl<S: Storage> Firsts<S> {
         optimal: &OptimalTables<S, T>,
         p: PIdx<S>,
     ) -> Result<usize, AllocError>
-        requires level { Level optimal.now (candidates_of S.number self.now) }
+        requires candidates { AreCandidates optimal.now (candidates_of S.number self.now) }
         requires nominated { IsCandidate optimal.now
             (candidates_of S.number self.now).choices self.now.number self.now.cost
             (S.number p.0) }
-        ensures within { IfOk result (λ index. index ≤ length self.now.level.items) }
+        ensures within { IfOk result (λ index. index ≤ length self.now.sorted.items) }
         ensures before { IfOk result (λ index. (i : ℕ) → i < index → NotAfter optimal.now.tables
             (candidates_of S.number self.now).choices (sequence optimal.now.tables (S.number p.0))
-            (sequence optimal.now.tables (slice_index_or (candidates_of S.number self.now).level i 0))) }
-        ensures after { IfOk result (λ index. (i : ℕ) → index ≤ i → i < length self.now.level.items
+            (sequence optimal.now.tables (slice_index_or (candidates_of S.number self.now).sorted i 0))) }
+        ensures after { IfOk result (λ index. (i : ℕ) → index ≤ i → i < length self.now.sorted.items
             → NotAfter optimal.now.tables (candidates_of S.number self.now).choices
-            (sequence optimal.now.tables (slice_index_or (candidates_of S.number self.now).level i 0))
+            (sequence optimal.now.tables (slice_index_or (candidates_of S.number self.now).sorted i 0))
             (sequence optimal.now.tables (S.number p.0))) }
     {
         let mut low = 0;
-        let mut high = self.level.len();
+        let mut high = self.sorted.len();
         while low < high {
-            let middle = probe(low, high, self.level.len());
-            if self.compare(optimal, self.level[middle], p)?.is_lt() {
+            let middle = probe(low, high, self.sorted.len());
+            if self.compare(optimal, self.sorted[middle], p)?.is_lt() {
                 high = middle;
             } else {
                 low = middle + 1;
@@ -118,7 +118,7 @@ impl<S: Storage> Firsts<S> {
         }
     }
 
-    /// Inserts a production into the level.
+    /// Inserts a production into the sorted candidates.
     ///
     /// # Errors
     ///
@@ -138,7 +138,7 @@ impl<S: Storage> Firsts<S> {
             (candidates_of S.number self.new)) }
     {
         let index = self.index(optimal, p)?;
-        self.level.insert(index, p)?;
+        self.sorted.insert(index, p)?;
         self.foremost[usize::from(optimal.rule_of(p))] = Some(p);
         Ok(())
     }
@@ -200,14 +200,14 @@ impl<S: Storage> Firsts<S> {
 
     /// Removes the candidate to choose next.
     fn next(&mut self) -> Option<PIdx<S>>
-        ensures { (k : Known) → Level k (candidates_of S.number self.old)
+        ensures { (k : Known) → AreCandidates k (candidates_of S.number self.old)
             → MatchOption result (IsDrained (candidates_of S.number self.old) (candidates_of S.number self.new))
             (λ p. Takes k (S.number p.0) (candidates_of S.number self.old) (candidates_of S.number self.new)) }
     {
         if let Some(p) = self.ready.pop() {
             return Some(p);
         }
-        let p = self.level.pop_back()?;
+        let p = self.sorted.pop_back()?;
         Some(p)
     }
 

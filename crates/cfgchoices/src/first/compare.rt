@@ -77,7 +77,8 @@ impl<S: Storage> Firsts<S> {
         requires given { (w : List ℕ) × Pends optimal.now.tables (candidates_of S.number self.now).choices
             (map (sym_of S.number) pending.old.items) w }
         ensures next { IfOk result (λ token. (w : List ℕ)
-            → Pends optimal.now.tables (candidates_of S.number self.now).choices (map (sym_of S.number) pending.old.items) w
+            → Pends optimal.now.tables (candidates_of S.number self.now).choices
+            (map (sym_of S.number) pending.old.items) w
             → MatchOption token (w ≡ []) (λ t. (v : List ℕ) × (w ≡ S.number t.0 ∷ v)
             × Pends optimal.now.tables (candidates_of S.number self.now).choices
             (map (sym_of S.number) pending.new.items) v)) }

@@ -9,7 +9,7 @@ ghost use Rattle.cfgcosts.specs.Inner.Targets.{HasSameSentences};
 ghost use Rattle.cfgcosts.specs.Inner.Minimal.{AreMinimal, IsMadeBy, IsReadyFor, sentences_in, words_of};
 ghost use Rattle.cfgchoices.specs.FirstSentence.{lexicographic};
 ghost use Rattle.cfgcosts.specs.Sentences.{numbers_of};
-ghost use Rattle.cfgchoices.specs.Inner.Kinds.{positions_of};
+ghost use Rattle.cfgchoices.specs.Inner.Kinds.{production_numbers};
 
 use crate::errors::SentenceError;
 use crate::generator::SentenceGenerator;
@@ -41,9 +41,9 @@ impl<'a, S: Storage, T: Tables<S>> SentenceGenerator<'a, S, T> {
         base: &[PIdx<S>],
         table: &SentenceTable<S>,
     ) -> Result<Vec<Vec<TIdx<S>>>, AllocError>
-        requires { All (λ p. p < length self.now.grammar.productions) (positions_of S.number base.now) }
+        requires { All (λ p. p < length self.now.grammar.productions) (production_numbers S.number base.now) }
         ensures all { IfOk result (λ words. (w : List ℕ) → Contains (words_of S.number words) w
-            ↔ IsMadeBy self.now.grammar (sentences_in S.number table.now) (positions_of S.number base.now) w) }
+            ↔ IsMadeBy self.now.grammar (sentences_in S.number table.now) (production_numbers S.number base.now) w) }
         ensures order { IfOk result (λ words. IsStrictlySortedBy lexicographic (words_of S.number words)) }
     {
         let mut words = Vec::new(alloc);
@@ -62,7 +62,7 @@ impl<'a, S: Storage, T: Tables<S>> SentenceGenerator<'a, S, T> {
     /// # Errors
     ///
     /// Out of memory.
-    fn level_sentences(
+    fn rule_sentences(
         &self,
         alloc: Global,
         rule: RIdx<S>,
@@ -98,8 +98,8 @@ impl<'a, S: Storage, T: Tables<S>> SentenceGenerator<'a, S, T> {
         let mut table = BTreeMap::new(alloc);
         let mut requested = self.requested_rules(alloc, rule)?;
         while let Some((cost, number)) = requested.pop() {
-            let level = RIdx(to_storage(number as usize));
-            let sentences = self.level_sentences(alloc, level, cost, &table)?;
+            let base = RIdx(to_storage(number as usize));
+            let sentences = self.rule_sentences(alloc, base, cost, &table)?;
             drop(table.insert(number as usize, sentences)?);
         }
         let all = table.remove(&usize::from(rule));

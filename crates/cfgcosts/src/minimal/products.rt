@@ -88,7 +88,8 @@ fn push_symbol<S: Storage>(
     symbol: Symbol<S>,
 ) -> Result<Vec<Vec<TIdx<S>>>, AllocError>
     ensures { IfOk result (λ longer. words_of S.number longer
-        ≡ joined (words_of S.number words) (words_of_symbol (sentences_in S.number table.now) (sym_of S.number symbol))) }
+        ≡ joined (words_of S.number words)
+        (words_of_symbol (sentences_in S.number table.now) (sym_of S.number symbol))) }
 {
     match symbol {
         Symbol::Rule(rule) => match table.get(&usize::from(rule)) {

@@ -3,7 +3,8 @@
 ghost use Rattle.std.specs.Prelude.{◌≡◌, ◌++◌, ◌∷◌, [], ℕ, List, length, map, IfOk, OnOk, ◌==◌};
 ghost use Rattle.std.specs.Prelude.{if◌then◌else◌};
 ghost use Rattle.std.specs.Str.{bytes_eq};
-ghost use Rattle.cfgsection.specs.SectionErrors.{offsets_of, repeated, duplicate_errors, section_errors};
+ghost use Rattle.lemmas.specs.Lists.{repeated};
+ghost use Rattle.cfgsection.specs.SectionErrors.{duplicate_errors, keys_of, section_errors, spans_of};
 ghost use Rattle.cfgsection.specs.SectionReads.{entry_view, errors_view};
 ghost use Rattle.cfgsection.specs.Inner.Steps.{end_view, fault_view, spans_at, duplicate_at};
 
@@ -38,9 +39,9 @@ fn gathered<'a>(
     entries: &'a [Entry],
 ) -> Result<(BTreeMap<&'a str, Vec<Span>>, Vec<&'a str>), AllocError>
     ensures offsets { IfOk result (λ found. (key : List ℕ)
-        → spans_at found.0 key ≡ offsets_of (map entry_view entries.now) key) }
+        → spans_at found.0 key ≡ spans_of (map entry_view entries.now) key) }
     ensures again { IfOk result (λ found. map (λ key. key.now) found.1.items
-        ≡ repeated (map entry_view entries.now)) }
+        ≡ repeated bytes_eq (keys_of (map entry_view entries.now))) }
 {
     let mut offsets = BTreeMap::new(alloc);
     let mut again = Vec::new(alloc);

@@ -23,7 +23,7 @@ pub record HeldAt (s : Syntax) (index node : ℕ) : Type 0 where
   pub holds : FoundBy (IsNodeOf s) (map name_of production.symbols) node
 
 -- what is at one node leads to a name whose node is the other
-pub record LeadsTo (s : Syntax) (node other : ℕ) : Type 0 where
+pub record IsEdge (s : Syntax) (node other : ℕ) : Type 0 where
   pub from : Name
   pub there : slice_get (nodes s) node ≡ Some from
   pub to : Name

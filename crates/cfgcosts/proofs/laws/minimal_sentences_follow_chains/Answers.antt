@@ -1,7 +1,7 @@
 use Rattle.std.specs.Prelude.{slice_index}
 use Rattle.derivation.specs.Grammar.{HasProduction}
 use Rattle.cfgchoices.proofs.Lengths.{productions_paid}
-use Rattle.cfgchoices.proofs.Levels.{chain_makes_minimal, minimal_made_along_chain}
+use Rattle.cfgchoices.proofs.Chains.{chain_makes_minimal, minimal_made_along_chain}
 use Rattle.cfgcosts.proofs.laws.minimal_sentences_follow_chains.Goals as goal
 
 pub returns : goal.returns

@@ -1,7 +1,7 @@
 use Rattle.std.proofs.Common.{◌≡◌, ◌+◌, ◌<◌, get_or, length, take, sym, subst, ◌∙◌, arith}
 use Rattle.std.proofs.lemmas.List.{get_or_default, length-map}
 use Rattle.cfgtables.proofs.Slices.{mapped_within, mapped_at, mapped_all}
-use Rattle.cfgchoices.specs.Inner.Kinds.{positions_of}
+use Rattle.cfgchoices.specs.Inner.Kinds.{production_numbers}
 use Rattle.cfgchoices.specs.declared.kinds.Kind.TheVariants.{Suboptimal}
 use Rattle.lemmas.proofs.Options.{None-from_is_some}
 use Rattle.cfgcosts.proofs.OnlyTargets.{OnlyOne, only_ends, only_found, only_suboptimal}
@@ -24,7 +24,7 @@ pub loop-p-preserved : goal.loop-p-preserved
 loop-p-preserved g c =
     let number = g.S.Storage.number in
     let kinds = c.args.kinds.now in
-    let positions = positions_of number c.rule_to_prods-p-items.result.now in
+    let positions = production_numbers number c.rule_to_prods-p-items.result.now in
     let p = number c.p-item.result.0 in
     let lt : c.loop-p.p-index < length c.rule_to_prods-p-items.result.now = omega (arith, c.loop-p-test.true) in
     let within = mapped_within (λ p. number p.0) _ _ _ c.p-item.is lt in
@@ -42,6 +42,6 @@ loop-p-preserved g c =
 pub returns : goal.returns
 returns g c =
     let number = g.S.Storage.number in
-    let positions = positions_of number c.rule_to_prods-p-items.result.now in
+    let positions = production_numbers number c.rule_to_prods-p-items.result.now in
     only_ends number (g.T.Tables.grammar c.args.tables.now) c.args.kinds.now positions c.loop-p.p-index (number c.args.rule.0) c.loop-p.only
     (simp length-map (omega (arith, c.loop-p-test.false, c.loop-p.auto.p-index-end))) c.rule_to_prods-p-items.ensures c.loop-p.invariant

@@ -4,7 +4,7 @@ use Rattle.std.proofs.lemmas.List.{length_push, map-append}
 use Rattle.std.proofs.lemmas.List.Elements.{All-push, All-same}
 use Rattle.cfgindex.specs.declared.idxnewtype.RIdx.{RIdx}
 use Rattle.cfgcosts.specs.Inner.Targets.{IsOnlyTarget, rules_of}
-use Rattle.cfgchoices.specs.Levels.{Along}
+use Rattle.cfgchoices.specs.Chains.{Along}
 use Rattle.cfgleast.proofs.Pushed.{each_push}
 use Rattle.cfgcosts.proofs.OnlyTargets.{only_or_itself}
 use Rattle.cfgcosts.proofs.targets.only_targets.Goals as goal

@@ -1,6 +1,6 @@
 use Rattle.std.proofs.Common.{◌≡◌, ◌<◌, ℕ, All, length, get_or}
 use Rattle.cfgcosts.specs.Inner.Targets.{IsOnlyTarget, rules_of}
-use Rattle.cfgchoices.specs.Levels.{Along}
+use Rattle.cfgchoices.specs.Chains.{Along}
 use Rattle.cfgcosts.proofs.targets.only_targets.Given as goal
 
 abbrev pub invariant-loop-number : goal.invariant-loop-number

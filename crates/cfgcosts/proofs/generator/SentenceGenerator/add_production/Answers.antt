@@ -3,7 +3,7 @@ use Rattle.std.proofs.lemmas.List.{map-append}
 use Rattle.search.specs.Reachable.{Reaches}
 use Rattle.search.proofs.Reaching.{reaches_as, reaches_known}
 use Rattle.cfgleast.specs.Generator.{CostTables, IsGenerator}
-use Rattle.cfgchoices.specs.Inner.Kinds.{AreKinds, IsBaseProduction, IsTarget, IsKind, IsOptimal, positions_of}
+use Rattle.cfgchoices.specs.Inner.Kinds.{AreKinds, IsBaseProduction, IsTarget, IsKind, IsOptimal, production_numbers}
 use Rattle.cfgcosts.proofs.BaseBelow.{lists_none, lists_one}
 use Rattle.cfgchoices.proofs.Optimal.{answered_within, kind_read, one_target}
 use Rattle.cfgchoices.specs.declared.kinds.Kind.{Kind}
@@ -38,7 +38,7 @@ returns-in_ok-push-in-Base g c =
     let x = c.args.self.now in
     let p = g.S.Storage.number c.args.p.0 in
     let base = kind g (goal.at.returns-in_ok-push-in-Base g c).After-index _ c.in-Base.is in
-    let longer = ap (positions_of g.S.Storage.number) c.in_ok-push-in-Base.ensures.items ∙ map-append (λ p. g.S.Storage.number p.0) c.args.base.now.items _ in
+    let longer = ap (production_numbers g.S.Storage.number) c.in_ok-push-in-Base.ensures.items ∙ map-append (λ p. g.S.Storage.number p.0) c.args.base.now.items _ in
     record {
       target = reaches_known (IsTarget x p) c.args.search.now (λ q h. absurd (base.none q h));
       base = lists_one _ _ (λ q. (q ≡ p) × IsBaseProduction x q) p longer (λ q is. (is, subst (IsBaseProduction x) (sym is) base)) (λ q h. h.0);

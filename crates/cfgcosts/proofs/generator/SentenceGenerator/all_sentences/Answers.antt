@@ -26,8 +26,8 @@ to_storage-requires g c =
     (popped_answer c.args.self.now c.pop.new.self (c.in-Some.cost, c.in-Some.number) requested filling c.in-Some.ensures.out c.in-Some.ensures.least) in
     omega (arith, within, c.invariant_holds.ensures.rules)
 
-pub level_sentences-requires : goal.level_sentences-requires
-level_sentences-requires g c =
+pub rule_sentences-requires : goal.rule_sentences-requires
+rule_sentences-requires g c =
     let (all, requested, filling) = c.loop-cost.invariant in
     let (n, is) = c.invariant_holds.ensures.generator in
     let x = c.args.self.now in

@@ -1,10 +1,10 @@
 use Rattle.search.proofs.Reaching.{left_to_do}
-use Rattle.cfgchoices.specs.Inner.Kinds.{positions_of}
-use Rattle.cfgcosts.proofs.BaseBelow.{Level}
+use Rattle.cfgchoices.specs.Inner.Kinds.{production_numbers}
+use Rattle.cfgcosts.proofs.BaseBelow.{BaseSearch}
 use Rattle.cfgcosts.proofs.generator.SentenceGenerator.base_productions.Given as goal
 
 abbrev pub invariant-loop-node : goal.invariant-loop-node
-invariant-loop-node g l = Level l.self (g.S.Storage.number l.fn.rule.0) (positions_of g.S.Storage.number l.base.items) l.search
+invariant-loop-node g l = BaseSearch l.self (g.S.Storage.number l.fn.rule.0) (production_numbers g.S.Storage.number l.base.items) l.search
 
 abbrev pub decreases-loop-node : goal.decreases-loop-node
 decreases-loop-node g l = left_to_do l.search

@@ -4,7 +4,7 @@ use Rattle.search.proofs.Each.{each_none, each_more, each_all, found_mapped}
 use Rattle.cfgtables.specs.Openings.{ArePositionsOf}
 use Rattle.cfgtables.proofs.Slices.{mapped_within, mapped_at, mapped_all}
 use Rattle.cfgleast.specs.Generator.{CostTables}
-use Rattle.cfgchoices.specs.Inner.Kinds.{IsTarget, positions_of}
+use Rattle.cfgchoices.specs.Inner.Kinds.{IsTarget, production_numbers}
 use Rattle.cfgcosts.proofs.BaseBelow.{targets_end, owns_begin, owns_more, owns_end}
 use Rattle.cfgcosts.proofs.generator.SentenceGenerator.go_through.Goals as goal
 
@@ -13,8 +13,8 @@ rule_to_prods-p-items-requires g c = subst (λ (x : CostTables). g.S.Storage.num
 
 pub loop-p-init : goal.loop-p-init
 loop-p-init g c =
-    let positions = positions_of g.S.Storage.number c.rule_to_prods-p-items.result.now in
-    record { targets = each_none _ _; base = owns_begin c.args.self.now positions (positions_of g.S.Storage.number c.args.base.now.items) }
+    let positions = production_numbers g.S.Storage.number c.rule_to_prods-p-items.result.now in
+    record { targets = each_none _ _; base = owns_begin c.args.self.now positions (production_numbers g.S.Storage.number c.args.base.now.items) }
 
 pub add_production-requires-clause-index : goal.add_production-requires-clause-index
 add_production-requires-clause-index g c = subst (λ (x : CostTables). g.S.Storage.number c.p-item.result.0 < length x.grammar.productions) c.self.view_is
@@ -27,7 +27,7 @@ add_production-requires-clause-rules g c = c.loop-p.invariant.targets.shape ∙ 
 pub loop-p-preserved : goal.loop-p-preserved
 loop-p-preserved g c =
     let x = c.args.self.now in
-    let positions = positions_of g.S.Storage.number c.rule_to_prods-p-items.result.now in
+    let positions = production_numbers g.S.Storage.number c.rule_to_prods-p-items.result.now in
     let lt : c.loop-p.p-index < length c.rule_to_prods-p-items.result.now = omega (arith, c.loop-p-test.true) in
     let within = mapped_within (λ p. g.S.Storage.number p.0) _ _ _ c.p-item.is lt in
     let at = mapped_at (λ p. g.S.Storage.number p.0) _ _ _ c.p-item.is lt in
@@ -40,7 +40,7 @@ pub returns : goal.returns
 returns g c =
     let x = c.args.self.now in
     let rule = g.S.Storage.number c.args.rule.0 in
-    let positions = positions_of g.S.Storage.number c.rule_to_prods-p-items.result.now in
+    let positions = production_numbers g.S.Storage.number c.rule_to_prods-p-items.result.now in
     let are = subst (λ (x : CostTables). ArePositionsOf x.grammar rule positions) c.self.view_is c.rule_to_prods-p-items.ensures in
     record {
       targets = targets_end x positions rule are _ _ (found_mapped (λ p. g.S.Storage.number p.0) (IsTarget x) c.rule_to_prods-p-items.result.now _ _

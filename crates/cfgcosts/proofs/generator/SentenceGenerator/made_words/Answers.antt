@@ -5,7 +5,7 @@ use Rattle.std.proofs.lemmas.List.{flat_map_more, length-map, map-append, take_a
 use Rattle.cfgtables.specs.Openings.{nth_production}
 use Rattle.cfgtables.proofs.Slices.{mapped_within, mapped_at, mapped_all}
 use Rattle.cfgleast.specs.Generator.{CostTables}
-use Rattle.cfgchoices.specs.Inner.Kinds.{positions_of}
+use Rattle.cfgchoices.specs.Inner.Kinds.{production_numbers}
 use Rattle.cfgcosts.specs.Inner.Minimal.{row_words, sentences_in, words_of}
 use Rattle.cfgcosts.specs.Sentences.{numbers_of}
 use Rattle.cfgcosts.proofs.Filled.{made_by}
@@ -20,7 +20,7 @@ pub loop-p-preserved : goal.loop-p-preserved
 loop-p-preserved g c =
     let number = g.S.Storage.number in
     let sentences = sentences_in number c.args.table.now in
-    let positions = positions_of number c.args.base.now in
+    let positions = production_numbers number c.args.base.now in
     let i = c.loop-p.p-index in
     let p = number c.p-item.result.0 in
     let within = mapped_within (λ p. number p.0) _ _ _ c.p-item.is c.loop-p-test.true in
@@ -34,7 +34,7 @@ loop-p-preserved g c =
 pub returns-clause-all : goal.returns-clause-all
 returns-clause-all g c = λ w.
     let number = g.S.Storage.number in
-    let positions = positions_of number c.args.base.now in
+    let positions = production_numbers number c.args.base.now in
     let sentences = sentences_in number c.args.table.now in
     let sequences = λ (p : ℕ). row_words sentences (nth_production c.args.self.now.grammar p).symbols in
     let whole = take_all c.loop-p.p-index positions (simp length-map (omega (arith, c.loop-p-test.false, c.loop-p.auto.p-index-end))) in

@@ -7,7 +7,7 @@ use Rattle.cfganalysis.specs.Paths.{HeldIn}
 use Rattle.search.specs.Reachable.{FoundBy, Reaches, SearchState}
 use Rattle.search.proofs.Reaching.{Begun, begun, less_to_do, popped_reachable, popped_within}
 use Rattle.cfgleast.specs.Generator.{CostTables, IsGenerator}
-use Rattle.cfgchoices.specs.Inner.Kinds.{positions_of}
+use Rattle.cfgchoices.specs.Inner.Kinds.{production_numbers}
 use Rattle.cfgcosts.proofs.RequestedRules.{Asking, HasAnswer, answered, asking_begins, asking_goes_on, asking_ends}
 use Rattle.cfgcosts.proofs.generator.SentenceGenerator.requested_rules.Goals as goal
 
@@ -41,10 +41,10 @@ reach_held-requires-clause-rules g c = ap length c.in-Some.ensures.reachable ∙
 
 pub reach_held-requires-clause-productions : goal.reach_held-requires-clause-productions
 reach_held-requires-clause-productions g c =
-    let base = positions_of g.S.Storage.number c.in_ok-base.base.items in
+    let base = production_numbers g.S.Storage.number c.in_ok-base.base.items in
     let Is = λ (x : CostTables) (p : ℕ). p < length x.grammar.productions in
-    subst (λ (x : CostTables). All (Is x) (positions_of g.S.Storage.number c.deref.result.now)) (sym c.self.view_is)
-    (subst (λ l. All (Is c.args.self.now) (positions_of g.S.Storage.number l)) (sym c.deref.ensures.value)
+    subst (λ (x : CostTables). All (Is x) (production_numbers g.S.Storage.number c.deref.result.now)) (sym c.self.view_is)
+    (subst (λ l. All (Is c.args.self.now) (production_numbers g.S.Storage.number l)) (sym c.deref.ensures.value)
     (All-weaker (Contains base) (Is c.args.self.now) (λ p h. ((c.in_ok-base.ensures p).0 h).base.optimal.index) base (All-contains_itself base)))
 
 pub known_cost-requires-clause-rule : goal.known_cost-requires-clause-rule
@@ -65,10 +65,10 @@ pub loop-node-preserved : goal.loop-node-preserved
 loop-node-preserved g c =
     let number = g.S.Storage.number in
     let x = c.args.self.now in
-    let held = subst (λ (x : CostTables). Reaches (FoundBy (HeldIn x.grammar) (positions_of number c.in_ok-base.base.items)) c.next.new.self c.reach_held.new.search) c.self.view_is
-    (subst (λ l. Reaches (FoundBy (HeldIn (g.T.Tables.grammar c.self.inside.tables.now)) (positions_of number l)) c.next.new.self c.reach_held.new.search) c.deref.ensures.value c.in_ok-reach_held.ensures) in
+    let held = subst (λ (x : CostTables). Reaches (FoundBy (HeldIn x.grammar) (production_numbers number c.in_ok-base.base.items)) c.next.new.self c.reach_held.new.search) c.self.view_is
+    (subst (λ l. Reaches (FoundBy (HeldIn (g.T.Tables.grammar c.self.inside.tables.now)) (production_numbers number l)) c.next.new.self c.reach_held.new.search) c.deref.ensures.value c.in_ok-reach_held.ensures) in
     let listed = subst (λ m. IsPermutation ((c.known_cost.result, m) ∷ c.loop-node.requested) c.push.new.self) c.to_usize-in-Some.ensures.value c.in_ok-push.ensures in
-    asking_goes_on x (number c.args.rule.0) (number c.to_storage.result) c.known_cost.result _ _ _ (positions_of number c.in_ok-base.base.items) _ _ c.loop-node.invariant
+    asking_goes_on x (number c.args.rule.0) (number c.to_storage.result) c.known_cost.result _ _ _ (production_numbers number c.in_ok-base.base.items) _ _ c.loop-node.invariant
     c.in-Some.ensures.reachable (subst (λ b. c.loop-node.search.waiting ≡ c.next.new.self.waiting ++ b ∷ []) (sym c.to_storage.ensures) c.in-Some.ensures.waiting)
     c.in_ok-base.ensures held c.known_cost.ensures listed
 

@@ -67,7 +67,7 @@ pub index-requires : goal.index-requires
 index-requires g c =
     let now = (goal.at.index-requires g c).In-Rule in
     let len = length-map c.self.inside.firsts.items (choice_of g.S.Storage.number) in
-    omega (arith, rule_within _ _ _ _ _ _ (way g now), c.loop-symbol.invariant.way.leads.walks.listed, len, c.from.ensures, c.self.inside.firsts.ok.0)
+    omega (arith, rule_within _ _ _ _ _ _ (way g now), c.loop-symbol.invariant.way.goal.walks.listed, len, c.from.ensures, c.self.inside.firsts.ok.0)
 
 pub loop-symbol-preserved : goal.loop-symbol-preserved
 loop-symbol-preserved g c =

@@ -9,7 +9,7 @@ use Rattle.cfgchoices.proofs.first.candidates.Firsts.choose.Goals.{After-index_m
 use Rattle.cfgchoices.proofs.first.candidates.Firsts.choose.Goals as goal
 
 taken : (g : Over) (c : After-index_mut g) → Takes c.args.optimal.now (g.S.Storage.number c.in-Some.p.0) (candidates_of g.S.Storage.number c.args.self.now) (candidates_of g.S.Storage.number c.next.new.self)
-taken g c = c.in-Some.ensures c.args.optimal.now c.requires.nominating.level
+taken g c = c.in-Some.ensures c.args.optimal.now c.requires.nominating.candidates
 
 inside : (g : Over) (c : After-index_mut g) → owner c.args.optimal.now.tables (g.S.Storage.number c.in-Some.p.0) < c.args.optimal.now.tables.grammar.rules
 inside g c = subst (λ i. i < c.args.optimal.now.tables.grammar.rules) c.rule_of-rule.ensures.value c.rule_of-rule.ensures.within
@@ -17,18 +17,18 @@ inside g c = subst (λ i. i < c.args.optimal.now.tables.grammar.rules) c.rule_of
 unset : (g : Over) (c : After-index_mut g) → rule_choice (candidates_of g.S.Storage.number c.next.new.self).choices (owner c.args.optimal.now.tables (g.S.Storage.number c.in-Some.p.0)) ≡ None
 unset g c =
     let items = c.next.new.self.choices.items in
-    let within = entry_within (choice_of g.S.Storage.number) items _ _ _ (taken g c).level.choosing.listed refl (inside g c) in
+    let within = entry_within (choice_of g.S.Storage.number) items _ _ _ (taken g c).candidates.choosing.listed refl (inside g c) in
     unset_shown g.S.Storage.number items c.from.result _ (c.from.ensures ∙ c.rule_of-rule.ensures.value) within c.index.result.now c.index.ensures (sym c.is_some.ensures ∙ c.if-is_some.false)
 
 same : (g : Over) (c : After-index_mut g) → map (choice_of g.S.Storage.number) (slice_set c.next.new.self.choices.items c.from-2.result (Some (c.in-Some.p, c.next.new.self.number)))
     ≡ slice_set (candidates_of g.S.Storage.number c.next.new.self).choices (owner c.args.optimal.now.tables (g.S.Storage.number c.in-Some.p.0)) (Some (g.S.Storage.number c.in-Some.p.0, c.next.new.self.number))
 same g c =
     let items = c.next.new.self.choices.items in
-    let within = entry_within (choice_of g.S.Storage.number) items _ _ _ (taken g c).level.choosing.listed refl (inside g c) in
+    let within = entry_within (choice_of g.S.Storage.number) items _ _ _ (taken g c).candidates.choosing.listed refl (inside g c) in
     chosen_shown g.S.Storage.number items c.from-2.result _ (c.from-2.ensures ∙ c.rule_of-rule.ensures.value) within c.in-Some.p c.next.new.self.number
 
 pub rule_of-rule-requires : goal.rule_of-rule-requires
-rule_of-rule-requires g c = (c.in-Some.ensures c.args.optimal.now c.requires.nominating.level).next.nominated.optimal.index
+rule_of-rule-requires g c = (c.in-Some.ensures c.args.optimal.now c.requires.nominating.candidates).next.nominated.optimal.index
 
 pub overflow_add-self : goal.overflow_add-self
 overflow_add-self g c =
@@ -53,11 +53,11 @@ nominate_listed-requires-clause-nominated g c =
     let t = taken g at in
     let (m, known) = c.invariant_holds.ensures in
     λ q target. subst (λ l. IsCandidate k l (f.number + 1) f.cost q) (sym (same g at))
-    (target_nominated k m known f _ t.level t.next (unset g at) (inside g at) q (subst (IsTarget k.tables q) c.rule_of-rule.ensures.value target))
+    (target_nominated k m known f _ t.candidates t.next (unset g at) (inside g at) q (subst (IsTarget k.tables q) c.rule_of-rule.ensures.value target))
 
 pub returns-in_default : goal.returns-in_default
 returns-in_default g c =
-    let d = c.in_default.ensures c.args.optimal.now c.requires.nominating.level in record {
+    let d = c.in_default.ensures c.args.optimal.now c.requires.nominating.candidates in record {
       going = subst (HandlesChains c.args.optimal.now) (sym d.1) c.requires;
       handles = λ q h. subst (λ f. IsHandled c.args.optimal.now.tables f q) (sym d.1) h;
       cost = ap (λ (f : Candidates). f.cost) d.1;
@@ -68,10 +68,10 @@ pub returns-then-is_some : goal.returns-then-is_some
 returns-then-is_some g c =
     let number = g.S.Storage.number in
     let items = c.next.new.self.choices.items in
-    let t = c.in-Some.ensures c.args.optimal.now c.requires.nominating.level in
+    let t = c.in-Some.ensures c.args.optimal.now c.requires.nominating.candidates in
     let (m, known) = c.invariant_holds.ensures in
     let value = c.rule_of-rule.ensures.value in
-    let within = entry_within (choice_of number) items _ _ _ t.level.choosing.listed value c.rule_of-rule.ensures.within in
+    let within = entry_within (choice_of number) items _ _ _ t.candidates.choosing.listed value c.rule_of-rule.ensures.within in
     let has = has_shown number items c.from.result _ (c.from.ensures ∙ value) within c.index.result.now c.index.ensures (sym c.is_some.ensures ∙ c.if-is_some.true) in record {
       going = passed_going _ _ _ _ t c.requires m known has;
       handles = passed_handles _ _ _ _ t c.requires m known has;
@@ -100,17 +100,17 @@ returns g c =
 pub index-requires : goal.index-requires
 index-requires g c =
     let items = c.next.new.self.choices.items in
-    let t = c.in-Some.ensures c.args.optimal.now c.requires.nominating.level in
+    let t = c.in-Some.ensures c.args.optimal.now c.requires.nominating.candidates in
     let inside = subst (λ i. i < c.args.optimal.now.tables.grammar.rules) (sym c.from.ensures) c.rule_of-rule.ensures.within in
-    let within = entry_within (choice_of g.S.Storage.number) items _ c.from.result c.from.result t.level.choosing.listed refl inside in
+    let within = entry_within (choice_of g.S.Storage.number) items _ c.from.result c.from.result t.candidates.choosing.listed refl inside in
     omega (arith, within, c.next.new.self.choices.ok.0)
 
 pub index_mut-requires : goal.index_mut-requires
 index_mut-requires g c =
     let items = c.next.new.self.choices.items in
-    let t = c.in-Some.ensures c.args.optimal.now c.requires.nominating.level in
+    let t = c.in-Some.ensures c.args.optimal.now c.requires.nominating.candidates in
     let inside = subst (λ i. i < c.args.optimal.now.tables.grammar.rules) (sym c.from-2.ensures) c.rule_of-rule.ensures.within in
-    let within = entry_within (choice_of g.S.Storage.number) items _ c.from-2.result c.from-2.result t.level.choosing.listed refl inside in
+    let within = entry_within (choice_of g.S.Storage.number) items _ c.from-2.result c.from-2.result t.candidates.choosing.listed refl inside in
     omega (arith, within, c.next.new.self.choices.ok.0)
 
 pub nominate_listed-requires-clause-list : goal.nominate_listed-requires-clause-list

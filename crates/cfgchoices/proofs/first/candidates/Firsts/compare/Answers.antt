@@ -4,7 +4,7 @@ use Rattle.cfgtables.specs.NumberedSymbols.{sym_of}
 use Rattle.cfgindex.specs.declared.idxnewtype.Symbol.{Symbol}
 use Rattle.cfgindex.specs.declared.idxnewtype.TIdx.{TIdx}
 use Rattle.cfgchoices.specs.Inner.Choices.{ChoicesGive}
-use Rattle.cfgchoices.specs.Inner.Candidates.{Gives, Pends, by, left_to_open, candidates_of, sequence}
+use Rattle.cfgchoices.specs.Inner.Candidates.{Gives, Pends, with_choices, left_to_open, candidates_of, sequence}
 use Rattle.cfgchoices.proofs.Compared.{Begins, Next, ended, first_differ, next, some_first, some_second}
 use Rattle.cfgchoices.proofs.Nominated.{nominated_given}
 use Rattle.cfgchoices.proofs.first.candidates.Firsts.compare.Given.{Over}
@@ -76,6 +76,6 @@ returns g c =
 pub returns-then-is_ne : goal.returns-then-is_ne
 returns-then-is_ne g c =
     let ne = sym c.is_ne.ensures ∙ c.if-is_ne.true in
-    let x = by c.args.optimal.now.tables (candidates_of g.S.Storage.number c.args.self.now).choices in
+    let x = with_choices c.args.optimal.now.tables (candidates_of g.S.Storage.number c.args.self.now).choices in
     λ u v h k. first_differ x _ _ c.first_tokens-first.result (c.first_tokens-first.ensures ne) ne u v
     (subst (λ a. ChoicesGive x a u) (sym c.symbols.ensures) h) (subst (λ a. ChoicesGive x a v) (sym c.symbols-2.ensures) k)

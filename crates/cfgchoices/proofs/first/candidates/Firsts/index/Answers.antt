@@ -6,14 +6,14 @@ use Rattle.cfgchoices.proofs.first.candidates.Firsts.index.Given.{Over}
 use Rattle.cfgchoices.proofs.first.candidates.Firsts.index.Goals.{After-index}
 use Rattle.cfgchoices.proofs.first.candidates.Firsts.index.Goals as goal
 
-middle : (g : Over) (c : After-index g) → get_or (candidates_of g.S.Storage.number c.args.self.now).level c.probe-middle.result 0 ≡ g.S.Storage.number c.index.result.now.0
+middle : (g : Over) (c : After-index g) → get_or (candidates_of g.S.Storage.number c.args.self.now).sorted c.probe-middle.result 0 ≡ g.S.Storage.number c.index.result.now.0
 middle g c =
-    let len = length-map c.args.self.now.level.items (λ p. g.S.Storage.number p.0) in
-    nth_shown g.S.Storage.number c.args.self.now.level.items c.probe-middle.result c.index.result.now (omega (arith, c.probe-middle.ensures.to, c.loop-low.invariant.within, len)) c.index.ensures
+    let len = length-map c.args.self.now.sorted.items (λ p. g.S.Storage.number p.0) in
+    nth_shown g.S.Storage.number c.args.self.now.sorted.items c.probe-middle.result c.index.result.now (omega (arith, c.probe-middle.ensures.to, c.loop-low.invariant.within, len)) c.index.ensures
 
 pub loop-low-init : goal.loop-low-init
 loop-low-init g c =
-    let len = length-map c.args.self.now.level.items (λ p. g.S.Storage.number p.0) in
+    let len = length-map c.args.self.now.sorted.items (λ p. g.S.Storage.number p.0) in
     record {
       within = omega (arith, len);
       ordered = omega arith;
@@ -23,26 +23,26 @@ loop-low-init g c =
 
 pub index-requires : goal.index-requires
 index-requires g c =
-    let len = length-map c.args.self.now.level.items (λ p. g.S.Storage.number p.0) in
+    let len = length-map c.args.self.now.sorted.items (λ p. g.S.Storage.number p.0) in
     omega (arith, c.loop-low.invariant.within, len, c.probe-middle.ensures.to)
 
 pub compare-requires-clause-one : goal.compare-requires-clause-one
-compare-requires-clause-one g c = middle_nominated _ _ c.requires.level _ c.requires.nominated _ _ _ _ c.loop-low.invariant c.probe-middle.ensures.from c.probe-middle.ensures.to
+compare-requires-clause-one g c = middle_nominated _ _ c.requires.candidates _ c.requires.nominated _ _ _ _ c.loop-low.invariant c.probe-middle.ensures.from c.probe-middle.ensures.to
     (middle g (goal.at.compare-requires-clause-one g c).After-index)
 
 pub loop-low-preserved-then-is_lt : goal.loop-low-preserved-then-is_lt
-loop-low-preserved-then-is_lt g c = to_prefix _ _ c.requires.level _ c.requires.nominated _ _ _ _ c.loop-low.invariant c.probe-middle.ensures.from c.probe-middle.ensures.to
+loop-low-preserved-then-is_lt g c = to_prefix _ _ c.requires.candidates _ c.requires.nominated _ _ _ _ c.loop-low.invariant c.probe-middle.ensures.from c.probe-middle.ensures.to
     (middle g (goal.at.loop-low-preserved-then-is_lt g c).After-index) _ c.in_ok-compare.ensures (sym c.is_lt.ensures ∙ c.if-is_lt.true)
 
 pub loop-low-preserved : goal.loop-low-preserved
-loop-low-preserved g c = to_back _ _ c.requires.level _ c.requires.nominated _ _ _ _ c.loop-low.invariant c.probe-middle.ensures.from c.probe-middle.ensures.to
+loop-low-preserved g c = to_back _ _ c.requires.candidates _ c.requires.nominated _ _ _ _ c.loop-low.invariant c.probe-middle.ensures.from c.probe-middle.ensures.to
     (middle g (goal.at.loop-low-preserved g c).After-index) _ c.in_ok-compare.ensures (sym c.is_lt.ensures ∙ c.if-is_lt.false)
 
 pub probe-middle-requires : goal.probe-middle-requires
 probe-middle-requires g c = c.loop-low-test.true
 
 pub compare-requires-clause-choosing : goal.compare-requires-clause-choosing
-compare-requires-clause-choosing g c = c.requires.level.choosing
+compare-requires-clause-choosing g c = c.requires.candidates.choosing
 
 pub compare-requires-clause-other : goal.compare-requires-clause-other
 compare-requires-clause-other g c = c.requires.nominated
@@ -55,7 +55,7 @@ loop-low-smaller g c = omega (arith, c.probe-middle.ensures.from, c.probe-middle
 
 pub returns : goal.returns
 returns g c =
-    let len = length-map c.args.self.now.level.items (λ p. g.S.Storage.number p.0) in
+    let len = length-map c.args.self.now.sorted.items (λ p. g.S.Storage.number p.0) in
     let at = c.loop-low.invariant in
     record {
       within = omega (arith, at.within, at.ordered, len);

@@ -1,7 +1,7 @@
 use Rattle.std.proofs.Common.{◌≡◌, ◌<◌, inl, Some, None, get_or, refl, sym, subst, ◌∙◌, ap, true≢false, arith}
 use Rattle.std.specs.Ordering.{is_le}
 use Rattle.cfgleast.specs.Certificate.{choice_of}
-use Rattle.cfgchoices.specs.Inner.Candidates.{HasChoice, IsCandidate, candidates_of, owner, position_of}
+use Rattle.cfgchoices.specs.Inner.Candidates.{HasChoice, IsCandidate, candidates_of, owner, production_number}
 use Rattle.cfgchoices.proofs.Nominated.{was_chosen}
 use Rattle.cfgchoices.proofs.Pending.{entry_shown}
 use Rattle.cfgchoices.proofs.Located.{foremost_handled, foremost_nominated}
@@ -14,7 +14,7 @@ not_chosen : (g : Over) (c : In-Some g) → HasChoice (candidates_of g.S.Storage
 not_chosen g c =
     let at = c.from-rule.ensures ∙ c.rule_of.ensures.value in
     let inside = subst (λ i. i < c.args.optimal.now.tables.grammar.rules) (sym c.from-rule.ensures) c.rule_of.ensures.within in
-    let within = entry_within (choice_of g.S.Storage.number) c.args.self.now.choices.items _ c.from-rule.result _ c.requires.nominating.level.choosing.listed at inside in
+    let within = entry_within (choice_of g.S.Storage.number) c.args.self.now.choices.items _ c.from-rule.result _ c.requires.nominating.candidates.choosing.listed at inside in
     none_shown g.S.Storage.number c.args.self.now.choices.items c.from-rule.result _ at within c.index.result.now c.index.ensures (sym c.is_some.ensures ∙ c.if-is_some.false)
 
 foremost : (g : Over) (c : In-Some g) → get_or (candidates_of g.S.Storage.number c.args.self.now).foremost (owner c.args.optimal.now.tables (g.S.Storage.number c.args.p.0)) None ≡ Some (g.S.Storage.number c.in-Some.foremost.0)
@@ -22,8 +22,8 @@ foremost g c =
     let items = c.args.self.now.foremost.items in
     let at = c.from-rule.ensures ∙ c.rule_of.ensures.value in
     let inside = subst (λ i. i < c.args.optimal.now.tables.grammar.rules) (sym c.from-rule.ensures) c.rule_of.ensures.within in
-    let within = entry_within (position_of g.S.Storage.number) items _ c.from-rule.result _ c.requires.nominating.listed at inside in
-    entry_shown (position_of g.S.Storage.number) items c.from-rule.result _ _ (Some c.in-Some.foremost) None at within (sym c.index-2.ensures ∙ c.in-Some.is)
+    let within = entry_within (production_number g.S.Storage.number) items _ c.from-rule.result _ c.requires.nominating.listed at inside in
+    entry_shown (production_number g.S.Storage.number) items c.from-rule.result _ _ (Some c.in-Some.foremost) None at within (sym c.index-2.ensures ∙ c.in-Some.is)
 
 nominated : (g : Over) (c : In-Some g) → IsCandidate c.args.optimal.now (candidates_of g.S.Storage.number c.args.self.now).choices c.args.self.now.number c.args.self.now.cost (g.S.Storage.number c.in-Some.foremost.0)
 nominated g c = foremost_nominated c.args.optimal.now (candidates_of g.S.Storage.number c.args.self.now) c.requires.nominating (g.S.Storage.number c.args.p.0) c.requires.nominated
@@ -36,8 +36,8 @@ returns-then-is_some g c =
     let (m, known) = c.invariant_holds.ensures in
     let at = c.from-rule.ensures ∙ c.rule_of.ensures.value in
     let inside = subst (λ i. i < c.args.optimal.now.tables.grammar.rules) (sym c.from-rule.ensures) c.rule_of.ensures.within in
-    let within = entry_within (choice_of number) items _ c.from-rule.result _ c.requires.nominating.level.choosing.listed at inside in
-    λ e. inl (was_chosen c.args.optimal.now m known (candidates_of number c.args.self.now) (number c.args.p.0) c.requires.nominating.level c.requires.nominated
+    let within = entry_within (choice_of number) items _ c.from-rule.result _ c.requires.nominating.candidates.choosing.listed at inside in
+    λ e. inl (was_chosen c.args.optimal.now m known (candidates_of number c.args.self.now) (number c.args.p.0) c.requires.nominating.candidates c.requires.nominated
     (has_shown number items c.from-rule.result _ at within c.index.result.now c.index.ensures (sym c.is_some.ensures ∙ c.if-is_some.true)))
 
 pub compare-requires-clause-one : goal.compare-requires-clause-one
@@ -55,17 +55,17 @@ rule_of-requires g c = c.requires.nominated.optimal.index
 pub index-requires : goal.index-requires
 index-requires g c =
     let inside = subst (λ i. i < c.args.optimal.now.tables.grammar.rules) (sym c.from-rule.ensures) c.rule_of.ensures.within in
-    let within = entry_within (choice_of g.S.Storage.number) c.args.self.now.choices.items _ c.from-rule.result c.from-rule.result c.requires.nominating.level.choosing.listed refl inside in
+    let within = entry_within (choice_of g.S.Storage.number) c.args.self.now.choices.items _ c.from-rule.result c.from-rule.result c.requires.nominating.candidates.choosing.listed refl inside in
     omega (arith, within, c.args.self.now.choices.ok.0)
 
 pub index-requires-2 : goal.index-requires-2
 index-requires-2 g c =
     let inside = subst (λ i. i < c.args.optimal.now.tables.grammar.rules) (sym c.from-rule.ensures) c.rule_of.ensures.within in
-    let within = entry_within (position_of g.S.Storage.number) c.args.self.now.foremost.items _ c.from-rule.result c.from-rule.result c.requires.nominating.listed refl inside in
+    let within = entry_within (production_number g.S.Storage.number) c.args.self.now.foremost.items _ c.from-rule.result c.from-rule.result c.requires.nominating.listed refl inside in
     omega (arith, within, c.args.self.now.foremost.ok.0)
 
 pub compare-requires-clause-choosing : goal.compare-requires-clause-choosing
-compare-requires-clause-choosing g c = c.requires.nominating.level.choosing
+compare-requires-clause-choosing g c = c.requires.nominating.candidates.choosing
 
 pub compare-requires-clause-other : goal.compare-requires-clause-other
 compare-requires-clause-other g c = c.requires.nominated

@@ -1,6 +1,6 @@
 use Rattle.cfgchoices.specs.Inner.Candidates.{candidates_of}
 use Rattle.cfgchoices.proofs.ChosenBelow.{begun_nominating, climbed_more, nominated_going, base_nominated}
-use Rattle.cfgchoices.proofs.first.candidates.Firsts.choose_level.Goals as goal
+use Rattle.cfgchoices.proofs.first.candidates.Firsts.choose_at_cost.Goals as goal
 
 pub nominate_listed-requires-clause-nominating : goal.nominate_listed-requires-clause-nominating
 nominate_listed-requires-clause-nominating g c =

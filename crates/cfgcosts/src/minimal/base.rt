@@ -3,7 +3,7 @@
 ghost use Rattle.std.specs.Prelude.{◌≡◌, ◌↔◌, ℕ, ◌<◌, Contains, IfOk, OnOk, length};
 ghost use Rattle.cfgtables.specs.Openings.{nth_production};
 ghost use Rattle.search.specs.Reachable.{Reaches};
-ghost use Rattle.cfgchoices.specs.Inner.Kinds.{HasTarget, IsBaseProduction, IsTarget, IsBaseBelow, positions_of};
+ghost use Rattle.cfgchoices.specs.Inner.Kinds.{HasTarget, IsBaseProduction, IsTarget, IsBaseBelow, production_numbers};
 ghost use Rattle.cfgcosts.specs.Inner.Minimal.{Lists};
 
 use crate::generator::SentenceGenerator;
@@ -29,7 +29,7 @@ impl<'a, S: Storage, T: Tables<S>> SentenceGenerator<'a, S, T> {
         requires rules { length search.old.reachable ≡ self.now.grammar.rules }
         ensures target { OnOk result (Reaches (IsTarget self.now (S.number p.0)) search.old search.new) }
         ensures base { OnOk result (Lists (λ q. (q ≡ S.number p.0) × IsBaseProduction self.now q)
-            (positions_of S.number base.old.items) (positions_of S.number base.new.items)) }
+            (production_numbers S.number base.old.items) (production_numbers S.number base.new.items)) }
     {
         match self.kinds[usize::from(p)] {
             Kind::Suboptimal => Ok(()),
@@ -60,7 +60,7 @@ impl<'a, S: Storage, T: Tables<S>> SentenceGenerator<'a, S, T> {
         ensures targets { OnOk result (Reaches (HasTarget self.now (S.number rule.0)) search.old search.new) }
         ensures base { OnOk result (Lists
             (λ p. ((nth_production self.now.grammar p).rule ≡ S.number rule.0) × IsBaseProduction self.now p)
-            (positions_of S.number base.old.items) (positions_of S.number base.new.items)) }
+            (production_numbers S.number base.old.items) (production_numbers S.number base.new.items)) }
     {
         for p in self.tables.rule_to_prods(rule) {
             self.add_production(*p, search, base)?;
@@ -79,7 +79,7 @@ impl<'a, S: Storage, T: Tables<S>> SentenceGenerator<'a, S, T> {
         rule: RIdx<S>,
     ) -> Result<Vec<PIdx<S>>, AllocError>
         requires { S.number rule.0 < self.now.grammar.rules }
-        ensures { IfOk result (λ base. (p : ℕ) → Contains (positions_of S.number base.items) p
+        ensures { IfOk result (λ base. (p : ℕ) → Contains (production_numbers S.number base.items) p
             ↔ IsBaseBelow self.now (S.number rule.0) p) }
     {
         let mut base = Vec::new(alloc);

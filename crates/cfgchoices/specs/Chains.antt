@@ -23,16 +23,16 @@ module _ (P : ℕ → List Sym → Type 0) (cost : ℕ → ℕ) where
   -- a chain production of rule a leads to rule b, which costs as much
   pub record ChainsTo (a b : ℕ) : Type 0 where
     pub symbols : List Sym
-    pub level : ℕ
-    pub optimal : IsOptimalProduction a symbols level
+    pub least : ℕ
+    pub optimal : IsOptimalProduction a symbols least
     pub among : Contains symbols (Rule b)
-    pub same : Least P cost b level
+    pub same : Least P cost b least
 
   -- a base production: optimal, and each rule in it costs less
   pub record IsBase (r : ℕ) (symbols : List Sym) : Type 0 where
-    pub level : ℕ
-    pub optimal : IsOptimalProduction r symbols level
-    pub less : (q d : ℕ) → Contains symbols (Rule q) → Least P cost q d → d < level
+    pub least : ℕ
+    pub optimal : IsOptimalProduction r symbols least
+    pub less : (q d : ℕ) → Contains symbols (Rule q) → Least P cost q d → d < least
 
   -- zero or more chain productions lead from r to `owner`, and w consists of minimal sentences of the symbols of its base production
   pub record IsMadeAlongChain (r : ℕ) (w : List ℕ) : Type 0 where

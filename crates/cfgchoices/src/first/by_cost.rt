@@ -1,11 +1,11 @@
-//! Levels of rules of the same cost, by increasing cost.
+//! Choices for rules of the same cost, by increasing cost.
 
 ghost use Rattle.std.specs.Prelude.{◌≡◌, ◌+◌, ◌<◌, IfOk, OnOk, map};
 ghost use Rattle.cfgleast.specs.Certificate.{choice_of};
 ghost use Rattle.cfgleast.specs.Generator.{IsGeneratorOf, settled_tables, tables_of};
 ghost use Rattle.cfgchoices.specs.Inner.FirstChoices.{AreFirst, AreChosen};
 ghost use Rattle.cfgchoices.specs.Inner.Kinds.{AreKinds};
-ghost use Rattle.cfgchoices.specs.Inner.Candidates.{ChosenBelow, by, chosen_tables, candidates_of};
+ghost use Rattle.cfgchoices.specs.Inner.Candidates.{ChosenBelow, with_choices, chosen_tables, candidates_of};
 
 use crate::first::candidates::Firsts;
 use crate::first::lists::{Listed, no_productions};
@@ -23,7 +23,7 @@ impl<S: Storage> Firsts<S> {
     /// # Errors
     ///
     /// Out of memory.
-    fn choose_level<T: Tables<S>>(
+    fn choose_at_cost<T: Tables<S>>(
         &mut self,
         optimal: &OptimalTables<S, T>,
         cost: usize,
@@ -54,7 +54,7 @@ impl<S: Storage> Firsts<S> {
     {
         optimal.invariant_holds();
         for cost in 1..optimal.costs_len() {
-            self.choose_level(optimal, cost)?;
+            self.choose_at_cost(optimal, cost)?;
         }
         Ok(())
     }
@@ -71,8 +71,10 @@ fn choices_by_cost<S: Storage, T: Tables<S>>(
     rules_len: usize,
 ) -> Result<Vec<Option<(PIdx<S>, u32)>>, AllocError>
     requires { rules_len ≡ optimal.now.tables.grammar.rules }
-    ensures walks { IfOk result (λ firsts. AreChosen (by optimal.now.tables (map (choice_of S.number) firsts.items))) }
-    ensures first { IfOk result (λ firsts. AreFirst (by optimal.now.tables (map (choice_of S.number) firsts.items))) }
+    ensures walks { IfOk result (λ firsts. AreChosen (with_choices optimal.now.tables
+        (map (choice_of S.number) firsts.items))) }
+    ensures first { IfOk result (λ firsts. AreFirst (with_choices optimal.now.tables
+        (map (choice_of S.number) firsts.items))) }
 {
     let choices = no_choices(alloc, rules_len)?;
     let foremost = no_productions(alloc, rules_len)?;
@@ -82,7 +84,7 @@ fn choices_by_cost<S: Storage, T: Tables<S>>(
         number: 0,
         cost: 0,
         ready: Vec::new(alloc),
-        level: VecDeque::new(alloc),
+        sorted: VecDeque::new(alloc),
         foremost,
     };
     firsts.choose_by_cost(optimal)?;

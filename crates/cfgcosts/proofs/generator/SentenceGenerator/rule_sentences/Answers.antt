@@ -1,16 +1,16 @@
 use Rattle.std.proofs.Common.{◌↔◌, ◌<◌, ℕ, [], ◌∷◌, ◌++◌, All, Contains, length, map, sym, ap, subst, ◌∙◌, arith}
 use Rattle.std.proofs.lemmas.List.Elements.{All-contains_itself, All-weaker}
 use Rattle.cfgcosts.specs.Inner.Minimal.{AreMinimal}
-use Rattle.cfgchoices.specs.Inner.Kinds.{IsBaseBelow, positions_of}
+use Rattle.cfgchoices.specs.Inner.Kinds.{IsBaseBelow, production_numbers}
 use Rattle.cfgcosts.specs.Sentences.{numbers_of}
 use Rattle.cfgcosts.proofs.Filled.{all_minimal, free_alone}
-use Rattle.cfgcosts.proofs.generator.SentenceGenerator.level_sentences.Goals as goal
+use Rattle.cfgcosts.proofs.generator.SentenceGenerator.rule_sentences.Goals as goal
 
 pub made_words-requires : goal.made_words-requires
 made_words-requires g c =
-    let base = positions_of g.S.Storage.number c.in_ok-base.base.items in
+    let base = production_numbers g.S.Storage.number c.in_ok-base.base.items in
     let Is = λ (p : ℕ). p < length c.args.self.now.grammar.productions in
-    subst (λ l. All Is (positions_of g.S.Storage.number l)) (sym c.deref.ensures.value)
+    subst (λ l. All Is (production_numbers g.S.Storage.number l)) (sym c.deref.ensures.value)
     (All-weaker (Contains base) Is (λ p h. ((c.in_ok-base.ensures p).0 h).base.optimal.index) base (All-contains_itself base))
 
 pub returns-then-cost-eq0 : goal.returns-then-cost-eq0
@@ -27,6 +27,6 @@ returns g c =
     let x = c.args.self.now in
     let (n, is) = c.invariant_holds.ensures.generator in
     let r = number c.args.rule.0 in
-    let base = subst (λ l. (p : ℕ) → Contains (positions_of number l) p ↔ IsBaseBelow x r p) (sym c.deref.ensures.value) c.in_ok-base.ensures in
-    all_minimal x n is c.invariant_holds.ensures.grammar r c.args.cost c.requires.known _ (positions_of number c.deref.result.now) (omega (arith, c.if-cost-eq0.false)) c.requires.ready base _
+    let base = subst (λ l. (p : ℕ) → Contains (production_numbers number l) p ↔ IsBaseBelow x r p) (sym c.deref.ensures.value) c.in_ok-base.ensures in
+    all_minimal x n is c.invariant_holds.ensures.grammar r c.args.cost c.requires.known _ (production_numbers number c.deref.result.now) (omega (arith, c.if-cost-eq0.false)) c.requires.ready base _
     c.made_words.result c.made_words.ensures.all c.made_words.ensures.order

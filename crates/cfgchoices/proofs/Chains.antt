@@ -10,7 +10,7 @@ use Rattle.derivation.specs.Tree.{Yields, empty, token, opened}
 use Rattle.derivation.proofs.Trees.{trees_join, trees_from_derivation, derivation_from_trees}
 use Rattle.derivation.proofs.Costs.{least_is_one, minimal_costs_least}
 use Rattle.cfgchoices.specs.Splits.{Split, done, itself, part}
-use Rattle.cfgchoices.specs.Levels.{Along, here, next, IsOptimalProduction, ChainsTo, IsMadeAlongChain}
+use Rattle.cfgchoices.specs.Chains.{Along, here, next, IsOptimalProduction, ChainsTo, IsMadeAlongChain}
 use Rattle.derivation.proofs.Made.{cost_of-token}
 use Rattle.lemmas.proofs.Contained.{contains_first, contains_later, contains_none, contains_cases}
 use Rattle.cfgchoices.proofs.Lengths.{IsPaid, positive_empty, sentence_positive, tokens_positive}
@@ -97,11 +97,11 @@ module _ (P : ℕ → List Sym → Type 0) (cost : ℕ → ℕ) where
     along_back w here m = m
     along_back {r = r} w (next {b = b} h k) m =
         let optimal = h.optimal in
-        made_minimal r h.symbols h.level w optimal
-        (handed_back b h.level w optimal.parts (paid r h.symbols optimal.has) h.among h.same (omega (arith, optimal.is)) (along_back w k m))
+        made_minimal r h.symbols h.least w optimal
+        (handed_back b h.least w optimal.parts (paid r h.symbols optimal.has) h.among h.same (omega (arith, optimal.is)) (along_back w k m))
 
     pub chain_makes_minimal : (r : ℕ) (w : List ℕ) → IsMadeAlongChain P cost r w → Minimal P cost r w
-    chain_makes_minimal r w h = along_back w h.leads (made_minimal h.owner h.symbols h.base.level w h.base.optimal h.parts)
+    chain_makes_minimal r w h = along_back w h.leads (made_minimal h.owner h.symbols h.base.least w h.base.optimal h.parts)
 
     -- the parts of a list's least word are minimal
     module _ (F : ℕ → List ℕ → Type 0) where
@@ -172,11 +172,11 @@ module _ (P : ℕ → List Sym → Type 0) (cost : ℕ → ℕ) where
             | inr ge ↦
                 let tree = trees_of_cut (Split-map IsMinimalAnd (Minimal P cost) (λ r u k. k.0) s) in
                 let none = nothing tree others (omega (arith, ge, both, small)) in
-                let level : cost_of cost u ≡ c = omega (arith, ge, both, small) in
+                let same : cost_of cost u ≡ c = omega (arith, ge, both, small) in
                 inl (record {
                   rule = r;
                   among = contains_first (Rule r) a;
-                  same = subst (Least P cost r) level least;
+                  same = subst (Least P cost r) same least;
                   holds = subst (IsMinimalAnd r) (sym (e ∙ ap (λ l. u ++ l) none ∙ append-nil u)) h;
                 })
           ]
@@ -193,13 +193,13 @@ module _ (P : ℕ → List Sym → Type 0) (cost : ℕ → ℕ) where
         elim (target_or_less Comes (cost_of cost w) parts (paid r symbols has) (omega arith)) [
           | inl target ↦
               let down = target.holds.1 target.holds.0 in
-              let link : ChainsTo P cost r target.rule = record { symbols = symbols; level = cost_of cost w; optimal = optimal; among = target.among; same = target.same } in
+              let link : ChainsTo P cost r target.rule = record { symbols = symbols; least = cost_of cost w; optimal = optimal; among = target.among; same = target.same } in
               record { owner = down.owner; symbols = down.symbols; leads = next link down.leads; base = down.base; parts = down.parts }
           | inr less ↦ record {
             owner = r;
             symbols = symbols;
             leads = here;
-            base = record { level = cost_of cost w; optimal = optimal; less = less };
+            base = record { least = cost_of cost w; optimal = optimal; less = less };
             parts = cut;
           }
         ]

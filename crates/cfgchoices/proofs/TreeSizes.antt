@@ -7,7 +7,7 @@ use Rattle.derivation.specs.Grammar.{Sym, Rule, Token, Grammar}
 use Rattle.cfgtables.specs.Openings.{nth_production}
 use Rattle.cfgleast.specs.Certificate.{rule_choice}
 use Rattle.cfgchoices.specs.Inner.FirstChoices.{IsNotAbove}
-pub use Rattle.cfgchoices.specs.Inner.Candidates.{steps, steps_of}
+pub use Rattle.cfgchoices.specs.Inner.Candidates.{tree_size, tree_size_of}
 
 -- sums of equal terms are equal
 sum_by-same : {X : Type 0} (Q : X → Type 0) (f g : X → ℕ) → ((x : X) → Q x → f x ≡ g x) → (xs : List X) → All Q xs → sum_by f xs ≡ sum_by g xs
@@ -21,26 +21,26 @@ sum_by-same Q f g same (x ∷ xs) all =
 
 module _ (g : Grammar) (choices : List (Option (ℕ × ℕ))) (each : ℕ) where
   abbrev size : ℕ → Sym → ℕ
-  size = steps g choices each
+  size = tree_size g choices each
 
   abbrev size_of : (Sym → ℕ) → Option (ℕ × ℕ) → ℕ
-  size_of = steps_of g each
+  size_of = tree_size_of g each
 
-  pub steps_token : (n t : ℕ) → size n (Token t) ≡ 1
-  unfolding steps
-  steps_token zero t = refl
-  steps_token (suc n) t = refl
+  pub tree_size_token : (n t : ℕ) → size n (Token t) ≡ 1
+  unfolding tree_size
+  tree_size_token zero t = refl
+  tree_size_token (suc n) t = refl
 
-  pub steps_unchosen : (n r : ℕ) → rule_choice choices r ≡ None → size n (Rule r) ≡ each
-  unfolding steps
-  steps_unchosen zero r none = refl
-  steps_unchosen (suc n) r none = ap (size_of (size n)) none
+  pub tree_size_unchosen : (n r : ℕ) → rule_choice choices r ≡ None → size n (Rule r) ≡ each
+  unfolding tree_size
+  tree_size_unchosen zero r none = refl
+  tree_size_unchosen (suc n) r none = ap (size_of (size n)) none
 
-  pub steps_positive : 0 < each → (n : ℕ) (s : Sym) → 0 < size n s
-  unfolding steps
-  steps_positive some n (Token t) = let one = steps_token n t in omega (arith, one)
-  steps_positive some zero (Rule r) = some
-  steps_positive some (suc n) (Rule r) = go (rule_choice choices r)
+  pub tree_size_positive : 0 < each → (n : ℕ) (s : Sym) → 0 < size n s
+  unfolding tree_size
+  tree_size_positive some n (Token t) = let one = tree_size_token n t in omega (arith, one)
+  tree_size_positive some zero (Rule r) = some
+  tree_size_positive some (suc n) (Rule r) = go (rule_choice choices r)
     where
       go : (o : Option (ℕ × ℕ)) → 0 < size_of (size n) o
       go None = some
@@ -56,24 +56,24 @@ module _ (g : Grammar) (choices : List (Option (ℕ × ℕ))) (each : ℕ) where
         go (Some choice) h = omega (arith, h, lt)
 
     -- it is enough to go as deep as the numbers of the choices
-    steps_same : (n m : ℕ) (s : Sym) → IsNotAbove choices n s → IsNotAbove choices m s → size n s ≡ size m s
-    unfolding steps
-    steps_same zero zero (Token t) h k = refl
-    steps_same zero zero (Rule r) h k = refl
-    steps_same zero (suc m) (Token t) h k = refl
-    steps_same (suc n) zero (Token t) h k = refl
-    steps_same (suc n) (suc m) (Token t) h k = refl
-    steps_same zero (suc m) (Rule r) h k = go (rule_choice choices r) h
+    tree_size_same : (n m : ℕ) (s : Sym) → IsNotAbove choices n s → IsNotAbove choices m s → size n s ≡ size m s
+    unfolding tree_size
+    tree_size_same zero zero (Token t) h k = refl
+    tree_size_same zero zero (Rule r) h k = refl
+    tree_size_same zero (suc m) (Token t) h k = refl
+    tree_size_same (suc n) zero (Token t) h k = refl
+    tree_size_same (suc n) (suc m) (Token t) h k = refl
+    tree_size_same zero (suc m) (Rule r) h k = go (rule_choice choices r) h
       where
         go : (o : Option (ℕ × ℕ)) → IfSome o (λ choice. choice.1 < 0) → each ≡ size_of (size m) o
         go None h = refl
         go (Some choice) h = absurd (omega (arith, h))
-    steps_same (suc n) zero (Rule r) h k = go (rule_choice choices r) k
+    tree_size_same (suc n) zero (Rule r) h k = go (rule_choice choices r) k
       where
         go : (o : Option (ℕ × ℕ)) → IfSome o (λ choice. choice.1 < 0) → size_of (size n) o ≡ each
         go None h = refl
         go (Some choice) h = absurd (omega (arith, h))
-    steps_same (suc n) (suc m) (Rule r) h k = go (λ s. steps_same n m s) (rule_choice choices r) refl h k
+    tree_size_same (suc n) (suc m) (Rule r) h k = go (λ s. tree_size_same n m s) (rule_choice choices r) refl h k
       where
         go : ((s : Sym) → IsNotAbove choices n s → IsNotAbove choices m s → size n s ≡ size m s) → (o : Option (ℕ × ℕ)) → rule_choice choices r ≡ o
             → IfSome o (λ choice. choice.1 < suc n) → IfSome o (λ choice. choice.1 < suc m) → size_of (size n) o ≡ size_of (size m) o
@@ -82,11 +82,11 @@ module _ (g : Grammar) (choices : List (Option (ℕ × ℕ))) (each : ℕ) where
             (λ s lt. same s (lower n choice.1 s (omega (arith, h)) lt) (lower m choice.1 s (omega (arith, k)) lt))
             (nth_production g choice.0).symbols (below r choice.0 choice.1 e))
 
-    -- a rule takes as many steps as its symbols, and `each`
-    pub steps_opened : (n r p m : ℕ) → rule_choice choices r ≡ Some (p, m) → m < n
+    -- a tree is as large as those of its symbols, and `each`
+    pub tree_size_opened : (n r p m : ℕ) → rule_choice choices r ≡ Some (p, m) → m < n
         → size n (Rule r) ≡ sum_by (size n) (nth_production g p).symbols + each
-    unfolding steps
-    steps_opened zero r p m e lt = absurd (omega (arith, lt))
-    steps_opened (suc n) r p m e lt = ap (size_of (size n)) e ∙ ap (λ c. c + each) (sum_by-same (IsNotAbove choices m) (size n) (size (suc n))
-        (λ s h. steps_same n (suc n) s (lower n m s (omega (arith, lt)) h) (lower (suc n) m s (omega (arith, lt)) h))
+    unfolding tree_size
+    tree_size_opened zero r p m e lt = absurd (omega (arith, lt))
+    tree_size_opened (suc n) r p m e lt = ap (size_of (size n)) e ∙ ap (λ c. c + each) (sum_by-same (IsNotAbove choices m) (size n) (size (suc n))
+        (λ s h. tree_size_same n (suc n) s (lower n m s (omega (arith, lt)) h) (lower (suc n) m s (omega (arith, lt)) h))
         (nth_production g p).symbols (below r p m e))
