@@ -166,7 +166,8 @@ impl<'a, S: Storage, T: Tables<S>> SentenceGenerator<'a, S, T> {
     }
 
     /// The greatest cost of the rule's sentences. It is `None` if for every number some sentence costs more, that is,
-    /// if the rule reaches a growing cycle: a rule x that derives u x v, where u and v derive tokens that cost something.
+    /// if the rule reaches a growing cycle: a rule x that derives u x v, where u and v derive tokens that cost
+    /// something.
     ///
     /// # Errors
     ///
