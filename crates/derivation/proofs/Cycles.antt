@@ -5,7 +5,7 @@ use Rattle.derivation.specs.Grammar.{Sym, Rule, Token}
 use Rattle.derivation.specs.Derivation.{Derives, next}
 use Rattle.derivation.specs.Tree.{Yields}
 use Rattle.derivation.specs.Sentence.{cost_of}
-use Rattle.derivation.specs.Path.{DerivesRule}
+use Rattle.derivation.specs.Path.{DerivesContaining}
 use Rattle.derivation.specs.Costs.{Unbounded}
 use Rattle.derivation.specs.Cycles.{GrowingCycle, IsUseful}
 use Rattle.derivation.proofs.Concatenation.{derives_trans}
@@ -53,7 +53,7 @@ module _ (P : ℕ → List Sym → Type 0) (cost : ℕ → ℕ) where
       )
 
   -- a rule derives itself, and the symbols beside it cost something
-  pub growing_cycle_of : (x : ℕ) (w : List ℕ) (l : DerivesRule P x x) → Derives P (l.before ++ l.after) (map Token w)
+  pub growing_cycle_of : (x : ℕ) (w : List ℕ) (l : DerivesContaining P x x) → Derives P (l.before ++ l.after) (map Token w)
       → 0 < cost_of cost w → GrowingCycle P cost x
   growing_cycle_of x w l d h = record {
     middle = l.middle;

@@ -3,7 +3,7 @@ use Rattle.std.proofs.Common.{◌≡◌, ℕ, List, [], ◌∷◌, ◌++◌, Con
 use Rattle.std.proofs.lemmas.List.Elements.{Contains-append_left, Contains-append_right, Contains-append_cases, Contains-push, Contains-push_cases}
 use Rattle.derivation.specs.Grammar.{Sym, Rule}
 use Rattle.derivation.specs.Derivation.{Step, Derives, none, next}
-use Rattle.derivation.specs.Path.{Holds, Path, one, more, DerivesRule}
+use Rattle.derivation.specs.Path.{Holds, Path, one, more, DerivesContaining}
 use Rattle.derivation.proofs.Concatenation.{step_production, derives_left, derives_right}
 
 -- what is around a symbol of a list
@@ -38,13 +38,13 @@ alone x y (z ∷ []) after e = absurd (cc)
 alone x y (z ∷ w ∷ before) after e = absurd (cc)
 
 module _ (P : ℕ → List Sym → Type 0) where
-  derives_between : {k : List Sym} {b c : ℕ} (x y : List Sym) → k ≡ x ++ (Rule b ∷ y) → (l : DerivesRule P b c)
+  derives_between : {k : List Sym} {b c : ℕ} (x y : List Sym) → k ≡ x ++ (Rule b ∷ y) → (l : DerivesContaining P b c)
       → Derives P k ((x ++ l.before) ++ (Rule c ∷ (l.after ++ y)))
   derives_between x y e l =
       simp (e, append_assoc) (simp append_assoc at (derives_left P x (derives_right P y (next l.first l.derives))))
 
-  derives_rule_on : {a b c : ℕ} → Holds P a b → DerivesRule P b c → DerivesRule P a c
-  derives_rule_on {a = a} {b = b} h l = let w = around h.symbols (Rule b) h.holds in record {
+  derives_containing_on : {a b c : ℕ} → Holds P a b → DerivesContaining P b c → DerivesContaining P a c
+  derives_containing_on {a = a} {b = b} h l = let w = around h.symbols (Rule b) h.holds in record {
     middle = h.symbols;
     before = w.before ++ l.before;
     after = l.after ++ w.after;
@@ -52,7 +52,7 @@ module _ (P : ℕ → List Sym → Type 0) where
     derives = derives_between w.before w.after w.whole l;
   }
 
-  pub derives_along : {a b : ℕ} → Path P a b → DerivesRule P a b
+  pub derives_along : {a b : ℕ} → Path P a b → DerivesContaining P a b
   derives_along {a = a} {b = b} (one h) = let w = around h.symbols (Rule b) h.holds in record {
     middle = h.symbols;
     before = w.before;
@@ -60,7 +60,7 @@ module _ (P : ℕ → List Sym → Type 0) where
     first = step_production P a h.symbols h.has;
     derives = subst (λ k. Derives P h.symbols k) w.whole none;
   }
-  derives_along (more h p) = derives_rule_on h (derives_along p)
+  derives_along (more h p) = derives_containing_on h (derives_along p)
 
   -- a rule of the list is the rule, or has a path to it
   record Reaches (l : List Sym) (b : ℕ) : Type 0 where
@@ -107,7 +107,7 @@ module _ (P : ℕ → List Sym → Type 0) where
       let rule : s.rule ≡ a = cc (e.0) in
       subst (λ l. P a l) whole (subst (λ n. P n s.symbols) rule s.has)
 
-  pub path_to_derived : {a b : ℕ} → DerivesRule P a b → Path P a b
+  pub path_to_derived : {a b : ℕ} → DerivesContaining P a b → Path P a b
   path_to_derived {b = b} l =
       let r = reaches_derived b l.derives (reaches_itself l.before b l.after) in
       path_on (record { symbols = l.middle; has = production_of_step l.first; holds = r.among }) r.path

@@ -15,7 +15,7 @@ pub data Path (P : ℕ → List Sym → Type 0) : ℕ → ℕ → Type 0 where
   more : {a b c : ℕ} → Holds P a b → Path P b c → Path P a c
 
 -- in one or more steps, rule a derives a list that contains rule b
-pub record DerivesRule (P : ℕ → List Sym → Type 0) (a b : ℕ) : Type 0 where
+pub record DerivesContaining (P : ℕ → List Sym → Type 0) (a b : ℕ) : Type 0 where
   pub middle : List Sym
   pub before : List Sym
   pub after : List Sym

@@ -17,7 +17,7 @@ ghost use Rattle.derivation.specs.FirstSets.{Begins, IsClosed, AreNullable};
 ghost use Rattle.derivation.specs.Follow.{MayFollow};
 ghost use Rattle.derivation.specs.FollowSets.{IsFollowClosed};
 ghost use Rattle.derivation.specs.Sentence.{Sentence, cost_of};
-ghost use Rattle.derivation.specs.Path.{Path, DerivesRule};
+ghost use Rattle.derivation.specs.Path.{Path, DerivesContaining};
 ghost use Rattle.derivation.specs.Costs.{Least, Minimal, Greatest, Unbounded};
 ghost use Rattle.derivation.specs.Cycles.{GrowingCycle, IsUseful};
 
@@ -121,7 +121,7 @@ pub fn a_greatest_cost_bounds()
 
 /// A rule has a path to another exactly if it derives, in one or more steps, a list that contains the other.
 pub fn paths_are_derivations()
-    ensures { (g : Grammar) (a b : ℕ) → Path (HasProduction g) a b ↔ DerivesRule (HasProduction g) a b }
+    ensures { (g : Grammar) (a b : ℕ) → Path (HasProduction g) a b ↔ DerivesContaining (HasProduction g) a b }
 {}
 
 /// If a rule with a growing cycle is useful for a rule, this has sentences that cost more than any given number.
@@ -147,7 +147,7 @@ pub fn derivations_show_cycles()
     ensures useful { (g : Grammar) (r x : ℕ) (l : List Sym) (w : List ℕ)
         → Derives (HasProduction g) (Rule r ∷ []) l
         → Contains l (Rule x) → Derives (HasProduction g) l (map Token w) → IsUseful (HasProduction g) r x }
-    ensures grows { (g : Grammar) (cost : ℕ → ℕ) (x : ℕ) (w : List ℕ) (l : DerivesRule (HasProduction g) x x)
+    ensures grows { (g : Grammar) (cost : ℕ → ℕ) (x : ℕ) (w : List ℕ) (l : DerivesContaining (HasProduction g) x x)
         → Derives (HasProduction g) (l.before ++ l.after) (map Token w) → 0 < cost_of cost w
         → GrowingCycle (HasProduction g) cost x }
 {}
