@@ -3,8 +3,10 @@
 ghost use Rattle.std.specs.Prelude.{◌≡◌, ◌<◌, ◌^◌, ◌↔◌, ℕ, [], ◌∷◌, All, Contains, false};
 ghost use Rattle.std.specs.Prelude.{true, length, map, IfOk, IsTrue, MatchBool};
 ghost use Rattle.derivation.specs.Grammar.{Grammar, IsGrammar, IsSymbolOf, Rule};
-ghost use Rattle.cfganalysis.specs.Firsts.{AreFirsts, FitsGrammar, IsAmongFirsts, IsNullableRule, nullable_bit, with_first};
-ghost use Rattle.cfganalysis.specs.Inner.GrowingFirsts.{BeginsBy, HasNoMoreFirsts, CoverFirstsOf, HoldsRule, AreSoundFirsts};
+ghost use Rattle.cfganalysis.specs.Firsts.{AreFirsts, FitsGrammar, IsAmongFirsts, IsNullableRule};
+ghost use Rattle.cfganalysis.specs.Firsts.{nullable_bit, with_first};
+ghost use Rattle.cfganalysis.specs.Inner.GrowingFirsts.{BeginsBy, HasNoMoreFirsts, CoverFirstsOf};
+ghost use Rattle.cfganalysis.specs.Inner.GrowingFirsts.{AreSoundFirsts, HoldsRule};
 ghost use Rattle.cfganalysis.specs.Inner.GrowingFirsts.{count_firsts, is_nullable_symbol, no_firsts, with_nullable};
 ghost use Rattle.cfgtables.specs.Openings.{AreOpenedAtMost, most_openings};
 ghost use Rattle.cfganalysis.specs.Inner.Growth.{CanNote, CanAddProduction, AddsProduction, shown};
