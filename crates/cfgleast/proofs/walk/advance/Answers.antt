@@ -29,9 +29,9 @@ returns-in-Err g c =
     let listed = symbols_listed grammar c.args.partial.production c.requires.input.grammar c.requires.partial.index in
     let within = subst (λ n. c.in-Err.rule < n) (sym c.requires.lists)
     (stop_listed cost settled grammar (nth_production grammar c.args.partial.production).symbols grammar.rules grammar.tokens c.in-Err.rule c.in-Err.partial listed stop) in
-    on_ok_weaker {Q = MovesOn cost settled grammar c.args.partial.production c.args.queue.now c.args.queue.now c.args.waiting.now c.push-2.new.self}
-    c.push-2.result (λ put. waits c.in-Err.rule c.in-Err.partial c.in-Err.ensures.same
-    (stop_waits cost settled grammar c.args.partial.production c.in-Err.rule c.in-Err.partial c.requires.partial.index c.in-Err.ensures.same stop) stop.unset within refl put) c.push-2.ensures.ok
+    on_ok_weaker {Q = MovesOn cost settled grammar c.args.partial.production c.args.queue.now c.args.queue.now c.args.waiting.now c.push-in-Err.new.self}
+    c.push-in-Err.result (λ put. waits c.in-Err.rule c.in-Err.partial c.in-Err.ensures.same
+    (stop_waits cost settled grammar c.args.partial.production c.in-Err.rule c.in-Err.partial c.requires.partial.index c.in-Err.ensures.same stop) stop.unset within refl put) c.push-in-Err.ensures.ok
 
 pub to_storage-requires : goal.to_storage-requires
 to_storage-requires g c =
