@@ -41,7 +41,8 @@ impl Numbering<'_> {
             ≡ added_rules (implicit_in self.now) (length (file_of self.now).productions)
             ++ map file_rule (file_of self.now).rules) }
     {
-        let mut rows = IndexMap::new(alloc);
+        let count = self.ast.rules().len().saturating_add(self.rules_before());
+        let mut rows = IndexMap::with_capacity(alloc, count)?;
         self.put_added_rules(alloc, &mut rows)?;
         self.put_rules(alloc, &mut rows)?;
         Ok(rows)
