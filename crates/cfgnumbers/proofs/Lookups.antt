@@ -1,5 +1,5 @@
 -- Where names are found, and the map of tokens by name.
-use Rattle.std.proofs.Common.{◌≡◌, ℕ, Bool, true, List, [], ◌∷◌, ◌++◌, map, position, Some, String, Global, string_bytes, refl, sym, ap, ◌∙◌, ◌+◌, ◌<◌, false, cond, length, take, slice_get, option_map, Option, Bor, string_eq, subst, arith}
+use Rattle.std.proofs.Common.{◌≡◌, ℕ, Bool, true, List, [], ◌∷◌, ◌++◌, map, position, Some, String, Global, string_bytes, refl, sym, ap, ◌∙◌, ◌+◌, ◌<◌, false, cond, get_or, length, take, slice_get, option_map, Option, Bor, string_eq, subst, arith}
 use Rattle.cfgast.specs.declared.rule.Rule as source
 use Rattle.std.specs.HashMap as hash
 use Rattle.std.specs.List.{position_or_len, AllByRecursion, IsDistinct}
@@ -10,7 +10,8 @@ use Rattle.std.specs.Cmp.Lexicographic.{bytes_decides, nat_list_eq_equiv}
 use Rattle.std.proofs.lemmas.List.{take_more, length-take-le}
 use Rattle.std.proofs.lemmas.Map.Keys.{IsDistinct-cons, IsDistinct-head, IsDistinct-tail}
 use Rattle.std.proofs.lemmas.Map.Text.{hash_map_updates_str}
-use Rattle.std.proofs.lemmas.Option.{get_or_from_slice_get, slice_get_within}
+use Rattle.std.proofs.lemmas.List.Quantifiers.{position-Some}
+use Rattle.std.proofs.lemmas.Option.{get_or_from_slice_get, slice_get-get_or, slice_get_within}
 use Rattle.indexmap.proofs.MapLemmas.{distinct-take}
 use Rattle.lemmas.proofs.Positions.{position-map, position-push, first_position, position-distinct}
 use Rattle.lemmas.proofs.Elements.{slice_get_push}
@@ -36,6 +37,13 @@ pub rule_index : (name : List ℕ) (s : Syntax) (es : List (String Global × sou
 rule_index name s es same known =
     position-keys name es ∙ sym (position-map (λ (rule : List ℕ × Rule). bytes_eq name rule.0) rule_entry es)
     ∙ ap (position (λ (rule : List ℕ × Rule). bytes_eq name rule.0)) same ∙ first_position (λ (rule : List ℕ × Rule). bytes_eq name rule.0) s.rules known
+
+-- a token's name is at its index
+pub token_at : (name : List ℕ) (tokens : List (List ℕ)) → has_name name tokens ≡ true → slice_get tokens (index_of name tokens) ≡ Some name
+token_at name tokens known =
+    let found = position-Some (bytes_eq name) tokens (index_of name tokens) name (first_position (bytes_eq name) tokens known) in
+    slice_get-get_or tokens (index_of name tokens) name found.0
+    ∙ ap Some (sym ((bytes_decides name (get_or tokens (index_of name tokens) name)).0 found.1))
 
 pub token_index : (name : List ℕ) (s : Syntax) (keys : List (String Global)) → map string_bytes keys ≡ s.tokens → has_name name s.tokens ≡ true
     → position (is_key name) keys ≡ Some (index_of name s.tokens)

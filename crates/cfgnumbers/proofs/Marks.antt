@@ -1,7 +1,8 @@
 -- What a file says of individual tokens, where the code looks it up, and the last token of a production.
-use Rattle.std.proofs.Common.{◌≡◌, ℕ, List, map, false, is_some, Option, Some, None, option_map, String, Global, string_bytes, bytes_eq, refl, sym, ap, ◌∙◌, [], ◌∷◌, ◌++◌, filter_map, arith, length-append}
+use Rattle.std.proofs.Common.{◌≡◌, ℕ, List, map, false, is_some, Option, Some, None, option_map, String, Global, string_bytes, bytes_eq, refl, sym, ap, ◌∙◌, [], ◌∷◌, ◌++◌, filter_map, slice_get, arith, length-append}
 use Rattle.std.specs.Map.{lookup}
-use Rattle.std.specs.Option.{option_map_or, option_or}
+use Rattle.std.specs.Option.{option_and_then, option_flatten, option_map_or, option_or}
+use Rattle.std.proofs.lemmas.Option.{same_Some, slice_get-map}
 use Rattle.lemmas.proofs.Lookups.{found-lookup, lookup-map}
 use Rattle.lemmas.proofs.Tests.{list_any-map}
 use Rattle.lemmas.specs.Lists.{pushed}
@@ -52,3 +53,28 @@ last_token-push symbols symbol = ap last_of (filter_map-pushed token_in symbols 
     go : (o : Option (List ℕ)) → last_of (pushed names o) ≡ option_or o (last_of names)
     go None = refl
     go (Some name) = slice_get_push names name _ (omega (arith, length-append names (name ∷ [])))
+
+option_map-or : {A B : Type 0} (f : A → B) (a b : Option A) → option_map f (option_or a b) ≡ option_or (option_map f a) (option_map f b)
+option_map-or f None b = refl
+option_map-or f (Some x) b = refl
+
+-- where the last token is, after one more symbol
+pub last_at : {T : Type 0} (at : T → Option (List ℕ)) (token last : Option T) (symbols : List Symbol) (symbol : Symbol)
+    → option_map at token ≡ option_map Some (token_in symbol) → option_map at last ≡ option_map Some (last_token symbols)
+    → option_map at (option_or token last) ≡ option_map Some (last_token (symbols ++ symbol ∷ []))
+last_at at token last symbols symbol here before =
+    option_map-or at token last ∙ (λ i. option_or (here i) (before i))
+    ∙ sym (option_map-or Some (token_in symbol) (last_token symbols)) ∙ ap (option_map Some) (sym (last_token-push symbols symbol))
+
+-- the precedence of the token at an index, in the list of all tokens' precedences
+pub precedence_at : {T : Type 0} (number : T → ℕ) (s : Syntax) (precedences : List (Option Precedence))
+    → precedences ≡ map (precedence_of_token s) s.tokens → (token : Option T) (name : Option (List ℕ))
+    → option_map (λ t. slice_get s.tokens (number t)) token ≡ option_map Some name
+    → option_and_then (λ t. option_flatten (slice_get precedences (number t))) token ≡ option_and_then (precedence_of_token s) name
+precedence_at number s precedences are None None same = refl
+precedence_at number s precedences are None (Some name) same = cc
+precedence_at number s precedences are (Some t) None same = cc
+precedence_at number s precedences are (Some t) (Some name) same =
+    ap (λ all. option_flatten (slice_get all (number t))) are
+    ∙ ap option_flatten (slice_get-map (precedence_of_token s) s.tokens (number t))
+    ∙ ap (λ found. option_flatten (option_map (precedence_of_token s) found)) (same_Some _ _ same)

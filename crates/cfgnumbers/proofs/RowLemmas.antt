@@ -57,6 +57,9 @@ rule_seen item = rule_entry (deref_pair item)
 abbrev pub token_seen : Bor (String Global) × Bor Span → List ℕ × Span
 token_seen item = (string_bytes item.0.now, item.1.now)
 
+abbrev pub key_seen : Bor (String Global) → List ℕ
+key_seen key = string_bytes key.now
+
 abbrev pub name_seen : {V : Type 0} → Bor (String Global) × Bor V → List ℕ
 name_seen item = string_bytes item.0.now
 
@@ -78,6 +81,10 @@ pub tokens_road : (s : Syntax) (it : Zip (List (String Global)) (Iter Span)) (ke
     → YieldsList (zips (TakesFirst deref) fronts) token_seen it (zip s.tokens s.spans)
 tokens_road s it keys same names_are spans_are =
     YieldsList-from_zip (shown string_bytes keys s.tokens same (YieldsList-from_rest keys names_are)) (YieldsList-from_slice s.spans spans_are)
+
+pub keys_road : {it : List (String Global)} (s : Syntax) (keys : List (String Global)) → map string_bytes keys ≡ s.tokens → it ≡ keys
+    → YieldsList (TakesFirst deref) key_seen it s.tokens
+keys_road s keys same is = shown string_bytes keys s.tokens same (YieldsList-from_rest keys is)
 
 pub names_road : {V : Type 0} {it : List (String Global × V)} (entries : List (String Global × V)) → it ≡ entries → YieldsList (TakesFirst deref_pair) name_seen it (names entries)
 names_road entries is = shown (λ entry. string_bytes entry.0) entries (names entries) refl (YieldsList-from_rest entries is)

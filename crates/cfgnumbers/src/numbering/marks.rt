@@ -1,15 +1,16 @@
 //! What a file says of individual tokens, and the precedences of productions.
 
-ghost use Rattle.std.specs.Prelude.{◌≡◌, option_map, string_bytes, map, IfOk};
-ghost use Rattle.std.specs.Option.{option_map_or};
-ghost use Rattle.cfgast.specs.SyntaxView.{symbol_view, production_view};
+ghost use Rattle.std.specs.Prelude.{◌≡◌, Some, option_map, slice_get, string_bytes, map, IfOk};
+ghost use Rattle.std.specs.Option.{option_and_then, option_flatten, option_map_or};
+ghost use Rattle.cfgast.specs.SyntaxView.{production_view};
 ghost use Rattle.cfgtree.specs.TreeView.{syntax};
 ghost use Rattle.cfgnumbers.specs.Numbered.{precedence_of_token, precedence_of, last_token, printed_form};
 ghost use Rattle.cfgnumbers.specs.Numbered.{avoids_insert};
 
-use cfgast::{Precedence, Production, Symbol};
+use cfgast::{Precedence, Production};
+use cfgindex::{Storage, TIdx};
 use cfgtree::GrammarAST;
-use std::alloc::AllocError;
+use std::alloc::{AllocError, Global};
 
 /// The precedence of a token.
 pub(super) fn precedence_of_token(ast: &GrammarAST, name: &str) -> Option<Precedence>
@@ -42,26 +43,50 @@ pub(super) fn avoids_insert(ast: &GrammarAST, name: &str) -> bool
     }
 }
 
-/// The precedence of a production: that of the token after its `%prec`, or else of its last token (POSIX yacc).
-pub(super) fn precedence_of(ast: &GrammarAST, production: &Production) -> Option<Precedence>
-    ensures { result ≡ precedence_of (syntax ast.now) (production_view production.now) }
+/// The precedence of each token.
+///
+/// # Errors
+///
+/// Out of memory.
+pub(super) fn token_precedences(
+    alloc: Global,
+    ast: &GrammarAST,
+) -> Result<Vec<Option<Precedence>>, AllocError>
+    ensures { IfOk result (λ precedences. precedences.items
+        ≡ map (precedence_of_token (syntax ast.now)) (syntax ast.now).tokens) }
 {
-    let name = match &production.precedence {
-        Some(name) => name.as_str(),
-        None => last_token(&production.symbols)?,
-    };
-    precedence_of_token(ast, name)
+    let mut precedences = Vec::with_capacity(alloc, ast.tokens().len())?;
+    for name in ast.tokens() {
+        precedences.push(precedence_of_token(ast, name.as_str()))?;
+    }
+    Ok(precedences)
 }
 
-/// The name of the last token among the symbols.
-fn last_token(symbols: &[Symbol]) -> Option<&str>
-    ensures { option_map (λ name. name.now) result ≡ last_token (map symbol_view symbols.now) }
+/// The precedence of a production: that of the token after its `%prec`, or else of its last token (POSIX yacc), given
+/// the precedences of all tokens, and the last token.
+pub(super) fn precedence_of<S: Storage>(
+    ast: &GrammarAST,
+    precedences: &[Option<Precedence>],
+    production: &Production,
+    last: Option<TIdx<S>>,
+) -> Option<Precedence>
+    requires precedences { precedences.now ≡ map (precedence_of_token (syntax ast.now)) (syntax ast.now).tokens }
+    requires last { option_map (λ token. slice_get (syntax ast.now).tokens (S.number token.0)) last
+        ≡ option_map Some (last_token (production_view production.now).symbols) }
+    ensures { result ≡ precedence_of (syntax ast.now) (production_view production.now) }
 {
-    let mut last = None;
-    for symbol in symbols {
-        if let Symbol::Token(name, _) = symbol {
-            last = Some(name.as_str());
-        }
+    match &production.precedence {
+        Some(name) => precedence_of_token(ast, name.as_str()),
+        None => precedence_at(precedences, last),
     }
-    last
+}
+
+/// The precedence of the token, if there is one.
+fn precedence_at<S: Storage>(
+    precedences: &[Option<Precedence>],
+    token: Option<TIdx<S>>,
+) -> Option<Precedence>
+    ensures { result ≡ option_and_then (λ token. option_flatten (slice_get precedences.now (S.number token.0))) token }
+{
+    *precedences.get(usize::from(token?))?
 }

@@ -10,15 +10,16 @@ ghost use Rattle.cfgast.specs.SyntaxView.{production_view as plain_production};
 ghost use Rattle.cfgtree.specs.Sound.{IsSound};
 ghost use Rattle.cfgnumbers.specs.Fits.{LeavesRoom};
 ghost use Rattle.cfgnumbers.specs.Numbered.{added_production, added_productions, file_production, token_index};
+ghost use Rattle.cfgnumbers.specs.Numbered.{precedence_of_token};
 ghost use Rattle.cfgnumbers.specs.Inner.Resolved.{AreTokens, IsResolved, Resolves};
 ghost use Rattle.cfgnumbers.specs.TablesView.{names, file_of, implicit_in};
 ghost use Rattle.cfgtables.specs.NumberedSymbols.{sym_of};
 
 use super::Numbering;
-use super::marks::precedence_of;
+use super::marks::{precedence_of, token_precedences};
 use crate::production_rows::ProductionRows;
 use crate::rows::ProductionRow;
-use cfgast::Production;
+use cfgast::{Precedence, Production};
 use cfgbase::Span;
 use cfgindex::{RIdx, Storage, Symbol, to_storage};
 use indexmap::IndexMap;
@@ -64,32 +65,37 @@ impl Numbering<'_> {
             ≡ map (file_production (implicit_in self.now) (file_of self.now))
             (zip (file_of self.now).production_rules (file_of self.now).productions)) }
     {
+        let precedences = token_precedences(alloc, self.ast)?;
         let mut symbols = Vec::new(alloc);
         for (rule, production) in self.ast.prods_rules().iter().zip(self.ast.prods()) {
-            self.push_file_row(rows, &mut symbols, *rule, production)?;
+            self.push_file_row(rows, &mut symbols, &precedences, *rule, production)?;
         }
         Ok(())
     }
 
-    /// Adds a production of the file to the rows; its rule has this index. Its symbols are numbered in `symbols`.
+    /// Adds a production of the file to the rows; its rule has this index. Its symbols are numbered in `symbols`. The
+    /// tokens have these precedences.
     fn push_file_row<S: Storage>(
         &self,
         rows: &mut ProductionRows<S>,
         symbols: &mut Vec<Symbol<S>>,
+        precedences: &[Option<Precedence>],
         rule: usize,
         production: &Production,
     ) -> Result<(), AllocError>
+        requires precedences { precedences.now
+            ≡ map (precedence_of_token (file_of self.now)) (file_of self.now).tokens }
         requires rule { rule < length (file_of self.now).rules }
         requires resolved { Resolves (file_of self.now) (plain_production production.now) }
         requires room { LeavesRoom S.MAX (implicit_in self.now) (file_of self.now) }
         ensures { OnOk result (rows.new ≡ rows.old
             ++ file_production (implicit_in self.now) (file_of self.now) (rule, plain_production production.now) ∷ []) }
     {
-        self.number_symbols(symbols, &production.symbols)?;
+        let last = self.number_symbols(symbols, &production.symbols)?;
         let (action, action_span) = action_parts(production)?;
         let row = ProductionRow {
             span: production.prod_span,
-            precedence: precedence_of(self.ast, production),
+            precedence: precedence_of(self.ast, precedences, production, last),
             action,
             action_span,
         };

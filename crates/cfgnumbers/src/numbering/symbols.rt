@@ -1,12 +1,13 @@
 //! The symbols of productions, by index.
 
-ghost use Rattle.std.specs.Prelude.{◌≡◌, ◌+◌, ◌≤◌, ◌++◌, ◌∷◌, [], true, All, None, map, OnOk};
+ghost use Rattle.std.specs.Prelude.{◌≡◌, ◌+◌, ◌≤◌, ◌++◌, ◌∷◌, [], true, All, None, Some, map, option_map, slice_get};
+ghost use Rattle.std.specs.Prelude.{IfOk, OnOk};
 ghost use Rattle.cfgast.specs.Building.{has_name, has_rule};
 ghost use Rattle.cfgast.specs.SyntaxView.{symbol_view};
 ghost use Rattle.cfgtree.specs.Check.{symbol_error};
 ghost use Rattle.cfgnumbers.specs.Fits.{LeavesRoom};
 ghost use Rattle.cfgnumbers.specs.Numbered.{rule_index, rules_before, token_index, file_symbol, file_symbols, spaced};
-ghost use Rattle.cfgnumbers.specs.Numbered.{start_symbols};
+ghost use Rattle.cfgnumbers.specs.Numbered.{start_symbols, last_token, token_in};
 ghost use Rattle.cfgnumbers.specs.Inner.Resolved.{IsResolved};
 ghost use Rattle.cfgnumbers.specs.TablesView.{file_of, implicit_in};
 ghost use Rattle.cfgtables.specs.NumberedSymbols.{sym_of};
@@ -17,50 +18,60 @@ use std::alloc::AllocError;
 
 impl Numbering<'_> {
     /// Replaces the content of `numbered` by the symbols of a production of the file. If there are implicit tokens, the
-    /// rule for these follows each token.
+    /// rule for these follows each token. The result is the last token of the production, if it has one.
     pub(super) fn number_symbols<S: Storage>(
         &self,
         numbered: &mut Vec<Symbol<S>>,
         symbols: &[cfgast::Symbol],
-    ) -> Result<(), AllocError>
+    ) -> Result<Option<TIdx<S>>, AllocError>
         requires known { All (λ symbol. symbol_error (file_of self.now) symbol ≡ None)
             (map symbol_view symbols.now) }
         requires room { LeavesRoom S.MAX (implicit_in self.now) (file_of self.now) }
-        ensures { OnOk result (map (sym_of S.number) numbered.new.items
+        ensures symbols { OnOk result (map (sym_of S.number) numbered.new.items
             ≡ file_symbols (implicit_in self.now) (file_of self.now) (map symbol_view symbols.now)) }
+        ensures last { IfOk result (λ last.
+            option_map (λ token. slice_get (file_of self.now).tokens (S.number token.0)) last
+            ≡ option_map Some (last_token (map symbol_view symbols.now))) }
     {
         numbered.clear();
+        let mut last = None;
         for symbol in symbols {
-            self.push_symbol(numbered, symbol)?;
+            let token = self.push_symbol(numbered, symbol)?;
+            last = token.or(last);
         }
-        Ok(())
+        Ok(last)
     }
 
-    /// Adds a symbol of the file to those that are numbered.
+    /// Adds a symbol of the file to those that are numbered. The result is its index, if it is a token.
     fn push_symbol<S: Storage>(
         &self,
         numbered: &mut Vec<Symbol<S>>,
         symbol: &cfgast::Symbol,
-    ) -> Result<(), AllocError>
+    ) -> Result<Option<TIdx<S>>, AllocError>
         requires known { symbol_error (file_of self.now) (symbol_view symbol.now) ≡ None }
         requires room { LeavesRoom S.MAX (implicit_in self.now) (file_of self.now) }
-        ensures { OnOk result (map (sym_of S.number) numbered.new.items
+        ensures symbols { OnOk result (map (sym_of S.number) numbered.new.items
             ≡ map (sym_of S.number) numbered.old.items
             ++ spaced (implicit_in self.now)
             (file_symbol (implicit_in self.now) (file_of self.now) (symbol_view symbol.now))) }
+        ensures token { IfOk result (λ token.
+            option_map (λ token. slice_get (file_of self.now).tokens (S.number token.0)) token
+            ≡ option_map Some (token_in (symbol_view symbol.now))) }
     {
         match symbol {
             cfgast::Symbol::Rule(name, _) => {
                 numbered.push(Symbol::Rule(self.rule_of(name.as_str())))?;
+                Ok(None)
             }
             cfgast::Symbol::Token(name, _) => {
-                numbered.push(Symbol::Token(self.token_of(name.as_str())))?;
+                let token = self.token_of(name.as_str());
+                numbered.push(Symbol::Token(token))?;
                 if let Some(rule) = self.implicit_rule() {
                     numbered.push(Symbol::Rule(rule))?;
                 }
+                Ok(Some(token))
             }
         }
-        Ok(())
     }
 
     /// The rule that the file starts from.
@@ -95,7 +106,8 @@ impl Numbering<'_> {
     pub(super) fn token_of<S: Storage>(&self, name: &str) -> TIdx<S>
         requires known { has_name name.now (file_of self.now).tokens ≡ true }
         requires room { LeavesRoom S.MAX (implicit_in self.now) (file_of self.now) }
-        ensures { S.number result.0 ≡ token_index (file_of self.now) name.now }
+        ensures index { S.number result.0 ≡ token_index (file_of self.now) name.now }
+        ensures name { slice_get (file_of self.now).tokens (S.number result.0) ≡ Some name.now }
     {
         let index = self.ast.tokens().get_index_of(name).unwrap();
         TIdx(to_storage(index))

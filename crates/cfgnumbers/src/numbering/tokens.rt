@@ -25,7 +25,7 @@ impl Numbering<'_> {
         ensures { IfOk result (λ rows. map token_view rows.entries
             ≡ map (file_token (file_of self.now)) (zip (file_of self.now).tokens (file_of self.now).spans)) }
     {
-        let mut rows = IndexMap::new(alloc);
+        let mut rows = IndexMap::with_capacity(alloc, self.ast.tokens().len())?;
         for (name, span) in self.ast.tokens().iter().zip(self.ast.spans()) {
             self.put_token(alloc, &mut rows, name.as_str(), *span)?;
         }

@@ -22,7 +22,7 @@ loop-name-preserved g c =
     let before = c.args.rows.now in
     let item : Bor (String Global) × Bor Span = (c.in-Some.name, c.in-Some.field-0-1) in
     c.in_ok-push_added_row.ensures
-    ∙ (λ i. c.loop-name.invariant i ++ added_production 1 (Token ((c.token_of.ensures ∙ ap (token_index s) c.as_str.ensures.value) i) ∷ Rule (c.to_storage.ensures i) ∷ []) ∷ [])
+    ∙ (λ i. c.loop-name.invariant i ++ added_production 1 (Token ((c.token_of.ensures.index ∙ ap (token_index s) c.as_str.ensures.value) i) ∷ Rule (c.to_storage.ensures i) ∷ []) ∷ [])
     ∙ append_assoc before (map (implicit_row s) (map name_seen c.loop-name.yielded)) (implicit_row s (name_seen item) ∷ [])
     ∙ ap (λ rows. before ++ rows) (more_shown (implicit_row s) name_seen c.loop-name.yielded item)
 

@@ -16,7 +16,7 @@ pub put_token-requires : goal.put_token-requires
 put_token-requires c =
     let s = file_of c.args.self.now in
     let from = c.into_iter-name-iterator.ensures.into_iter_gives in
-    let road = tokens_road s c.into_iter-name-iterator.result c.tokens.result.now.keys c.tokens.ensures (ap zip_first from ∙ c.zip-name-items.ensures.first ∙ c.iter.ensures.rest)
+    let road = tokens_road s c.into_iter-name-iterator.result c.tokens-2.result.now.keys c.tokens-2.ensures (ap zip_first from ∙ c.zip-name-items.ensures.first ∙ c.iter.ensures.rest)
     (ap (λ it. iter_rest (zip_second it)) from ∙ c.zip-name-items.ensures.second.0 ∙ c.spans.ensures) in
     let distinct = subst (IsDistinct bytes_eq) (sym (firsts-zip s.tokens s.spans c.requires.well_formed.spans_as_long)) c.requires.well_formed.tokens_distinct in
     let names_are = token_names_shown s c.loop-name.rows.entries (map token_seen c.loop-name.yielded) c.loop-name.invariant in
@@ -35,7 +35,7 @@ pub returns : goal.returns
 returns c =
     let s = file_of c.args.self.now in
     let from = c.into_iter-name-iterator.ensures.into_iter_gives in
-    let road = tokens_road s c.into_iter-name-iterator.result c.tokens.result.now.keys c.tokens.ensures (ap zip_first from ∙ c.zip-name-items.ensures.first ∙ c.iter.ensures.rest)
+    let road = tokens_road s c.into_iter-name-iterator.result c.tokens-2.result.now.keys c.tokens-2.ensures (ap zip_first from ∙ c.zip-name-items.ensures.first ∙ c.iter.ensures.rest)
     (ap (λ it. iter_rest (zip_second it)) from ∙ c.zip-name-items.ensures.second.0 ∙ c.spans.ensures) in
     c.loop-name.invariant
     ∙ ap (map (file_token s)) (YieldsList-end road c.loop-name.yielded c.loop-name.name-iterator c.loop-name.yielded_by _ c.next.new.self c.in-None.is c.next.ensures.steps).0
