@@ -1,7 +1,7 @@
 //! Lines and columns of one text.
 
 ghost use Rattle.std.specs.Prelude.{◌≡◌, ◌≤◌, length, take, IfOk, SomeIff};
-ghost use Rattle.std.specs.List.{count_by};
+ghost use Rattle.std.specs.List.{count_by, slice_range};
 ghost use Rattle.std.specs.Str.{IsCharBoundary};
 ghost use Rattle.cfglines.specs.Characters.{IsOptimalByKind, begins_character};
 ghost use Rattle.cfglines.specs.Lines.{character_count, column, line_end, line_number, line_start};
@@ -106,7 +106,21 @@ impl<'a> Positions<'a> {
         ensures { result ≡ character_count self.now byte }
     {
         let start = self.lines.line_start(byte);
-        self.begun_before(byte) - self.begun_before(start) + 1
+        self.begun_between(start, byte) + 1
+    }
+
+    /// How many characters begin at the first byte or after it, but before the second. Most are so close to each other
+    /// that their own bytes take less time than those from the last counts on.
+    fn begun_between(&self, start: usize, end: usize) -> usize
+        requires order { start ≤ end }
+        requires within { end ≤ length self.now }
+        ensures { result ≡ count_by begins_character (slice_range self.now start end) }
+    {
+        if end - start <= STEP {
+            begun_in(&self.text.as_bytes()[start..end])
+        } else {
+            self.begun_before(end) - self.begun_before(start)
+        }
     }
 
     /// How many characters begin before the byte.
