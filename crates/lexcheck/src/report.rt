@@ -39,10 +39,26 @@ pub fn check<S: Storage>(
         ≡ missing_tokens (token_names grm.now) (map (λ name. name.now) names.now)) }
 {
     let tokens = grm.tokens_map(alloc)?;
+    report_of(alloc, grm, &tokens, names)
+}
+
+/// The report, by the map from the names of tokens to the tokens.
+fn report_of<'a, S: Storage>(
+    alloc: Global,
+    grm: &YaccGrammar<S>,
+    tokens: &HashMap<&'a str, TIdx<S>>,
+    names: &[&'a str],
+) -> Result<LexReport<S>, AllocError>
+    requires { IsTokensMap S.number grm.now tokens.now }
+    ensures unknown { IfOk result (λ report. report.unknown.items
+        ≡ unknown_positions (token_names grm.now) (map (λ name. name.now) names.now)) }
+    ensures missing { IfOk result (λ report. map (λ t. S.number t.0) report.missing.items
+        ≡ missing_tokens (token_names grm.now) (map (λ name. name.now) names.now)) }
+{
     let (tokens_len, _) = grm.iter_tidxs().size_hint();
     let mut given = Vob::from_elem(alloc, false, tokens_len)?;
-    let unknown = mark_given(alloc, grm, &tokens, names, &mut given)?;
-    let missing = unmarked_tokens(alloc, grm, &tokens, names, &given)?;
+    let unknown = mark_given(alloc, grm, tokens, names, &mut given)?;
+    let missing = unmarked_tokens(alloc, grm, tokens, names, &given)?;
     Ok(LexReport { unknown, missing })
 }
 
