@@ -6,6 +6,9 @@ def begins_character(byte):
     return byte & 0xC0 != 0x80
 
 
+WIDTH, LEAD = 160, 40
+
+
 def shown(name, t, message, span):
     """A message at a span, the line in which the span starts, and carets under it."""
     start, end = span
@@ -14,12 +17,18 @@ def shown(name, t, message, span):
     begin, stop = t.rfind(b'\n', 0, start) + 1, (t + b'\n').find(b'\n', start)
     if stop < len(t) and t[begin:stop].endswith(b'\r'):
         stop -= 1
-    under = ''.join('\t' if byte == 9 else ' ' for byte in t[begin:min(start, stop)] if begins_character(byte))
-    carets = sum(map(begins_character, t[start:min(end, stop)])) or 1
-    return ['%s:%d:%d: %s' % (name, *position(t, start), message), t[begin:stop].decode('utf-8'), under + '^' * carets]
+    line, before = t[begin:stop].decode('utf-8'), t[begin:min(start, stop)].decode('utf-8')
+    covered = sum(map(begins_character, t[start:min(end, stop)]))
+    first = max(0, len(before) - LEAD) if len(line) > WIDTH else 0
+    last = min(len(line), first + WIDTH)
+    cut, is_long = '...' if first else '', '...' if last < len(line) else ''
+    under = ' ' * len(cut) + ''.join('\t' if c == '\t' else ' ' for c in before[first:])
+    carets = min(covered, last - len(before)) or 1
+    head = '%s:%d:%d: %s' % (name, *position(t, start), message)
+    return [head, cut + line[first:last] + is_long, under + '^' * carets]
 
 
 def rendered(name, t, message, spans, spans_kind):
     """The lines that show an error, a warning or a finding in a text of this name."""
     also = spans[1:] if spans_kind == 'DuplicationError' else []
-    return shown(name, t, message, spans[0]) + [line for span in also for line in shown(name, t, 'also here', span)]
+    return shown(name, t, message, spans[0]) + [line for span in also for line in shown(name, t, 'note: also here', span)]

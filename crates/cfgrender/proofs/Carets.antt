@@ -26,14 +26,18 @@ is_column : (begins : Bool) (mark : ℕ) → length (if begins then mark ∷ [] 
 is_column true mark = refl
 is_column false mark = refl
 
-pub prefix_columns : (bytes : List ℕ) → IsUtf8 bytes → length (flat_map under_prefix bytes) ≡ length (chars bytes)
-prefix_columns bytes utf8 = begun_columns under_prefix column bytes ∙ characters_begin bytes utf8
+-- there is a column under each byte before a span that begins a character
+pub prefix_begun : (bytes : List ℕ) → length (flat_map under_prefix bytes) ≡ count_by begins_character bytes
+prefix_begun bytes = begun_columns under_prefix column bytes
   where
     column : IsColumn under_prefix
     column byte = cond_both (byte == 9) (9 ∷ []) (if begins_character byte then 32 ∷ [] else [])
         (λ under. length under ≡ cond (begins_character byte) 1 0)
         (λ tab. rw (begins_low byte (omega (arith, eqb-true byte 9 tab))) refl)
         (λ _. is_column (begins_character byte) 32)
+
+pub prefix_columns : (bytes : List ℕ) → IsUtf8 bytes → length (flat_map under_prefix bytes) ≡ length (chars bytes)
+prefix_columns bytes utf8 = prefix_begun bytes ∙ characters_begin bytes utf8
 
 pub span_columns : (bytes : List ℕ) → IsUtf8 bytes → length (flat_map under_span bytes) ≡ length (chars bytes)
 span_columns bytes utf8 =

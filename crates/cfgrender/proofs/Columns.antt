@@ -1,18 +1,24 @@
 -- Carets begin in the column of their span's start, and there are as many as characters above them.
-use Rattle.std.proofs.Common.{◌≡◌, ℕ, ◌+◌, ◌-◌, ◌<◌, ◌≤◌, Bool, true, false, if◌then◌else◌, List, [], ◌∷◌, length, take, drop, min, max, get_or, get_or-drop, length-take, chars, ⊎_elim, subst, refl, ◌∙◌, ap, sym, arith}
+use Rattle.std.proofs.Common.{◌≡◌, ℕ, ◌+◌, ◌-◌, ◌<◌, ◌≤◌, Bool, true, false, cond, nat_le, if◌then◌else◌, List, [], ◌∷◌, length, take, drop, min, max, get_or, get_or-drop, length-take, length-drop, chars, ⊎_elim, subst, refl, ◌∙◌, ap, sym, arith}
+use Rattle.std.proofs.Math.Seq.{take-add}
 use Rattle.std.proofs.Math.Utf8.{encodes}
-use Rattle.std.proofs.lemmas.Bool.{cases_eq, cases_lt}
-use Rattle.std.proofs.lemmas.List.Sums.{position_or_len_is, suffix_len-take_yes, suffix_len-le-length}
-use Rattle.std.proofs.lemmas.Str.{IsCharBoundary-before_ascii, IsUtf8-between, IsUtf8-nil, chars-nil, encodes-chars}
+use Rattle.std.proofs.lemmas.Bool.{cases_eq, cases_lt, cond_both}
+use Rattle.std.proofs.lemmas.List.{get_or-take}
+use Rattle.std.proofs.lemmas.List.Sums.{position_or_len_is, suffix_len-take_yes, suffix_len-le-length, sum_by-append}
+use Rattle.std.proofs.lemmas.Str.{IsCharBoundary-before_ascii, IsCharBoundary-start, IsUtf8-between, IsUtf8-nil, chars-nil, encodes-chars}
+use Rattle.std.specs.Fmt.{take_chars}
 use Rattle.std.specs.List.{flat_map, slice_range, position_or_len, suffix_len}
 use Rattle.std.specs.Str.{IsCharBoundary, IsUtf8}
 use Rattle.cfgbase.specs.declared.span.Span.{Span}
+use Rattle.cfglines.specs.Characters.{begins_character}
 use Rattle.cfglines.specs.Lines.{character_count, column, ends_crlf, is_newline, line_end, line_start}
 use Rattle.cfglines.proofs.LineEnds.{is_other, line_start-suffix_len, line_start-le, line_end-position}
 use Rattle.cfglines.proofs.LinePrefixes.{line_begins, line_prefix_is}
-use Rattle.cfgrender.specs.Render.{carets, shown_end, shown_prefix, shown_span, under_prefix}
-use Rattle.cfgrender.proofs.Carets.{prefix_columns, span_columns}
-use Rattle.cfgrender.proofs.ShownLines.{line_end_bounds, shown_line_ends, crlf_bytes}
+use Rattle.cfgrender.specs.Render.{carets, characters, line_at, line_stop, offset_in_line, shown_prefix, shown_span, skipped, under_prefix, window_end, window_start}
+use Rattle.cfgrender.proofs.Carets.{prefix_begun, prefix_columns, span_columns}
+use Rattle.cfgrender.proofs.Cuts.{boundary_begins, boundary_from_begins, characters-take-le, cut_first, more_after, take_take}
+use Rattle.cfgrender.proofs.Windows.{window_end_boundary}
+use Rattle.cfgrender.proofs.LineStops.{line_end_bounds, line_stop_ends, crlf_bytes}
 
 -- this many columns precede the carets
 before : (text : List ℕ) (b : ℕ) → IsUtf8 text → IsCharBoundary text b
@@ -23,7 +29,7 @@ before text b utf8 offset =
     ap (λ n. n + 1) (prefix_columns _ piece ∙ ap (λ prefix. length (chars prefix)) (sym (line_prefix_is text b offset.0)))
 
 -- an offset other than that of an LF right after a CR is in the shown part of its line
-shown_up_to : (text : List ℕ) (b : ℕ) → b ≤ length text → ends_crlf text b ≡ false → min b (shown_end text b) ≡ b
+shown_up_to : (text : List ℕ) (b : ℕ) → b ≤ length text → ends_crlf text b ≡ false → min b (line_stop text b) ≡ b
 shown_up_to text b within other = by_its_end (ends_crlf text (line_end text b)) refl
   where
     end_if : Bool → ℕ
@@ -38,7 +44,7 @@ shown_up_to text b within other = by_its_end (ends_crlf text (line_end text b)) 
 
 -- such an LF is in the same column as its CR
 at_crlf : (text : List ℕ) (b : ℕ) → b ≤ length text → ends_crlf text b ≡ true
-    → (line_start text (b - 1) ≡ line_start text b) × (min b (shown_end text b) ≡ b - 1)
+    → (line_start text (b - 1) ≡ line_start text b) × (min b (line_stop text b) ≡ b - 1)
 at_crlf text b within h =
     let (some, newline, return) = crlf_bytes text b h in
     let more : suffix_len is_other (take b text) ≡ 1 + suffix_len is_other (take (b - 1) text) =
@@ -47,7 +53,7 @@ at_crlf text b within h =
     position_or_len_is is_newline (drop b text) 0 0 (omega arith) (λ k below. absurd (omega arith))
     (λ _. ap is_newline (get_or-drop b text 0 0 ∙ (ap (λ i. get_or text i 0) (omega arith) ∙ newline))) in
     let end : line_end text b ≡ b = omega (arith, line_end-position text b, length-take b text) in
-    let shown : shown_end text b ≡ b - 1 = rw end (rw h refl) in (
+    let shown : line_stop text b ≡ b - 1 = rw end (rw h refl) in (
       omega (
         arith,
         line_start-suffix_len text b,
@@ -59,13 +65,14 @@ at_crlf text b within h =
       omega arith,
     )
 
-pub carets_begin_at_column : (text : List ℕ) (b : ℕ) → IsUtf8 text → IsCharBoundary text b
-    → length (flat_map under_prefix (shown_prefix text b)) + 1 ≡ column text b
+-- of the whole line this many columns precede the carets
+whole_begins_at_column : (text : List ℕ) (b : ℕ) → IsUtf8 text → IsCharBoundary text b
+    → length (flat_map under_prefix (slice_range text (line_start text b) (min b (line_stop text b)))) + 1 ≡ column text b
 unfolding column
-carets_begin_at_column text b utf8 offset = by_column (ends_crlf text b) refl
+whole_begins_at_column text b utf8 offset = by_column (ends_crlf text b) refl
   where
     by_column : (crlf : Bool) → ends_crlf text b ≡ crlf
-        → length (flat_map under_prefix (shown_prefix text b)) + 1
+        → length (flat_map under_prefix (slice_range text (line_start text b) (min b (line_stop text b)))) + 1
         ≡ (if crlf then character_count text (b - 1) else character_count text b)
     by_column false other =
         ap (λ n. length (flat_map under_prefix (slice_range text (line_start text b) n)) + 1)
@@ -80,20 +87,90 @@ carets_begin_at_column text b utf8 offset = by_column (ends_crlf text b) refl
         ∙ (ap (λ n. length (flat_map under_prefix (slice_range text n (b - 1))) + 1) (sym start)
         ∙ before text (b - 1) utf8 return_offset)
 
--- the shown part of a span is a piece of the text
-shown_span_utf8 : (text : List ℕ) (span : Span) → IsUtf8 text
-    → IsCharBoundary text span.start → IsCharBoundary text span.end
-    → IsUtf8 (shown_span text span)
-shown_span_utf8 text span utf8 start end =
-    let line = shown_line_ends text span.start start.0 in
-    let stop : IsCharBoundary text (min span.end (shown_end text span.start)) = ⊎_elim
-    (λ less. subst (IsCharBoundary text) (omega arith) end)
-    (λ more. subst (IsCharBoundary text) (omega arith) line.1)
-    (cases_lt span.end (shown_end text span.start)) in
-    ⊎_elim
-    (λ less. let none : min span.end (shown_end text span.start) - span.start ≡ 0 = omega arith in rw none IsUtf8-nil)
-    (λ more. IsUtf8-between text span.start (min span.end (shown_end text span.start)) utf8 more start stop)
-    (cases_lt (min span.end (shown_end text span.start)) span.start)
+module _ (text : List ℕ) (b : ℕ) (utf8 : IsUtf8 text) (boundary : IsCharBoundary text b) where
+  line_utf8 : IsUtf8 (line_at text b)
+  line_utf8 =
+      let ends = line_stop_ends text b boundary.0 in
+      IsUtf8-between text (line_start text b) (line_stop text b) utf8 ends.0 (line_begins text b utf8 boundary.0) ends.1
+
+  length_line : length (line_at text b) ≡ line_stop text b - line_start text b
+  length_line =
+      let ends = line_stop_ends text b boundary.0 in
+      omega (arith, ends.0, ends.1.0, length-take (line_stop text b - line_start text b) (drop (line_start text b) text), length-drop (line_start text b) text)
+
+  -- a boundary of the text is one of the line
+  line_boundary : (i : ℕ) → line_start text b + i ≤ line_stop text b → IsCharBoundary text (line_start text b + i) → IsCharBoundary (line_at text b) i
+  line_boundary i within there =
+      let ends = line_stop_ends text b boundary.0 in
+      boundary_from_begins (line_at text b) i (omega (arith, length_line, ends.0)) (λ less.
+      let inside : i < line_stop text b - line_start text b = omega (arith, length_line) in
+      let same : get_or (line_at text b) i 0 ≡ get_or text (line_start text b + i) 0 =
+      get_or-take _ (drop (line_start text b) text) i 0 inside ∙ get_or-drop (line_start text b) text i 0 in
+      subst (λ byte. begins_character byte ≡ true) (sym same) (boundary_begins text (line_start text b + i) there (omega (arith, ends.1.0))))
+
+  pub offset_boundary : IsCharBoundary (line_at text b) (offset_in_line text b)
+  offset_boundary =
+      let ends = line_stop_ends text b boundary.0 in
+      let start = line_start-le text b in
+      ⊎_elim
+      (λ less. line_boundary _ (omega arith) (subst (IsCharBoundary text) (omega arith) boundary))
+      (λ more. line_boundary _ (omega (arith, ends.0)) (subst (IsCharBoundary text) (omega (arith, ends.0)) ends.1))
+      (cases_lt b (line_stop text b))
+
+  prefix_is : take (offset_in_line text b) (line_at text b) ≡ slice_range text (line_start text b) (min b (line_stop text b))
+  prefix_is = take_take (offset_in_line text b) (line_stop text b - line_start text b) (drop (line_start text b) text) (omega arith)
+
+-- a window starts no later than its span
+pub skipped-le : (line : List ℕ) (start : ℕ) → skipped line start ≤ characters (take start line)
+unfolding skipped
+skipped-le line start = cond_both (nat_le (characters line) 160) 0 (characters (take start line) - 40) (λ n. n ≤ characters (take start line)) (λ _. omega arith) (λ _. omega arith)
+
+window_before : (line : List ℕ) (start : ℕ) → IsCharBoundary line start → window_start line start ≤ start
+unfolding window_start
+window_before line start boundary = ⊎_elim
+    (λ over.
+    let cut = cut_first (skipped line start) line in
+    let more = more_after line start _ over cut.within (boundary_begins line start boundary (omega (arith, cut.within))) in
+    absurd (omega (arith, cut.count, skipped-le line start)))
+    (λ fine. fine)
+    (cases_lt start (length (take_chars (skipped line start) line)))
+
+first_count : (line : List ℕ) (start : ℕ) → characters (take (window_start line start) line) ≡ min (skipped line start) (characters line)
+unfolding window_start
+first_count line start = (cut_first (skipped line start) line).count
+
+-- the characters before a span are those before its window, and the others
+window_prefix : (line : List ℕ) (start : ℕ) → IsCharBoundary line start
+    → characters (shown_prefix line start) + skipped line start ≡ characters (take start line)
+window_prefix line start boundary =
+    let first = window_start line start in
+    let before = window_before line start boundary in
+    let whole : characters (take (first + (start - first)) line) ≡ characters (take first line) + characters (take (start - first) (drop first line)) =
+    ap characters (take-add first (start - first) line) ∙ sum_by-append (λ byte. cond (begins_character byte) 1 0) (take first line) (take (start - first) (drop first line)) in
+    let all : characters (take (first + (start - first)) line) ≡ characters (take start line) = ap (λ n. characters (take n line)) (omega arith) in
+    omega (arith, first_count line start, skipped-le line start, characters-take-le line start)
+
+pub carets_begin_at_column : (text : List ℕ) (b : ℕ) → IsUtf8 text → IsCharBoundary text b
+    → length (flat_map under_prefix (shown_prefix (line_at text b) (offset_in_line text b))) + skipped (line_at text b) (offset_in_line text b) + 1
+    ≡ column text b
+carets_begin_at_column text b utf8 boundary =
+    let line = line_at text b in
+    let start = offset_in_line text b in
+    let shown = prefix_begun (shown_prefix line start) in
+    let parts = window_prefix line start (offset_boundary text b utf8 boundary) in
+    let whole = whole_begins_at_column text b utf8 boundary in
+    let prefix : length (flat_map under_prefix (take start line)) ≡ length (flat_map under_prefix (slice_range text (line_start text b) (min b (line_stop text b)))) =
+    ap (λ piece. length (flat_map under_prefix piece)) (prefix_is text b utf8 boundary) in
+    let begun = prefix_begun (take start line) in
+    omega (arith, shown, parts, whole, prefix, begun)
+
+-- the shown part of a span is text
+shown_span_utf8 : (line : List ℕ) (start end : ℕ) → IsUtf8 line → IsCharBoundary line start → IsCharBoundary line (min end (window_end line start))
+    → IsUtf8 (shown_span line start end)
+shown_span_utf8 line start end utf8 begins ends = ⊎_elim
+    (λ less. let none : min end (window_end line start) - start ≡ 0 = omega arith in rw none IsUtf8-nil)
+    (λ more. IsUtf8-between line start (min end (window_end line start)) utf8 more begins ends)
+    (cases_lt (min end (window_end line start)) start)
 
 has_characters : (characters : List ℕ) (byte : ℕ) (bytes : List ℕ)
     → encodes characters ≡ byte ∷ bytes → 0 < length characters
@@ -107,8 +184,22 @@ carets_count (byte ∷ bytes) utf8 =
     let some = has_characters (chars (byte ∷ bytes)) byte bytes (encodes-chars (byte ∷ bytes) utf8) in
     omega arith
 
-pub carets_count_characters : (text : List ℕ) (span : Span) → IsUtf8 text
-    → IsCharBoundary text span.start → IsCharBoundary text span.end
-    → length (carets (shown_span text span)) ≡ max 1 (length (chars (shown_span text span)))
-carets_count_characters text span utf8 start end =
-    carets_count (shown_span text span) (shown_span_utf8 text span utf8 start end)
+pub carets_count_characters : (text : List ℕ) (span : Span) → IsUtf8 text → IsCharBoundary text span.start → IsCharBoundary text span.end
+    → let shown = shown_span (line_at text span.start) (offset_in_line text span.start) (span.end - line_start text span.start) in
+    length (carets shown) ≡ max 1 (length (chars shown))
+carets_count_characters text span utf8 starts ends =
+    let b = span.start in
+    let line = line_at text b in
+    let start = offset_in_line text b in
+    let end = span.end - line_start text b in
+    let whole = line_utf8 text b utf8 starts in
+    let len = length_line text b utf8 starts in
+    let last = window_end_boundary line start in
+    let stop : IsCharBoundary line (min end (window_end line start)) = ⊎_elim
+    (λ less. subst (IsCharBoundary line) (omega arith) (⊎_elim
+    (λ before. subst (IsCharBoundary line) (omega arith) (IsCharBoundary-start line whole))
+    (λ after. line_boundary text b utf8 starts end (omega (arith, last.0)) (subst (IsCharBoundary text) (omega arith) ends))
+    (cases_lt span.end (line_start text b))))
+    (λ more. subst (IsCharBoundary line) (omega arith) last)
+    (cases_lt end (window_end line start)) in
+    carets_count _ (shown_span_utf8 line start end whole (offset_boundary text b utf8 starts) stop)

@@ -1,5 +1,7 @@
 pub mod Carets
+pub mod Cuts
 pub mod Columns
 pub mod Several
-pub mod ShownLines
+pub mod LineStops
 pub mod Reported
+pub mod Windows

@@ -1,7 +1,7 @@
 -- What is printed of an error: where it is and what it says, the line of the text, and carets under the span.
-use Rattle.std.specs.Prelude.{ℕ, ◌-◌, Bool, ◌&&◌, ◌==◌, nat_le, if◌then◌else◌, List, [], ◌∷◌, ◌++◌, length, slice_index, min, codes}
-use Rattle.std.specs.List.{flat_map, slice_range}
-use Rattle.std.specs.Fmt.{decimal}
+use Rattle.std.specs.Prelude.{ℕ, ◌+◌, ◌-◌, Bool, ◌&&◌, ◌==◌, nat_le, nat_lt, if◌then◌else◌, List, [], ◌∷◌, ◌++◌, length, take, slice_index, min, codes}
+use Rattle.std.specs.List.{count_by, flat_map, slice_range}
+use Rattle.std.specs.Fmt.{decimal, take_chars}
 use Rattle.cfgbase.specs.declared.span.Span.{Span}
 use Rattle.cfgbase.specs.declared.span.SpansKind.{SpansKind}
 use Rattle.cfgbase.specs.declared.span.SpansKind.TheVariants.{DuplicationError, Error}
@@ -12,21 +12,52 @@ use Rattle.cfglines.specs.Lines.{ends_crlf, line_number, line_start, line_end, c
 abbrev pub is_offset : List ℕ → ℕ → Bool
 is_offset text b = nat_le b (length text) && begins_character (slice_index text b)
 
--- where the shown part of b's line ends: before the LF that ends the line, and before a CR right before that LF
-abbrev pub shown_end : List ℕ → ℕ → ℕ
-shown_end text b = if ends_crlf text (line_end text b) then line_end text b - 1 else line_end text b
+-- where b's line ends without its line end: before the LF that ends it, and before a CR right before that LF
+abbrev pub line_stop : List ℕ → ℕ → ℕ
+line_stop text b = if ends_crlf text (line_end text b) then line_end text b - 1 else line_end text b
 
--- b's line as it is shown
-abbrev pub shown_line : List ℕ → ℕ → List ℕ
-shown_line text b = slice_range text (line_start text b) (shown_end text b)
+-- b's line without its line end
+abbrev pub line_at : List ℕ → ℕ → List ℕ
+line_at text b = slice_range text (line_start text b) (line_stop text b)
 
--- the part of that line before b
-abbrev pub shown_prefix : List ℕ → ℕ → List ℕ
-shown_prefix text b = slice_range text (line_start text b) (min b (shown_end text b))
+-- where b is in that line; an LF right after a CR is where the CR is
+abbrev pub offset_in_line : List ℕ → ℕ → ℕ
+offset_in_line text b = min b (line_stop text b) - line_start text b
 
--- the part of a span that its first line shows
-abbrev pub shown_span : List ℕ → Span → List ℕ
-shown_span text span = slice_range text span.start (min span.end (shown_end text span.start))
+-- how many characters a piece of a text has
+abbrev pub characters : List ℕ → ℕ
+characters piece = count_by begins_character piece
+
+-- a line of more characters than this is cut to a window of so many
+abbrev pub window_width : ℕ
+window_width = 160
+
+-- a window begins so many characters before its span
+abbrev pub window_lead : ℕ
+window_lead = 40
+
+-- how many characters of a line come before the window on it, for a span that starts at this offset of the line
+unfoldable pub skipped : List ℕ → ℕ → ℕ
+skipped line start = if nat_le (characters line) window_width then 0 else characters (take start line) - window_lead
+
+-- where that window starts and ends
+unfoldable pub window_start : List ℕ → ℕ → ℕ
+window_start line start = length (take_chars (skipped line start) line)
+
+unfoldable pub window_end : List ℕ → ℕ → ℕ
+window_end line start = length (take_chars (skipped line start + window_width) line)
+
+-- what is written where a line is cut
+abbrev pub dots : Bool → List ℕ
+dots cut = if cut then codes "..." else []
+
+-- what is written below that
+abbrev pub under_dots : Bool → List ℕ
+under_dots cut = if cut then codes "   " else []
+
+-- a line as it is shown, for a window from `start` up to `end`
+abbrev pub shown_line : List ℕ → ℕ → ℕ → List ℕ
+shown_line line start end = dots (nat_lt 0 start) ++ (slice_range line start end ++ dots (nat_lt end (length line)))
 
 -- what is under a byte before the span: a tab under a tab, and a space under any other character
 abbrev pub under_prefix : ℕ → List ℕ
@@ -41,10 +72,27 @@ abbrev pub carets : List ℕ → List ℕ
 carets [] = codes "^"
 carets (byte ∷ bytes) = flat_map under_span (byte ∷ bytes)
 
+-- the part of a line between the start of its window and that of the span
+abbrev pub shown_prefix : List ℕ → ℕ → List ℕ
+shown_prefix line start = slice_range line (window_start line start) start
+
+-- the part of a span that its line shows, where the span covers the bytes from `start` up to `end` of the line
+abbrev pub shown_span : List ℕ → ℕ → ℕ → List ℕ
+shown_span line start end = slice_range line start (min end (window_end line start))
+
+-- what is below a line
+abbrev pub marks : List ℕ → ℕ → ℕ → List ℕ
+marks line start end = under_dots (nat_lt 0 (window_start line start))
+    ++ (flat_map under_prefix (shown_prefix line start) ++ carets (shown_span line start end))
+
+-- a line and the carets below it
+unfoldable pub marked_line : List ℕ → ℕ → ℕ → List ℕ
+marked_line line start end = shown_line line (window_start line start) (window_end line start) ++ (codes "\n"
+    ++ (marks line start end ++ codes "\n"))
+
 -- the line where a span starts, and the carets below it
-unfoldable pub excerpt : List ℕ → Span → List ℕ
-excerpt text span = shown_line text span.start ++ (codes "\n"
-    ++ (flat_map under_prefix (shown_prefix text span.start) ++ (carets (shown_span text span) ++ codes "\n")))
+abbrev pub excerpt : List ℕ → Span → List ℕ
+excerpt text span = marked_line (line_at text span.start) (offset_in_line text span.start) (span.end - line_start text span.start)
 
 -- the line `NAME: WORDS`
 abbrev pub plain_line : List ℕ → List ℕ → List ℕ
@@ -63,7 +111,7 @@ reported name text words span = if is_offset text span.start
 
 -- what the spans after the first one add: each is a duplicate's, or nothing is printed for them
 abbrev pub reported_also : SpansKind → List ℕ → List ℕ → List Span → List ℕ
-reported_also DuplicationError name text spans = flat_map (reported name text (codes "also here")) spans
+reported_also DuplicationError name text spans = flat_map (reported name text (codes "note: also here")) spans
 reported_also Error name text spans = []
 
 -- what is printed, in a text of this name, of an error or a warning with this message, these spans, and spans of this kind

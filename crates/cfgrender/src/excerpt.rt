@@ -1,19 +1,20 @@
 //! The line where a span starts, with carets under the span.
 
 ghost use Rattle.std.specs.Prelude.{◌≡◌, ◌-◌, ◌++◌, ◌≤◌, if◌then◌else◌, length, min, OnOk};
-ghost use Rattle.std.specs.Prelude.{string_bytes};
+ghost use Rattle.std.specs.Prelude.{nat_lt, string_bytes};
 ghost use Rattle.std.specs.List.{flat_map, slice_range};
 ghost use Rattle.std.specs.Str.{IsCharBoundary};
 ghost use Rattle.cfglines.specs.Lines.{ends_crlf, line_start};
-ghost use Rattle.cfgrender.specs.Render.{carets, excerpt, shown_end, under_prefix, under_span};
+ghost use Rattle.cfgrender.specs.Render.{carets, dots, excerpt, line_stop, marked_line, marks, shown_line};
+ghost use Rattle.cfgrender.specs.Render.{under_dots, under_prefix, under_span};
 
+use crate::window::window;
 use cfgbase::Span;
 use cfglines::Positions;
 use cfglines::positions::begins_character;
 use std::alloc::AllocError;
 
 /// Writes the line where a span starts, and the carets below it.
-#[tactic(auto, unfolding(crate::specs::Render::excerpt))]
 pub(crate) fn push_excerpt(
     out: &mut String,
     positions: &Positions<'_>,
@@ -22,21 +23,17 @@ pub(crate) fn push_excerpt(
     requires { IsCharBoundary positions.now span.start }
     ensures { OnOk result (string_bytes out.new ≡ string_bytes out.old ++ excerpt positions.now span) }
 {
-    let text = positions.text();
-    let at = span.start();
-    let (start, end) = shown_line(positions, at);
-    let bytes = text.as_bytes();
-    out.push_str(&text[start..end])?;
-    out.push_str("\n")?;
-    push_under_prefix(out, &bytes[start..at.min(end)])?;
-    push_carets(out, piece(bytes, at, span.end().min(end)))?;
-    out.push_str("\n")
+    let (first, last) = line_bytes(positions, span.start());
+    let line = &positions.text()[first..last];
+    let start = span.start().min(last) - first;
+    let end = span.end().saturating_sub(first);
+    push_marked_line(out, line, start, end)
 }
 
-/// Where the line of an offset starts, and where its shown part ends.
-fn shown_line(positions: &Positions<'_>, at: usize) -> (usize, usize)
+/// Where the line of an offset starts, and where it ends without its line end.
+fn line_bytes(positions: &Positions<'_>, at: usize) -> (usize, usize)
     requires { at ≤ length positions.now }
-    ensures value { result ≡ (line_start positions.now at, shown_end positions.now at) }
+    ensures value { result ≡ (line_start positions.now at, line_stop positions.now at) }
     ensures ordered { result.0 ≤ result.1 }
     ensures begins { IsCharBoundary positions.now result.0 }
     ensures ends { IsCharBoundary positions.now result.1 }
@@ -54,6 +51,46 @@ fn without_line_end(text: &[u8], end: usize) -> usize
         Some(last) if text.get(last) == Some(&b'\r') && text.get(end) == Some(&b'\n') => last,
         _ => end,
     }
+}
+
+/// Writes a line and the carets below it, for a span from `start` up to `end` in it.
+#[tactic(auto, unfolding(crate::specs::Render::marked_line))]
+fn push_marked_line(
+    out: &mut String,
+    line: &str,
+    start: usize,
+    end: usize,
+) -> Result<(), AllocError>
+    requires { IsCharBoundary line.now start }
+    ensures { OnOk result (string_bytes out.new ≡ string_bytes out.old ++ marked_line line.now start end) }
+{
+    let (first, last) = window(line, start);
+    push_shown_line(out, line, first, last)?;
+    out.push_str("\n")?;
+    let bytes = line.as_bytes();
+    if first > 0 {
+        out.push_str("   ")?;
+    }
+    push_under_prefix(out, piece(bytes, first, start))?;
+    push_carets(out, piece(bytes, start, end.min(last)))?;
+    out.push_str("\n")
+}
+
+/// Writes the part of a line between two offsets, with dots at each end where the line goes on.
+fn push_shown_line(out: &mut String, line: &str, start: usize, end: usize) -> Result<(), AllocError>
+    requires ordered { start ≤ end }
+    requires begins { IsCharBoundary line.now start }
+    requires ends { IsCharBoundary line.now end }
+    ensures { OnOk result (string_bytes out.new ≡ string_bytes out.old ++ shown_line line.now start end) }
+{
+    if start > 0 {
+        out.push_str("...")?;
+    }
+    out.push_str(&line[start..end])?;
+    if end < line.len() {
+        out.push_str("...")?;
+    }
+    Ok(())
 }
 
 /// The bytes from `start` up to `end`, or none if `end` isn't after `start`.

@@ -5,5 +5,6 @@ mod excerpt;
 pub mod laws;
 pub mod message;
 mod source;
+mod window;
 
 pub use message::{render, render_all};

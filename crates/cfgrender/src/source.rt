@@ -65,10 +65,10 @@ impl<'a> Source<'a> {
     fn push_each(&self, out: &mut String, spans: &[Span]) -> Result<(), AllocError>
         ensures { OnOk result (string_bytes out.new
             ≡ string_bytes out.old
-            ++ flat_map (reported self.now.name.now self.now.offsets (codes "also here")) spans.now) }
+            ++ flat_map (reported self.now.name.now self.now.offsets (codes "note: also here")) spans.now) }
     {
         for span in spans {
-            self.push_reported(out, "also here", *span)?;
+            self.push_reported(out, "note: also here", *span)?;
         }
         Ok(())
     }

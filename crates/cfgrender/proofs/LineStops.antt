@@ -1,4 +1,4 @@
--- A line, as it is shown, is a piece of its text.
+-- A line without its line end is a piece of its text.
 use Rattle.std.proofs.Common.{◌≡◌, ℕ, ◌-◌, ◌<◌, ◌≤◌, Bool, true, false, if◌then◌else◌, List, length, drop, get_or, get_or-drop, length-take, length-drop, ⊎_elim, subst, ◌∙◌, ap, sym, refl, arith}
 use Rattle.std.proofs.lemmas.Bool.{cases_lt, and_parts, eqb-true, ltb-true}
 use Rattle.std.proofs.lemmas.List.Sums.{passes_at_first, prefix_len-le-length}
@@ -8,7 +8,7 @@ use Rattle.std.specs.Str.{IsCharBoundary}
 use Rattle.cfglines.specs.Lines.{is_newline, ends_crlf, line_start, line_end}
 use Rattle.cfglines.proofs.LineEnds.{is_other, line_start-le, line_end-position}
 use Rattle.cfglines.proofs.LinePrefixes.{before_line_start}
-use Rattle.cfgrender.specs.Render.{shown_end}
+use Rattle.cfgrender.specs.Render.{line_stop}
 
 -- a line ends in the text, and not before the offset
 pub line_end_bounds : (text : List ℕ) (b : ℕ) → b ≤ length text
@@ -49,10 +49,10 @@ whole_line_ends text b within =
     (λ end. subst (IsCharBoundary text) (omega arith) (IsCharBoundary-end text))
     (cases_lt (line_end text b) (length text))
 
--- the shown part of a line ends where a character does, and not before the line starts
-pub shown_line_ends : (text : List ℕ) (b : ℕ) → b ≤ length text
-    → (line_start text b ≤ shown_end text b) × IsCharBoundary text (shown_end text b)
-shown_line_ends text b within = by_its_end (ends_crlf text (line_end text b)) refl
+-- a line without its line end ends where a character does, and not before the line starts
+pub line_stop_ends : (text : List ℕ) (b : ℕ) → b ≤ length text
+    → (line_start text b ≤ line_stop text b) × IsCharBoundary text (line_stop text b)
+line_stop_ends text b within = by_its_end (ends_crlf text (line_end text b)) refl
   where
     not_empty : 0 < line_end text b → get_or text (line_end text b - 1) 0 ≡ 13 → line_start text b < line_end text b
     not_empty some return = ⊎_elim (λ less. less)
