@@ -1,6 +1,6 @@
 //! The files and the error stream of a runtime.
 
-use crate::source::{self, Source};
+use crate::source::{self, ReadError, Source};
 use std::fs;
 use std::io::{self, Read, Write};
 use std::rt::Files;
@@ -28,8 +28,18 @@ impl<R: Files + Input + AllocGlobal> Source for SystemFiles<'_, R> {
             Err(error) if error.kind() == io::ErrorKind::OutOfMemory => {
                 source::Input::OutOfMemory
             }
-            Err(_) => source::Input::Unreadable,
+            Err(error) => source::Input::Unreadable(read_error(error.kind())),
         }
+    }
+}
+
+/// The reason that an error of this kind gives.
+fn read_error(kind: io::ErrorKind) -> ReadError {
+    match kind {
+        io::ErrorKind::NotFound => ReadError::NotFound,
+        io::ErrorKind::IsADirectory => ReadError::IsADirectory,
+        io::ErrorKind::PermissionDenied => ReadError::PermissionDenied,
+        _ => ReadError::Other,
     }
 }
 

@@ -12,13 +12,26 @@ pub trait Source {
         ensures { fetches self.old name.now result self.new };
 }
 
+/// Why a file could not be read, as far as the system says; running out of memory is no such reason.
+#[derive(Clone, Copy, Debug, PartialEq, Eq)]
+pub enum ReadError {
+    /// There is no such file.
+    NotFound,
+    /// It is a directory.
+    IsADirectory,
+    /// Reading it is not permitted.
+    PermissionDenied,
+    /// Another reason.
+    Other,
+}
+
 /// What a source returns.
 #[derive(Debug, Drop)]
 pub enum Input {
     /// The file's bytes.
     Bytes(Vec<u8>),
-    /// The file could not be read, for a reason other than memory.
-    Unreadable,
+    /// The file could not be read, for this reason.
+    Unreadable(ReadError),
     /// There was no memory to read it.
     OutOfMemory,
 }

@@ -3,7 +3,7 @@
 use crate::narrow::Narrow;
 use crate::rooms::{Run, write_rooms};
 use cfglint::lint;
-use cfgtool::{Counted, Input, Sink, Source, run};
+use cfgtool::{Counted, Input, ReadError, Sink, Source, run};
 use std::alloc::{AllocError, Global};
 use vectors_rows::page::Page;
 use vectors_rows::row::Row;
@@ -21,7 +21,7 @@ impl Source for TwoFiles {
         let next = self.second.take();
         let input = self.first.take();
         self.first = next;
-        input.unwrap_or(Input::Unreadable)
+        input.unwrap_or(Input::Unreadable(ReadError::Other))
     }
 }
 
@@ -131,7 +131,7 @@ fn run_over(
 /// The content of the row's file.
 fn input(alloc: Global, row: &Row<'_>, text: &str) -> Result<Input, AllocError> {
     Ok(match row.first("input") {
-        Some("unreadable") => Input::Unreadable,
+        Some("unreadable") => Input::Unreadable(ReadError::Other),
         Some("memory") => Input::OutOfMemory,
         Some("latin") => Input::Bytes([0x41, 0xff].to_vec(alloc)?),
         _ => Input::Bytes(text.as_bytes().to_vec(alloc)?),
