@@ -1,4 +1,6 @@
 """The output of the program `cfglint`, and its status: "The program cfglint"."""
+import re
+
 from .faults import Fault
 from .findings import findings_of
 from .grammar import Grammar
@@ -6,51 +8,99 @@ from .rendered import rendered
 from .section import named_kind, section
 from .validation import errors_of
 
-USAGE = 'usage: cfglint [--kind KIND] [--deny-warnings] FILE..\n'
+USAGE = 'usage: cfglint [OPTION..] [--] FILE..\n'
 VERSION = 'cfglint 0.15.0\n'
-HELP = '''cfglint tells what is wrong with Yacc grammar files, and what is odd about them.
+HELP = '''cfglint reports errors in Yacc grammar files, and warnings about their grammars.
 
-usage: cfglint [--kind KIND] [--deny-warnings] FILE..
+usage: cfglint [OPTION..] [--] FILE..
 
-  --kind KIND      original-noaction, original-useraction, original-genericparsetree, grmtools, eco or section
-                   (the kind that the file's section names). Without it the section names the kind; a file that
-                   names none is read as original-noaction.
-  --deny-warnings  Warnings end with status 1 too.
-  --help           Writes this.
-  --version        Writes the version.
-  FILE             A path, or - for standard input.
+  --kind KIND        original-noaction, original-useraction, original-genericparsetree, grmtools, eco or section
+                     (the kind that the file's section names). Without it the section names the kind; a file that
+                     names none is read as original-noaction.
+  --allow FINDING    Findings of this kind aren't reported.
+  --deny FINDING     Findings of this kind are errors.
+  --deny-warnings    Warnings end with status 1 too.
+  --quiet            Writes no summary.
+  --stdin-name NAME  Standard input is reported under this name.
+  -h, --help         Writes this.
+  --version          Writes the version.
+  --                 What follows are files.
+  FILE               A path, or - for standard input.
 
-status: 0 without errors or denied warnings; 1 with either; 2 where the arguments are wrong, a file can't be
-read or the output can't be written; 3 where there is no memory left
+FINDING is unused-rule, unused-token, no-sentence, unusable-production, cyclic-rule, repeated-production or
+unused-precedence; of several --allow and --deny with the same one the last counts. --kind=KIND is --kind KIND, and
+so on.
+
+status: 0 without errors or denied warnings; 1 with either; 2 if the arguments are wrong, a file can't be read or
+the output can't be written; 3 if there is no memory left
 '''
 KINDS = ('original-noaction', 'original-useraction', 'original-genericparsetree', 'grmtools', 'eco', 'section')
+FINDINGS = ('unused-rule', 'unused-token', 'no-sentence', 'unusable-production', 'cyclic-rule', 'repeated-production',
+            'unused-precedence')
 GREATEST = 4294967295
-UNREADABLE, NO_MEMORY = object(), object()         # in place of the bytes of a file
+NO_MEMORY = object()                               # in place of the bytes of a file
+
+
+class Unreadable:
+    """In place of the bytes of a file that can't be read: why, if the system says so."""
+
+    def __init__(self, error=None):
+        reasons = {FileNotFoundError: ': it is not there', IsADirectoryError: ': it is a directory',
+                   PermissionError: ': permission denied'}
+        self.reason = reasons.get(type(error), '')
+
+
+class Wrong(Exception):
+    """Wrong arguments: the line that says what is wrong."""
 
 
 class Options:
     def __init__(self):
-        self.kind, self.denies, self.files = None, False, []
+        self.kind, self.denies, self.is_quiet, self.stdin_name, self.files = None, False, False, '-', []
+        self.levels = dict.fromkeys(FINDINGS, 'warning')
+
+    def set(self, option, value):
+        if option == '--stdin-name':
+            self.stdin_name = value
+        elif option == '--kind':
+            self.kind = named(value, 'kind', 'kinds', KINDS)
+        else:
+            self.levels[named(value, 'finding', 'findings', FINDINGS)] = 'error' if option == '--deny' else None
+
+
+def named(value, one, several, values):
+    if value not in values:
+        raise Wrong("unknown %s '%s': the %s are %s" % (one, value, several, ', '.join(values)))
+    return value
 
 
 def options_of(arguments):
-    """The options and files of the command line, or `help`, `version` or `wrong`."""
+    """The options and files of the command line, or the text that it asks for."""
     options, left = Options(), list(arguments)
     while left:
         argument = left.pop(0)
-        if argument in ('--help', '--version'):
-            return argument[2:]
-        if argument == '--deny-warnings':
+        option, equals, value = argument.partition('=')
+        if argument in ('-h', '--help'):
+            return HELP
+        if argument == '--version':
+            return VERSION
+        if argument == '--':
+            options.files, left = options.files + left, []
+        elif argument == '--deny-warnings':
             options.denies = True
-        elif argument == '--kind':
-            if not left or left[0] not in KINDS:
-                return 'wrong'
-            options.kind = left.pop(0)
+        elif argument == '--quiet':
+            options.is_quiet = True
+        elif option in ('--kind', '--allow', '--deny', '--stdin-name'):
+            if not equals and not left:
+                raise Wrong("option '%s' needs a value" % option)
+            options.set(option, value if equals else left.pop(0))
         elif argument.startswith('-') and argument != '-':
-            return 'wrong'
+            raise Wrong("unknown option '%s'" % argument)
         else:
             options.files.append(argument)
-    return options if options.files else 'wrong'
+    if not options.files:
+        raise Wrong('no file is given')
+    return options
 
 
 class Tally:
@@ -59,7 +109,8 @@ class Tally:
     def __init__(self):
         self.lines, self.faults, self.texts, self.defaults, self.errors, self.warnings = '', '', 0, 0, 0, 0
 
-    def add_text(self, kind, name, t, is_printed):
+    def add_text(self, options, name, t, is_printed):
+        kind = options.kind
         values, errors, _ = section(t, False)
         is_default = kind is None and not errors and 'yacckind' not in values
         self.texts += 1
@@ -73,15 +124,22 @@ class Tally:
         grammar = Grammar(tree)
         if not grammar.fits(GREATEST):
             return self.add_errors(name, t, [Fault('StorageTooSmall', (0, 0))])
-        found = findings_of(tree, grammar, is_printed)
-        self.warnings += len(found)
-        for finding in found:
-            self.add_lines(rendered(name, t, finding.text, finding.spans, finding.spans_kind()))
+        for finding in findings_of(tree, grammar, is_printed):
+            self.add_finding(name, t, finding, options.levels)
 
     def add_errors(self, name, t, errors):
         self.errors += len(errors)
         for error in errors:
-            self.add_lines(rendered(name, t, error.display(), error.spans, error.spans_kind()))
+            self.add_lines(rendered(name, t, 'error: ' + error.display(), error.spans, error.spans_kind()))
+
+    def add_finding(self, name, t, finding, levels):
+        word = re.sub('(?<=.)[A-Z]', lambda capital: '-' + capital.group(), finding.kind).lower()
+        level = levels[word]
+        self.errors += level == 'error'
+        self.warnings += level == 'warning'
+        if level:
+            text = '%s: %s [%s]' % (level, finding.text, word)
+            self.add_lines(rendered(name, t, text, finding.spans, finding.spans_kind()))
 
     def add_lines(self, lines):
         self.lines += ''.join(line + '\n' for line in lines)
@@ -110,23 +168,26 @@ def counted(n, word):
 
 
 def result(arguments, fetch, is_printed):
-    """The output, the errors and the status of a run, or None if memory runs out. `fetch` returns the bytes of a file, UNREADABLE or
-    NO_MEMORY."""
-    options = options_of(arguments)
+    """The output, the errors and the status of a run, or None if memory runs out. `fetch` returns the bytes of a file, an Unreadable
+    or NO_MEMORY."""
+    try:
+        options = options_of(arguments)
+    except Wrong as wrong:
+        return '', 'cfglint: %s\n%s' % (wrong, USAGE), 2
     if not isinstance(options, Options):
-        return {'help': (HELP, '', 0), 'version': (VERSION, '', 0), 'wrong': ('', USAGE, 2)}[options]
+        return options, '', 0
     tally = Tally()
-    for name in options.files:
-        t = fetch(name)
+    for file in options.files:
+        t, name = fetch(file), options.stdin_name if file == '-' else file
         if t is NO_MEMORY:
             return None
-        if t is UNREADABLE:
-            tally.faults += 'cfglint: cannot read %s\n' % name
+        if isinstance(t, Unreadable):
+            tally.faults += 'cfglint: cannot read %s%s\n' % (name, t.reason)
         elif not is_utf8(t):
             tally.faults += 'cfglint: %s is not UTF-8\n' % name
         else:
-            tally.add_text(options.kind, name, t, is_printed)
-    return tally.lines + tally.summary(), tally.faults, tally.status(options.denies)
+            tally.add_text(options, name, t, is_printed)
+    return tally.lines + ('' if options.is_quiet else tally.summary()), tally.faults, tally.status(options.denies)
 
 
 def is_utf8(t):

@@ -16,7 +16,7 @@ use Rattle.cfgrammar.proofs.Shows.{rule_named}
 use Rattle.cfgrammar.specs.Step.{Step}
 use Rattle.cfglint.specs.Shown.{ShownFinding, cyclic_finding, rule_name, rule_span, step_text, nullable}
 use Rattle.cfglint.proofs.Read.{production_there, symbols_read}
-use Rattle.cfglint.specs.declared.finding.FindingKind.TheVariants.{IsCyclic}
+use Rattle.cfglint_shell.specs.declared.finding_kind.FindingKind.TheVariants.{IsCyclic}
 
 regroup : (t a b c d e : List ℕ) → (((t ++ a) ++ b) ++ (c ++ d)) ++ e ≡ t ++ (a ++ (b ++ (c ++ (d ++ e))))
 regroup t a b c d e = simp append_assoc

@@ -6,8 +6,8 @@ use Rattle.cfgrammar.specs.Numbered.{Numbered}
 use Rattle.cfgrammar.specs.Accessors.{production_part, rule_part}
 use Rattle.cfgrammar.proofs.Shows.{rule_named}
 use Rattle.cfglint.specs.Shown.{ShownFinding, no_sentence, production_span, quoted, rule_name, rule_span, unusable}
-use Rattle.cfglint.specs.declared.finding.FindingKind.{FindingKind}
-use Rattle.cfglint.specs.declared.finding.FindingKind.TheVariants.{NoSentence, UnusableProduction}
+use Rattle.cfglint_shell.specs.declared.finding_kind.FindingKind.{FindingKind}
+use Rattle.cfglint_shell.specs.declared.finding_kind.FindingKind.TheVariants.{NoSentence, UnusableProduction}
 
 -- what comes after a name in quotes
 after_quoted : (name prefix back : List ℕ) → prefix ++ (codes "'" ++ (name ++ (codes "'" ++ back))) ≡ prefix ++ (quoted name ++ back)

@@ -1,6 +1,6 @@
 -- What is reported for a text: its errors, or the findings about its grammar.
-use Rattle.std.specs.Prelude.{◌≡◌, ℕ, List, Option, length}
-use Rattle.std.specs.List.{flat_map}
+use Rattle.std.specs.Prelude.{◌≡◌, ℕ, ◌+◌, Bool, true, false, if◌then◌else◌, List, [], ◌∷◌, ◌++◌, codes, length}
+use Rattle.std.specs.List.{count_by, flat_map}
 use Rattle.cfgrammar.specs.YaccKind.TheVariants.{Original}
 use Rattle.cfgrammar.specs.YaccOriginalActionKind.TheVariants.{NoAction}
 use Rattle.cfgrammar.specs.Errors.{GrammarError}
@@ -12,16 +12,44 @@ use Rattle.cfgrammar.specs.Numbered.{Numbered}
 use Rattle.cfgrammar.specs.Syntax.{Syntax}
 use Rattle.cfgprogram.specs.declared.kinds.KindArg.{KindArg}
 use Rattle.cfgdriver.specs.ReadText.{IsFound, IsMadeOf, IsReadAs}
+use Rattle.cfglint_shell.specs.declared.levels.Level.{Level}
+use Rattle.cfglint_shell.specs.declared.levels.Level.TheVariants.{Allow, Warn, Deny}
+use Rattle.cfglint_shell.specs.declared.levels.Levels.{Levels}
+use Rattle.cfglint_shell.specs.declared.linter.LintOptions.{LintOptions}
+use Rattle.cfglint_shell.specs.FindingKinds.{level_of, word_of}
 use Rattle.cfglint_shell.specs.Tally.{Printed}
 use Rattle.cfglint.specs.Findings.{AreFindings}
 use Rattle.cfglint.specs.Shown.{ShownFinding, spanskind_of}
 
+-- a finding that is reported, as an error or as a warning
+pub record Reported : Type 0 where
+  pub finding : ShownFinding
+  pub is_error : Bool
+
+-- the findings that are reported with these levels
+abbrev pub reported_at : Level → ShownFinding → List Reported
+reported_at Allow finding = []
+reported_at Warn finding = record { finding = finding; is_error = false } ∷ []
+reported_at Deny finding = record { finding = finding; is_error = true } ∷ []
+
+abbrev pub reported_by : Levels → List ShownFinding → List Reported
+reported_by levels findings = flat_map (λ (finding : ShownFinding). reported_at (level_of levels finding.kind) finding) findings
+
+-- the message of an error, and that of a finding: with its severity, a finding's also with the word of its kind
+abbrev pub error_message : GrammarError → List ℕ
+error_message error = codes "error: " ++ error_text error.kind
+
+abbrev pub finding_message : Reported → List ℕ
+finding_message reported = (if reported.is_error then codes "error" else codes "warning")
+    ++ (codes ": " ++ (reported.finding.text ++ (codes " [" ++ (word_of reported.finding.kind ++ codes "]"))))
+
 -- the lines for errors and for findings, for a text with this name
 abbrev pub error_lines : List ℕ → List ℕ → List GrammarError → List ℕ
-error_lines name text reported = flat_map (λ (error : GrammarError). rendered name text (error_text error.kind) error.spans (errors.spanskind_of error.kind)) reported
+error_lines name text all = flat_map (λ (error : GrammarError). rendered name text (error_message error) error.spans (errors.spanskind_of error.kind)) all
 
-abbrev pub finding_lines : List ℕ → List ℕ → List ShownFinding → List ℕ
-finding_lines name text reported = flat_map (λ (finding : ShownFinding). rendered name text finding.text finding.spans (spanskind_of finding.kind)) reported
+abbrev pub finding_lines : List ℕ → List ℕ → List Reported → List ℕ
+finding_lines name text all =
+    flat_map (λ (reported : Reported). rendered name text (finding_message reported) reported.finding.spans (spanskind_of reported.finding.kind)) all
 
 -- what is reported for a text in a file with this name
 module _ (name text : List ℕ) where
@@ -29,16 +57,18 @@ module _ (name text : List ℕ) where
   abbrev pub ReportsErrors : List GrammarError → Printed → Type 0
   ReportsErrors all reported = (reported.lines ≡ error_lines name text all) × (reported.errors ≡ length all) × (reported.warnings ≡ 0)
 
-  -- the findings about its grammar, given its syntax and its numbers
-  abbrev pub ReportsFindings : Syntax → Numbered → Printed → Type 0
-  ReportsFindings s g reported = (all : List ShownFinding) × AreFindings s g all
-      × (reported.lines ≡ finding_lines name text all) × (reported.errors ≡ 0) × (reported.warnings ≡ length all)
+  -- the findings about its grammar, given its syntax and its numbers, with these levels; those that are no errors are warnings
+  abbrev pub ReportsFindings : Levels → Syntax → Numbered → Printed → Type 0
+  ReportsFindings levels s g reported = (all : List ShownFinding) × AreFindings s g all
+      × (reported.lines ≡ finding_lines name text (reported_by levels all))
+      × (reported.errors ≡ count_by (λ (finding : Reported). finding.is_error) (reported_by levels all))
+      × (reported.errors + reported.warnings ≡ length (reported_by levels all))
 
--- What is reported for a text in a file with this name, read as this kind if one is requested: its errors if it has any, and otherwise its
--- findings.
-pub record ReportsText (kind : Option KindArg) (name text : List ℕ) (reported : Printed) : Type 0 where
+-- What is reported for a text in a file with this name, read as the options' kind if they have one: its errors if it has any, and otherwise
+-- its findings.
+pub record ReportsText (options : LintOptions) (name text : List ℕ) (reported : Printed) : Type 0 where
   pub read_kind : KindArg
   pub found : Found
-  pub read_as : IsReadAs (Original NoAction) text kind read_kind reported.is_taken
+  pub read_as : IsReadAs (Original NoAction) text options.kind read_kind reported.is_taken
   pub is_found : IsFound read_kind text found
-  pub reports : IsMadeOf (ReportsErrors name text) (ReportsFindings name text) found reported
+  pub reports : IsMadeOf (ReportsErrors name text) (ReportsFindings name text options.levels) found reported

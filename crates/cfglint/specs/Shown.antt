@@ -15,8 +15,8 @@ use Rattle.cfgrammar.specs.YaccGrammarWarningKind.TheVariants as warnings
 use Rattle.cfgrammar.specs.Numbered.{Numbered, core}
 use Rattle.cfgrammar.specs.Accessors.{production_part, rule_part, sym_name}
 use Rattle.cfgrammar.specs.Openings.{nth_production}
-use Rattle.cfglint.specs.declared.finding.FindingKind.{FindingKind}
-use Rattle.cfglint.specs.declared.finding.FindingKind.TheVariants.{IsCyclic, NoSentence, RepeatedProduction, UnusableProduction, UnusedPrecedence, UnusedRule, UnusedToken}
+use Rattle.cfglint_shell.specs.declared.finding_kind.FindingKind.{FindingKind}
+use Rattle.cfglint_shell.specs.declared.finding_kind.FindingKind.TheVariants.{IsCyclic, NoSentence, RepeatedProduction, UnusableProduction, UnusedPrecedence, UnusedRule, UnusedToken}
 
 -- the kind of finding, its spans and its text
 pub record ShownFinding : Type 0 where

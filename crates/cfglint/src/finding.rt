@@ -3,30 +3,11 @@
 ghost use Rattle.std.specs.Prelude.{◌≡◌, [], ◌∷◌, IfOk, Some, string_bytes};
 ghost use Rattle.cfglint.specs.Shown.{position_of};
 
+pub use cfglint_shell::FindingKind;
 use cfgrammar::{Span, Spanned, SpansKind};
 use std::alloc::{AllocError, Global};
 use std::fmt;
 use std::marker::Model;
-
-/// The kind of a finding about a grammar without errors.
-#[derive(Clone, Copy, Debug, PartialEq, Eq)]
-pub enum FindingKind {
-    /// The rule isn't reachable from the start rule.
-    UnusedRule,
-    /// The token isn't reachable from the start rule, and no production's `%prec` names it.
-    UnusedToken,
-    /// The rule derives no list of tokens.
-    NoSentence,
-    /// No sentence of the production's rule uses it, since it contains an unproductive rule.
-    UnusableProduction,
-    /// The rule is cyclic, so each of its sentences has infinitely many parse trees.
-    IsCyclic,
-    /// The rule has an earlier production with the same symbols, so each sentence by one of the two has two parse
-    /// trees.
-    RepeatedProduction,
-    /// The token is given a precedence, but is in no production, and no production takes its precedence from it.
-    UnusedPrecedence,
-}
 
 /// A finding about a grammar, at one or more spans.
 #[derive(Debug, Drop)]

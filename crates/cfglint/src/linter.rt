@@ -1,16 +1,17 @@
 //! What is reported for a text.
 
 use crate::found::findings;
+use crate::reported::{error_count, reported_errors, reported_findings};
 use cfgdriver::{TextReader, read_text_or};
-use cfglint_shell::{Linter, Report};
-use cfgprogram::KindArg;
+use cfglint_shell::{Levels, LintOptions, Linter, Report};
 use cfgrammar::render_all;
 use cfgrammar::yacc::ast::GrammarAST;
 use cfgrammar::yacc::{YaccGrammar, YaccGrammarError, YaccKind, YaccOriginalActionKind};
 use std::alloc::{AllocError, Global};
 
-/// Reports a text's errors, or the findings about its grammar, each with its line of the text and carets. If no kind is
-/// requested, a text is read as the kind that its section names or, if it names none, as the kind without actions.
+/// Reports a text's errors, or the findings about its grammar that the options don't allow, each with its line of the
+/// text and carets. If no kind is requested, a text is read as the kind that its section names or, if it names none, as
+/// the kind without actions.
 #[derive(Clone, Copy, Debug)]
 pub struct Lints;
 
@@ -22,12 +23,14 @@ impl Linter for Lints {
     fn lint(
         &self,
         alloc: Global,
-        kind: Option<KindArg>,
+        options: &LintOptions,
         name: &str,
         text: &str,
     ) -> Result<Report, AllocError> {
         let default = YaccKind::Original(YaccOriginalActionKind::NoAction);
-        let (report, is_taken) = read_text_or(alloc, kind, default, text, &FileReporter { name })?;
+        let levels = options.levels;
+        let reporter = FileReporter { name, levels };
+        let (report, is_taken) = read_text_or(alloc, options.kind, default, text, &reporter)?;
         Ok(Report { is_taken, ..report })
     }
 }
@@ -36,6 +39,7 @@ impl Linter for Lints {
 #[derive(Clone, Copy)]
 struct FileReporter<'a> {
     name: &'a str,
+    levels: Levels,
 }
 
 impl TextReader<Report> for FileReporter<'_> {
@@ -43,7 +47,7 @@ impl TextReader<Report> for FileReporter<'_> {
 
     ghost of_errors = { λ x. ReportsErrors x.name.now };
 
-    ghost of_grammar = { λ x. ReportsFindings x.name.now };
+    ghost of_grammar = { λ x text. ReportsFindings x.name.now text x.levels };
 
     fn errors(
         &self,
@@ -51,7 +55,8 @@ impl TextReader<Report> for FileReporter<'_> {
         text: &str,
         errors: &[YaccGrammarError],
     ) -> Result<Report, AllocError> {
-        let lines = render_all(alloc, self.name, text, errors)?;
+        let reported = reported_errors(alloc, errors)?;
+        let lines = render_all(alloc, self.name, text, &reported)?;
         Ok(Report {
             lines,
             is_taken: false,
@@ -68,12 +73,14 @@ impl TextReader<Report> for FileReporter<'_> {
         grammar: &YaccGrammar<u32>,
     ) -> Result<Report, AllocError> {
         let all = findings(alloc, ast, grammar)?;
-        let lines = render_all(alloc, self.name, text, &all)?;
+        let reported = reported_findings(alloc, &all, &self.levels)?;
+        let lines = render_all(alloc, self.name, text, &reported)?;
+        let errors = error_count(&reported);
         Ok(Report {
             lines,
             is_taken: false,
-            errors: 0,
-            warnings: all.len(),
+            errors,
+            warnings: reported.len() - errors,
         })
     }
 }

@@ -1,2 +1,3 @@
 pub mod RequestedArguments
 pub mod FilesInTurn
+pub mod Words

@@ -4,18 +4,47 @@ use Rattle.std.specs.Io.KnownBytes.{Appends}
 use Rattle.cfgsink.specs.Sinks.{AppendsPrefix}
 use Rattle.cfglint_shell.specs.declared.arguments.Requested as requested_code
 use Rattle.cfglint_shell.specs.declared.arguments.Requested.TheVariants as variants
+use Rattle.cfglint_shell.specs.declared.arguments.Stop as stop_code
+use Rattle.cfglint_shell.specs.declared.arguments.Stop.TheVariants as stop
+use Rattle.cfglint_shell.specs.declared.arguments.Step as step_code
+use Rattle.cfglint_shell.specs.declared.arguments.Step.TheVariants as step
 use Rattle.cfglint_shell.specs.declared.arguments.Options as options_code
+use Rattle.cfglint_shell.specs.declared.usage.UsageError as error_code
+use Rattle.cfglint_shell.specs.declared.usage.UsageError.TheVariants as error
 use Rattle.cfglint_shell.specs.Run.{Answer, Answered, Ending, NoMemory, Unwritten}
-use Rattle.cfglint_shell.specs.Requests.{Requested, Help, Lint, Version, Options, Wrong}
+use Rattle.cfglint_shell.specs.Requests.{Requested, Help, Lint, Version, Options, Wrong, Step, Goes, Stops, UsageError, UnknownOption, UnknownKind, UnknownFinding, MissingValue, NoFile}
 
--- what the code's arguments ask for
+-- the code's options
 abbrev pub options_view : options_code.Options → Options
-options_view options = record { kind = options.kind; denies = options.denies; files = map (λ file. file.now) options.files.items }
+options_view options = record {
+  lint = options.lint;
+  stdin_name = options.stdin_name.now;
+  denies = options.denies;
+  is_quiet = options.is_quiet;
+  files = map (λ file. file.now) options.files.items;
+}
 
+-- what the code finds wrong with arguments
+abbrev pub usage_error_view : error_code.UsageError → UsageError
+usage_error_view (error.UnknownOption option) = UnknownOption option.now
+usage_error_view (error.UnknownKind kind) = UnknownKind kind.now
+usage_error_view (error.UnknownFinding finding) = UnknownFinding finding.now
+usage_error_view (error.MissingValue option) = MissingValue option
+usage_error_view error.NoFile = NoFile
+
+abbrev pub stop_view : stop_code.Stop → Requested
+stop_view stop.Help = Help
+stop_view stop.Version = Version
+stop_view (stop.Wrong error) = Wrong (usage_error_view error)
+
+-- what the code does with an argument, which leaves these options
+abbrev pub step_view : Options → step_code.Step → Step
+step_view options (step.Goes expected) = Goes expected options
+step_view options (step.Stops stop) = Stops (stop_view stop)
+
+-- what the code's arguments request
 abbrev pub requested_view : requested_code.Requested → Requested
-requested_view variants.Help = Help
-requested_view variants.Version = Version
-requested_view variants.Wrong = Wrong
+requested_view (variants.Stops stop) = stop_view stop
 requested_view (variants.Lint options) = Lint (options_view options)
 
 -- how a run with this result ends, and what its output then gets

@@ -1,3 +1,4 @@
+pub mod FindingKinds
 pub mod Requests
 pub mod Tally
 pub mod Files

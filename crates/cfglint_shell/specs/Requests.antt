@@ -1,67 +1,171 @@
--- What the program's arguments ask for, and what it then says about itself.
-use Rattle.std.specs.Prelude.{ℕ, Bool, true, false, not, ◌&&◌, ◌==◌, List, [], ◌∷◌, ◌++◌, Option, Some, None, codes, if◌then◌else◌}
+-- What the program's arguments request, and what it then says about itself.
+use Rattle.std.specs.Prelude.{ℕ, Bool, true, false, not, ◌&&◌, ◌||◌, ◌==◌, nat_lt, List, [], ◌∷◌, ◌++◌, length, Option, Some, None, codes, if◌then◌else◌}
+use Rattle.std.specs.List.{after_first, before_first, position_or_len}
 use Rattle.std.specs.Option.{option_map_or}
 use Rattle.std.specs.Str.{bytes_eq}
 use Rattle.cfgprogram.specs.Kinds.{kind_named}
-use Rattle.cfgprogram.specs.declared.kinds.KindArg.{KindArg}
+use Rattle.cfglint_shell.specs.declared.arguments.Expected.{Expected}
+use Rattle.cfglint_shell.specs.declared.arguments.Expected.TheVariants.{Argument, Value, File}
+use Rattle.cfglint_shell.specs.declared.levels.Level.{Level}
+use Rattle.cfglint_shell.specs.declared.levels.Level.TheVariants as level
+use Rattle.cfglint_shell.specs.declared.linter.LintOptions.{LintOptions}
+use Rattle.cfglint_shell.specs.declared.usage.ValueOption.{ValueOption}
+use Rattle.cfglint_shell.specs.declared.usage.ValueOption.TheVariants.{Kind, Allow, Deny, StdinName}
+use Rattle.cfglint_shell.specs.FindingKinds.{finding_named, warns_all, with_level}
 
--- that these files are linted, in order, as files of the given kind, or else each as the kind that it names; and whether warnings are
--- denied
+-- that these files are linted, in order; the name under which standard input is reported; whether warnings are denied, and whether the
+-- summary is left out
 pub record Options : Type 0 where
-  pub kind : Option KindArg
+  pub lint : LintOptions
+  pub stdin_name : List ℕ
   pub denies : Bool
+  pub is_quiet : Bool
   pub files : List (List ℕ)
 
 -- before the first argument
 abbrev pub no_options : Options
-no_options = record { kind = None; denies = false; files = [] }
+no_options = record {
+  lint = record { kind = None; levels = warns_all };
+  stdin_name = codes "-";
+  denies = false;
+  is_quiet = false;
+  files = [];
+}
+
+-- the name under which a file is reported
+abbrev pub name_of : Options → List ℕ → List ℕ
+name_of options file = if bytes_eq file (codes "-") then options.stdin_name else file
+
+-- what is wrong with arguments: there is no such option; this value of an option names no kind, or no kind of finding; an option's value is
+-- missing; no file is given
+pub data UsageError : Type 0 where
+  UnknownOption : List ℕ → UsageError
+  UnknownKind : List ℕ → UsageError
+  UnknownFinding : List ℕ → UsageError
+  MissingValue : ValueOption → UsageError
+  NoFile : UsageError
 
 pub data Requested : Type 0 where
   Help : Requested
   Version : Requested
-  Wrong : Requested
+  Wrong : UsageError → Requested
   Lint : Options → Requested
+
+-- what an argument does: it is part of the options, and this is expected of the next one; or it decides what is requested
+pub data Step : Type 0 where
+  Goes : Expected → Options → Step
+  Stops : Requested → Step
+
+-- the options that have a value
+abbrev pub option_named : List ℕ → Option ValueOption
+option_named name =
+    if bytes_eq name (codes "--kind") then Some Kind
+    else if bytes_eq name (codes "--allow") then Some Allow
+    else if bytes_eq name (codes "--deny") then Some Deny
+    else if bytes_eq name (codes "--stdin-name") then Some StdinName
+    else None
+
+abbrev pub option_name : ValueOption → List ℕ
+option_name Kind = codes "--kind"
+option_name Allow = codes "--allow"
+option_name Deny = codes "--deny"
+option_name StdinName = codes "--stdin-name"
+
+module _ (options : Options) where
+  -- findings of the kind that this value names get the level
+  abbrev pub with_finding : Level → List ℕ → Step
+  with_finding level value = option_map_or
+      (λ finding. Goes Argument (record options { lint = record options.lint { levels = with_level options.lint.levels finding level } }))
+      (finding_named value) (Stops (Wrong (UnknownFinding value)))
+
+  -- the value of an option
+  abbrev pub with_value : ValueOption → List ℕ → Step
+  with_value Kind value = option_map_or
+      (λ kind. Goes Argument (record options { lint = record options.lint { kind = Some kind } }))
+      (kind_named value) (Stops (Wrong (UnknownKind value)))
+  with_value Allow value = with_finding level.Allow value
+  with_value Deny value = with_finding level.Deny value
+  with_value StdinName value = Goes Argument (record options { stdin_name = value })
+
+  -- an option with a value, which follows an `=` or is the next argument
+  abbrev pub with_option : List ℕ → Step
+  with_option argument = option_map_or
+      (λ option. if nat_lt (position_or_len (λ byte. byte == 61) argument) (length argument)
+      then with_value option (after_first (λ byte. byte == 61) argument)
+      else Goes (Value option) options)
+      (option_named (before_first (λ byte. byte == 61) argument)) (Stops (Wrong (UnknownOption argument)))
+
+  -- a file
+  abbrev pub with_file_argument : List ℕ → Options
+  with_file_argument argument = record options { files = options.files ++ argument ∷ [] }
 
 -- an argument that begins with a dash is an option, except for a single dash, which is standard input
 abbrev pub is_option : List ℕ → Bool
 is_option [] = false
 is_option (first ∷ more) = first == 45 && not (bytes_eq (first ∷ more) (codes "-"))
 
--- at the end of the arguments: at least one file is required
+-- an option or a file
+unfoldable pub with_argument : Options → List ℕ → Step
+with_argument options argument =
+    if bytes_eq argument (codes "-h") || bytes_eq argument (codes "--help") then Stops Help
+    else if bytes_eq argument (codes "--version") then Stops Version
+    else if bytes_eq argument (codes "--") then Goes File options
+    else if bytes_eq argument (codes "--deny-warnings") then Goes Argument (record options { denies = true })
+    else if bytes_eq argument (codes "--quiet") then Goes Argument (record options { is_quiet = true })
+    else if is_option argument then with_option options argument
+    else Goes Argument (with_file_argument options argument)
+
+-- an argument of which this is expected
+abbrev pub with_expected : Options → Expected → List ℕ → Step
+with_expected options (Value option) argument = with_value options option argument
+with_expected options Argument argument = with_argument options argument
+with_expected options File argument = Goes File (with_file_argument options argument)
+
+-- at the end of the arguments: at least one file is required, and no value may be missing
 abbrev pub requested_files : Options → List (List ℕ) → Requested
-requested_files options [] = Wrong
+requested_files options [] = Wrong NoFile
 requested_files options (file ∷ files) = Lint options
 
--- What these arguments ask for after those that gave these options; the flag says whether a kind's name has to come first. The first argument that
--- asks for something else, or is wrong, decides.
-unfoldable pub arguments_ask : Bool → Options → List (List ℕ) → Requested
-arguments_ask true options [] = Wrong
-arguments_ask true options (argument ∷ arguments) =
-    option_map_or (λ kind. arguments_ask false (record options { kind = Some kind }) arguments) (kind_named argument) Wrong
-arguments_ask false options [] = requested_files options options.files
-arguments_ask false options (argument ∷ arguments) =
-    if bytes_eq argument (codes "--help") then Help
-    else if bytes_eq argument (codes "--version") then Version
-    else if bytes_eq argument (codes "--deny-warnings") then arguments_ask false (record options { denies = true }) arguments
-    else if bytes_eq argument (codes "--kind") then arguments_ask true options arguments
-    else if is_option argument then Wrong
-    else arguments_ask false (record options { files = options.files ++ argument ∷ [] }) arguments
+abbrev pub at_end : Options → Expected → Requested
+at_end options (Value option) = Wrong (MissingValue option)
+at_end options Argument = requested_files options options.files
+at_end options File = requested_files options options.files
+
+-- what is requested after an argument that does this, where the others request this after it
+abbrev pub on_step : (Expected → Options → Requested) → Step → Requested
+on_step requests (Goes next options) = requests next options
+on_step requests (Stops requested) = requested
+
+-- What these arguments request after those that gave these options, where this is expected of the first one. The first argument that
+-- requests something else, or is wrong, decides.
+unfoldable pub arguments_request : Expected → Options → List (List ℕ) → Requested
+arguments_request expected options [] = at_end options expected
+arguments_request expected options (argument ∷ arguments) =
+    on_step (λ next options. arguments_request next options arguments) (with_expected options expected argument)
 
 abbrev pub requested : List (List ℕ) → Requested
-requested arguments = arguments_ask false no_options arguments
+requested arguments = arguments_request Argument no_options arguments
 
 -- the files that the arguments name
 abbrev pub files_requested : Requested → List (List ℕ)
 files_requested Help = []
 files_requested Version = []
-files_requested Wrong = []
+files_requested (Wrong error) = []
 files_requested (Lint options) = options.files
 
 abbrev pub usage : List ℕ
-usage = codes "usage: cfglint [--kind KIND] [--deny-warnings] FILE..\n"
+usage = codes "usage: cfglint [OPTION..] [--] FILE..\n"
+
+-- the line that says what is wrong
+abbrev pub usage_error_text : UsageError → List ℕ
+usage_error_text (UnknownOption option) = codes "cfglint: unknown option '" ++ (option ++ codes "'\n")
+usage_error_text (UnknownKind kind) = codes "cfglint: unknown kind '" ++ (kind ++ codes "': the kinds are original-noaction, original-useraction, original-genericparsetree, grmtools, eco, section\n")
+usage_error_text (UnknownFinding finding) = codes "cfglint: unknown finding '" ++ (finding ++ codes "': the findings are unused-rule, unused-token, no-sentence, unusable-production, cyclic-rule, repeated-production, unused-precedence\n")
+usage_error_text (MissingValue option) = codes "cfglint: option '" ++ (option_name option ++ codes "' needs a value\n")
+usage_error_text NoFile = codes "cfglint: no file is given\n"
 
 abbrev pub version : List ℕ
 version = codes "cfglint 0.15.0\n"
 
 abbrev pub help : List ℕ
-help = codes "cfglint tells what is wrong with Yacc grammar files, and what is odd about them.\n\nusage: cfglint [--kind KIND] [--deny-warnings] FILE..\n\n  --kind KIND      original-noaction, original-useraction, original-genericparsetree, grmtools, eco or section\n                   (the kind that the file's section names). Without it the section names the kind; a file that\n                   names none is read as original-noaction.\n  --deny-warnings  Warnings end with status 1 too.\n  --help           Writes this.\n  --version        Writes the version.\n  FILE             A path, or - for standard input.\n\nstatus: 0 without errors or denied warnings; 1 with either; 2 where the arguments are wrong, a file can't be\nread or the output can't be written; 3 where there is no memory left\n"
+help = codes "cfglint reports errors in Yacc grammar files, and warnings about their grammars.\n\nusage: cfglint [OPTION..] [--] FILE..\n\n  --kind KIND        original-noaction, original-useraction, original-genericparsetree, grmtools, eco or section\n                     (the kind that the file's section names). Without it the section names the kind; a file that\n                     names none is read as original-noaction.\n  --allow FINDING    Findings of this kind aren't reported.\n  --deny FINDING     Findings of this kind are errors.\n  --deny-warnings    Warnings end with status 1 too.\n  --quiet            Writes no summary.\n  --stdin-name NAME  Standard input is reported under this name.\n  -h, --help         Writes this.\n  --version          Writes the version.\n  --                 What follows are files.\n  FILE               A path, or - for standard input.\n\nFINDING is unused-rule, unused-token, no-sentence, unusable-production, cyclic-rule, repeated-production or\nunused-precedence; of several --allow and --deny with the same one the last counts. --kind=KIND is --kind KIND, and\nso on.\n\nstatus: 0 without errors or denied warnings; 1 with either; 2 if the arguments are wrong, a file can't be read or\nthe output can't be written; 3 if there is no memory left\n"

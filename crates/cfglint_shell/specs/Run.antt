@@ -1,14 +1,14 @@
 -- How a run of the program ends, and what becomes of its source and its two outputs.
-use Rattle.std.specs.Prelude.{◌≡◌, ℕ, Bool, List, [], ◌++◌, Option, codes}
+use Rattle.std.specs.Prelude.{◌≡◌, ℕ, List, [], ◌++◌, Option, codes, if◌then◌else◌}
 use Rattle.std.specs.Io.KnownBytes.{Appends, Keeps}
 use Rattle.cfgsink.specs.Sinks.{AppendsPrefix}
 use Rattle.cfgprogram.specs.declared.arguments.ArgumentsFault.{ArgumentsFault}
 use Rattle.cfgprogram.specs.declared.arguments.ArgumentsFault.TheVariants as arguments
 use Rattle.cfgprogram.specs.declared.source.Input.{Input}
-use Rattle.cfgprogram.specs.declared.kinds.KindArg.{KindArg}
+use Rattle.cfglint_shell.specs.declared.linter.LintOptions.{LintOptions}
 use Rattle.cfglint_shell.specs.Files.{AsksFirst, Lints}
 use Rattle.cfglint_shell.specs.Tally.{Tally, Printed, no_files, status_of, summary}
-use Rattle.cfglint_shell.specs.Requests.{Requested, Help, Lint, Version, Wrong, requested, files_requested, help, usage, version}
+use Rattle.cfglint_shell.specs.Requests.{Options, Requested, Help, Lint, Version, Wrong, requested, files_requested, help, usage, usage_error_text, version}
 
 -- what a run has to write to its output and to its errors, and the status that it then ends with
 pub record Answer : Type 0 where
@@ -40,31 +40,36 @@ ending_faults (Unwritten answer) = 1
 ending_faults NoMemory = 0
 
 -- the result of a run through files
-abbrev pub answer_of : Bool → Tally → Answer
-answer_of denies tally = record { output = tally.lines ++ summary tally; errors = tally.faults; status = status_of denies tally }
+abbrev pub answer_of : Options → Tally → Answer
+answer_of options tally = record {
+  output = tally.lines ++ (if options.is_quiet then [] else summary tally);
+  errors = tally.faults;
+  status = status_of options.denies tally;
+}
 
 -- the result of arguments that ask for a text
 abbrev pub written : List ℕ → Answer
 written text = record { output = text; errors = []; status = 0 }
 
-abbrev pub refused : Answer
-refused = record { output = []; errors = usage; status = 2 }
+-- the result of arguments that are wrong, as this line says
+abbrev pub refused : List ℕ → Answer
+refused line = record { output = []; errors = line ++ usage; status = 2 }
 
--- how a run ends that has no arguments, for this reason: arguments that are not text are wrong usage
+-- how a run ends that has no arguments, for this reason: arguments that are not text are wrong
 abbrev pub ending_without : ArgumentsFault → Ending
-ending_without arguments.NotUtf8 = Answered refused
+ending_without arguments.NotUtf8 = Answered (refused (codes "cfglint: an argument is not UTF-8\n"))
 ending_without arguments.OutOfMemory = NoMemory
 
 -- `Reports` says what may be reported about a text, and `Fetches` what a source may return for a file, and what the source then is: it was
 -- `before`, and is `after`.
-module _ (Reports : Option KindArg → List ℕ → List ℕ → Printed → Type 0) {S : Type 0} (Fetches : S → List ℕ → Input → S → Type 0) (before after : S) where
+module _ (Reports : LintOptions → List ℕ → List ℕ → Printed → Type 0) {S : Type 0} (Fetches : S → List ℕ → Input → S → Type 0) (before after : S) where
   -- the result of a request
   abbrev pub Answers : Requested → Answer → Type 0
   Answers Help answer = (after ≡ before) × (answer ≡ written help)
   Answers Version answer = (after ≡ before) × (answer ≡ written version)
-  Answers Wrong answer = (after ≡ before) × (answer ≡ refused)
-  Answers (Lint options) answer = (tally : Tally) × Lints Reports options.kind Fetches before no_files options.files after tally
-      × (answer ≡ answer_of options.denies tally)
+  Answers (Wrong error) answer = (after ≡ before) × (answer ≡ refused (usage_error_text error))
+  Answers (Lint options) answer = (tally : Tally) × Lints Reports options Fetches before no_files options.files after tally
+      × (answer ≡ answer_of options tally)
 
   -- what a run does with its arguments, and its output's known bytes: if it runs out of memory, a prefix of the
   -- files that the arguments name was requested of the source, and nothing else

@@ -1,18 +1,20 @@
 -- What is reported about files, one by one, and the summary at the end.
 use Rattle.std.specs.Prelude.{ℕ, ◌+◌, ◌==◌, ◌||◌, nat_lt, Bool, true, false, ◌&&◌, List, [], ◌++◌, codes, if◌then◌else◌}
 use Rattle.std.specs.Fmt.{decimal}
+use Rattle.cfgprogram.specs.declared.source.ReadError.{ReadError}
+use Rattle.cfgprogram.specs.declared.source.ReadError.TheVariants.{NotFound, IsADirectory, PermissionDenied, Other}
 
 -- What is reported about a text: lines as people read them, whether the text names no kind, so that one was assumed, and how many errors
--- and warnings it has.
+-- and warnings are reported.
 pub record Printed : Type 0 where
   pub lines : List ℕ
   pub is_taken : Bool
   pub errors : ℕ
   pub warnings : ℕ
 
--- what became of a file: it could not be read, or is not text, or this was reported about it
+-- what became of a file: it could not be read, for this reason, or is not text, or this was reported about it
 pub data FileOutcome : Type 0 where
-  Unread : FileOutcome
+  Unread : ReadError → FileOutcome
   NoText : FileOutcome
   Linted : Printed → FileOutcome
 
@@ -30,18 +32,25 @@ pub record Tally : Type 0 where
 abbrev pub no_files : Tally
 no_files = record { lines = []; faults = []; texts = 0; taken = 0; errors = 0; warnings = 0; is_short = false }
 
--- the line about a file without text
-abbrev pub unread_line : List ℕ → List ℕ
-unread_line file = codes "cfglint: cannot read " ++ (file ++ codes "\n")
+-- why a file could not be read, if that is known
+abbrev pub reason_text : ReadError → List ℕ
+reason_text NotFound = codes ": it is not there"
+reason_text IsADirectory = codes ": it is a directory"
+reason_text PermissionDenied = codes ": permission denied"
+reason_text Other = []
+
+-- the line about a file of this name without text
+abbrev pub unread_line : List ℕ → ReadError → List ℕ
+unread_line name reason = codes "cfglint: cannot read " ++ (name ++ (reason_text reason ++ codes "\n"))
 
 abbrev pub no_text_line : List ℕ → List ℕ
-no_text_line file = codes "cfglint: " ++ (file ++ codes " is not UTF-8\n")
+no_text_line name = codes "cfglint: " ++ (name ++ codes " is not UTF-8\n")
 
--- with one more file
+-- with one more file, of this name
 abbrev pub with_file : List ℕ → FileOutcome → Tally → Tally
-with_file file Unread t = record t { faults = t.faults ++ unread_line file; is_short = true }
-with_file file NoText t = record t { faults = t.faults ++ no_text_line file; is_short = true }
-with_file file (Linted printed) t = record t {
+with_file name (Unread reason) t = record t { faults = t.faults ++ unread_line name reason; is_short = true }
+with_file name NoText t = record t { faults = t.faults ++ no_text_line name; is_short = true }
+with_file name (Linted printed) t = record t {
   lines = t.lines ++ printed.lines;
   texts = t.texts + 1;
   taken = t.taken + (if printed.is_taken then 1 else 0);

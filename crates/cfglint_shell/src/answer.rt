@@ -3,12 +3,14 @@
 ghost use Rattle.std.specs.Prelude.{◌≡◌, ◌-◌, ◌^◌, ◌<◌, ◌≤◌, ◌++◌, IfOk};
 ghost use Rattle.cfgsink.specs.Runs.{EndsWith};
 ghost use Rattle.cfgsink.specs.Sinks.{AppendsOrFaults};
-ghost use Rattle.cfglint_shell.specs.Inner.{IsEnding};
+ghost use Rattle.cfglint_shell.specs.Inner.{IsEnding, options_view, usage_error_view};
+ghost use Rattle.cfglint_shell.specs.Requests.{usage_error_text};
 ghost use Rattle.cfglint_shell.specs.Run.{answer_of, ending_errors, ending_faults, ending_status, refused, written};
 
-use crate::arguments::USAGE;
+use crate::arguments::Options;
 use crate::summary::summary;
 use crate::tally::Tally;
+use crate::usage::UsageError;
 use cfgsink::sink::{Sink, SinkFault, write_whole};
 use std::alloc::{AllocError, Global};
 use std::marker::Model;
@@ -48,23 +50,31 @@ impl Answer {
         })
     }
 
-    /// The result of wrong arguments.
-    pub(crate) fn refused(alloc: Global) -> Result<Self, AllocError>
-        ensures { IfOk result (λ answer. answer ≡ refused) }
+    /// The result of arguments that are wrong, for this reason.
+    pub(crate) fn refused(alloc: Global, error: &UsageError<'_>) -> Result<Self, AllocError>
+        ensures { IfOk result (λ answer. answer ≡ refused (usage_error_text (usage_error_view error.now))) }
     {
         Ok(Answer {
             output: String::new(alloc),
-            errors: String::from_str(alloc, USAGE)?,
+            errors: error.text(alloc)?,
             status: 2,
         })
     }
 
-    /// The result for what was reported about files, with warnings denied or not.
-    pub(crate) fn of_files(alloc: Global, tally: Tally, denies: bool) -> Result<Self, AllocError>
-        ensures { IfOk result (λ answer. answer ≡ answer_of denies tally) }
+    /// The result for what was reported about files.
+    pub(crate) fn of_files(
+        alloc: Global,
+        tally: Tally,
+        options: &Options<'_>,
+    ) -> Result<Self, AllocError>
+        ensures { IfOk result (λ answer. answer ≡ answer_of (options_view options.now) tally) }
     {
-        let status = tally.status(denies);
-        let last = summary(alloc, &tally)?;
+        let status = tally.status(options.denies);
+        let last = if options.is_quiet {
+            String::new(alloc)
+        } else {
+            summary(alloc, &tally)?
+        };
         let Tally {
             lines: mut output,
             faults: errors,

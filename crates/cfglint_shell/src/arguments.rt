@@ -1,61 +1,74 @@
-//! What the program's arguments ask for, and what it says about itself.
+//! What the program's arguments request.
 
 ghost use Rattle.std.specs.Prelude.{◌≡◌, IfOk, map};
-ghost use Rattle.cfglint_shell.specs.Inner.{requested_view};
-ghost use Rattle.cfglint_shell.specs.Requests.{requested, is_option};
+ghost use Rattle.std.specs.Option.{option_map_or};
+ghost use Rattle.cfglint_shell.specs.declared.usage.ValueOption.TheVariants as value_option;
+ghost use Rattle.cfglint_shell.specs.Inner.{options_view, requested_view, step_view, usage_error_view};
+ghost use Rattle.cfglint_shell.specs.Requests.{at_end, is_option, name_of, no_options, requested};
+ghost use Rattle.cfglint_shell.specs.Requests.{with_argument, with_expected, with_finding, with_option, with_value};
+ghost use Rattle.cfglint_shell.specs.Requests as requests;
 
-use cfgprogram::KindArg;
+use crate::finding_kind::FindingKind;
+use crate::levels::{Level, Levels};
+use crate::linter::LintOptions;
+use crate::usage::{UsageError, ValueOption};
 use cfgprogram::kinds::kind_of;
 use std::alloc::{AllocError, Global};
 
-/// How the program is used, which it prints if the arguments are wrong.
-pub(crate) const USAGE: &str = "usage: cfglint [--kind KIND] [--deny-warnings] FILE..\n";
-
-/// What it prints for `--version`.
-pub(crate) const VERSION: &str = "cfglint 0.15.0\n";
-
-/// What it prints for `--help`.
-pub(crate) const HELP: &str =
-    "cfglint tells what is wrong with Yacc grammar files, and what is odd about them.
-
-usage: cfglint [--kind KIND] [--deny-warnings] FILE..
-
-  --kind KIND      original-noaction, original-useraction, original-genericparsetree, grmtools, eco or section
-                   (the kind that the file's section names). Without it the section names the kind; a file that
-                   names none is read as original-noaction.
-  --deny-warnings  Warnings end with status 1 too.
-  --help           Writes this.
-  --version        Writes the version.
-  FILE             A path, or - for standard input.
-
-status: 0 without errors or denied warnings; 1 with either; 2 where the arguments are wrong, a file can't be
-read or the output can't be written; 3 where there is no memory left
-";
-
-/// What the arguments ask for.
+/// What the arguments request.
 #[derive(Drop)]
 pub(crate) enum Requested<'a> {
+    /// Something else than that files are linted.
+    Stops(Stop<'a>),
+    /// That files are linted.
+    Lint(Options<'a>),
+}
+
+/// What the first argument requests that keeps files from being linted.
+#[derive(Clone, Copy)]
+pub(crate) enum Stop<'a> {
     /// How the program is used.
     Help,
     /// Its version.
     Version,
-    /// Nothing: they are wrong.
-    Wrong,
-    /// That files are linted.
-    Lint(Options<'a>),
+    /// Nothing: the arguments are wrong.
+    Wrong(UsageError<'a>),
 }
 
 /// That these files are linted, in order.
 #[derive(Drop)]
 pub(crate) struct Options<'a> {
-    /// As files of this kind; without one, each as the kind that it names.
-    pub(crate) kind: Option<KindArg>,
+    pub(crate) lint: LintOptions,
+    /// The name under which standard input is reported.
+    pub(crate) stdin_name: &'a str,
     /// Whether warnings are denied.
     pub(crate) denies: bool,
+    /// Whether the summary is left out.
+    pub(crate) is_quiet: bool,
     pub(crate) files: Vec<&'a str>,
 }
 
-/// What the arguments ask for.
+/// What is expected of the next argument.
+#[derive(Clone, Copy)]
+pub(crate) enum Expected {
+    /// An option or a file.
+    Argument,
+    /// The value of this option.
+    Value(ValueOption),
+    /// A file.
+    File,
+}
+
+/// What an argument does.
+#[derive(Clone, Copy)]
+pub(crate) enum Step<'a> {
+    /// It is part of the options; this is expected of the next one.
+    Goes(Expected),
+    /// It decides what is requested.
+    Stops(Stop<'a>),
+}
+
+/// What the arguments request.
 ///
 /// # Errors
 ///
@@ -66,34 +79,142 @@ pub(crate) fn requested_by<'a>(
 ) -> Result<Requested<'a>, AllocError>
     ensures { IfOk result (λ x. requested_view x ≡ requested (map (λ argument. argument.now) arguments.now)) }
 {
-    let mut options = Options {
-        kind: None,
-        denies: false,
-        files: Vec::new(alloc),
-    };
-    let mut awaits_kind = false;
+    let mut options = Options::new(alloc);
+    let mut expected = Expected::Argument;
     for argument in arguments {
-        if awaits_kind {
-            let Some(kind) = kind_of(argument) else {
-                return Ok(Requested::Wrong);
-            };
-            options.kind = Some(kind);
-            awaits_kind = false;
-            continue;
-        }
-        match *argument {
-            "--help" => return Ok(Requested::Help),
-            "--version" => return Ok(Requested::Version),
-            "--deny-warnings" => options.denies = true,
-            "--kind" => awaits_kind = true,
-            file if is_option(file) => return Ok(Requested::Wrong),
-            file => options.files.push(file)?,
+        match options.take(expected, argument)? {
+            Step::Goes(next) => expected = next,
+            Step::Stops(stop) => return Ok(Requested::Stops(stop)),
         }
     }
-    if awaits_kind || options.files.is_empty() {
-        return Ok(Requested::Wrong);
+    match options.missing(expected) {
+        Some(error) => Ok(Requested::Stops(Stop::Wrong(error))),
+        None => Ok(Requested::Lint(options)),
     }
-    Ok(Requested::Lint(options))
+}
+
+impl<'a> Options<'a> {
+    /// Before the first argument.
+    fn new(alloc: Global) -> Self
+        ensures { options_view result ≡ no_options }
+    {
+        Options {
+            lint: LintOptions {
+                kind: None,
+                levels: Levels::warn(),
+            },
+            stdin_name: "-",
+            denies: false,
+            is_quiet: false,
+            files: Vec::new(alloc),
+        }
+    }
+
+    /// The name under which a file is reported.
+    pub(crate) fn name_of(&self, file: &'a str) -> &'a str
+        ensures { result.now ≡ name_of (options_view self.now) file.now }
+    {
+        if file == "-" { self.stdin_name } else { file }
+    }
+
+    /// What is missing at the end of the arguments, if anything is.
+    fn missing(&self, expected: Expected) -> Option<UsageError<'a>>
+        ensures { at_end (options_view self.now) expected ≡ option_map_or
+            (λ error. requests.Wrong (usage_error_view error)) result (requests.Lint (options_view self.now)) }
+    {
+        match expected {
+            Expected::Value(option) => Some(UsageError::MissingValue(option)),
+            _ => self.files.is_empty().then_some(UsageError::NoFile),
+        }
+    }
+
+    /// Takes the next argument.
+    fn take(&mut self, expected: Expected, argument: &'a str) -> Result<Step<'a>, AllocError>
+        ensures { IfOk result (λ step. step_view (options_view self.new) step
+            ≡ with_expected (options_view self.old) expected argument.now) }
+    {
+        match expected {
+            Expected::Value(option) => Ok(self.take_value(option, argument)),
+            Expected::Argument => self.take_argument(argument),
+            Expected::File => {
+                self.files.push(argument)?;
+                Ok(Step::Goes(Expected::File))
+            }
+        }
+    }
+
+    /// Takes an option or a file.
+    #[tactic(auto, unfolding(crate::specs::Requests::with_argument))]
+    fn take_argument(&mut self, argument: &'a str) -> Result<Step<'a>, AllocError>
+        ensures { IfOk result (λ step. step_view (options_view self.new) step
+            ≡ with_argument (options_view self.old) argument.now) }
+    {
+        match argument {
+            "-h" | "--help" => return Ok(Step::Stops(Stop::Help)),
+            "--version" => return Ok(Step::Stops(Stop::Version)),
+            "--" => return Ok(Step::Goes(Expected::File)),
+            "--deny-warnings" => self.denies = true,
+            "--quiet" => self.is_quiet = true,
+            option if is_option(option) => return Ok(self.take_option(option)),
+            file => self.files.push(file)?,
+        }
+        Ok(Step::Goes(Expected::Argument))
+    }
+
+    /// Takes an option with a value, which follows an `=` or is the next argument.
+    fn take_option(&mut self, argument: &'a str) -> Step<'a>
+        ensures { step_view (options_view self.new) result ≡ with_option (options_view self.old) argument.now }
+    {
+        let (name, value) = match argument.split_once('=') {
+            Some((name, value)) => (name, Some(value)),
+            None => (argument, None),
+        };
+        let Some(option) = ValueOption::of_name(name) else {
+            return Step::Stops(Stop::Wrong(UsageError::UnknownOption(argument)));
+        };
+        match value {
+            Some(value) => self.take_value(option, value),
+            None => Step::Goes(Expected::Value(option)),
+        }
+    }
+
+    /// Takes the value of an option.
+    fn take_value(&mut self, option: ValueOption, value: &'a str) -> Step<'a>
+        ensures { step_view (options_view self.new) result ≡ with_value (options_view self.old) option value.now }
+    {
+        match option {
+            ValueOption::Kind => self.take_kind(value),
+            ValueOption::Allow => self.take_level(value, Level::Allow),
+            ValueOption::Deny => self.take_level(value, Level::Deny),
+            ValueOption::StdinName => {
+                self.stdin_name = value;
+                Step::Goes(Expected::Argument)
+            }
+        }
+    }
+
+    /// Takes the kind that files are read as.
+    fn take_kind(&mut self, value: &'a str) -> Step<'a>
+        ensures { step_view (options_view self.new) result
+            ≡ with_value (options_view self.old) value_option.Kind value.now }
+    {
+        let Some(kind) = kind_of(value) else {
+            return Step::Stops(Stop::Wrong(UsageError::UnknownKind(value)));
+        };
+        self.lint.kind = Some(kind);
+        Step::Goes(Expected::Argument)
+    }
+
+    /// Takes a kind of finding, to which it gives this level.
+    fn take_level(&mut self, value: &'a str, level: Level) -> Step<'a>
+        ensures { step_view (options_view self.new) result ≡ with_finding (options_view self.old) level value.now }
+    {
+        let Some(finding) = FindingKind::of_word(value) else {
+            return Step::Stops(Stop::Wrong(UsageError::UnknownFinding(value)));
+        };
+        self.lint.levels.set(finding, level);
+        Step::Goes(Expected::Argument)
+    }
 }
 
 /// Whether the argument is an option.

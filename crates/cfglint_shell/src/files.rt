@@ -3,74 +3,80 @@
 ghost use Rattle.std.specs.Prelude.{◌≡◌, ◌-◌, ◌^◌, ◌<◌, IfOk, OnErr, OnOk, map};
 ghost use Rattle.cfgprogram.specs.declared.source.Input.{Input};
 ghost use Rattle.cfglint_shell.specs.Files.{AsksFirst, IsFileOutcome, IsPrinted, Lints};
+ghost use Rattle.cfglint_shell.specs.Inner.{options_view};
+ghost use Rattle.cfglint_shell.specs.Requests.{name_of};
 ghost use Rattle.cfglint_shell.specs.Tally.{FileOutcome, no_files, with_file};
 
+use crate::arguments::Options;
 use crate::linter::Linter;
 use crate::tally::Tally;
-use cfgprogram::KindArg;
 use cfgprogram::source::{Input, Source};
 use std::alloc::{AllocError, Global};
 
-/// What is reported about files, one by one, as files of the kind; without one, each as the kind that it names.
+/// What is reported about files, one by one, with these options.
 ///
 /// # Errors
 ///
 /// Running out of memory; only a prefix of the files was then requested of `source`.
-pub(crate) fn lint_files<L: Linter, S: Source>(
+pub(crate) fn lint_files<'a, L: Linter, S: Source>(
     alloc: Global,
     linter: &L,
-    kind: Option<KindArg>,
-    files: &[&str],
+    options: &Options<'a>,
+    files: &[&'a str],
     source: &mut S,
 ) -> Result<Tally, AllocError>
-    ensures ok { IfOk result (λ tally. Lints L.reports kind S.fetches source.old no_files
+    ensures ok { IfOk result (λ tally. Lints L.reports (options_view options.now) S.fetches source.old no_files
         (map (λ file. file.now) files.now) source.new tally) }
     ensures err { OnErr result (AsksFirst S.fetches source.old source.new (map (λ file. file.now) files.now)) }
 {
     let mut tally = Tally::new(alloc);
     for file in files {
-        lint_file(alloc, linter, kind, file, source, &mut tally)?;
+        lint_file(alloc, linter, options, file, source, &mut tally)?;
     }
     Ok(tally)
 }
 
 /// Adds what is reported about a file.
-fn lint_file<L: Linter, S: Source>(
+fn lint_file<'a, L: Linter, S: Source>(
     alloc: Global,
     linter: &L,
-    kind: Option<KindArg>,
-    file: &str,
+    options: &Options<'a>,
+    file: &'a str,
     source: &mut S,
     tally: &mut Tally,
 ) -> Result<(), AllocError>
     requires { tally.old.texts < 2 ^ 64 - 1 }
     ensures ok { OnOk result ((answer : Input) × (outcome : FileOutcome)
         × S.fetches source.old file.now answer source.new
-        × IsFileOutcome L.reports kind file.now answer outcome × (tally.new ≡ with_file file.now outcome tally.old)) }
+        × IsFileOutcome L.reports (options_view options.now)
+        (name_of (options_view options.now) file.now) answer outcome
+        × (tally.new ≡ with_file (name_of (options_view options.now) file.now) outcome tally.old)) }
     ensures err { OnErr result ((answer : Input) × S.fetches source.old file.now answer source.new) }
 {
+    let name = options.name_of(file);
     match source.fetch(file) {
-        Input::Bytes(bytes) => lint_bytes(alloc, linter, kind, file, &bytes, tally),
-        Input::Unreadable => tally.add_unread(file),
+        Input::Bytes(bytes) => lint_bytes(alloc, linter, options, name, &bytes, tally),
+        Input::Unreadable(reason) => tally.add_unread(name, reason),
         Input::OutOfMemory => Err(AllocError),
     }
 }
 
-/// Adds what is reported about the bytes of a file.
+/// Adds what is reported about the bytes of a file of this name.
 fn lint_bytes<L: Linter>(
     alloc: Global,
     linter: &L,
-    kind: Option<KindArg>,
-    file: &str,
+    options: &Options<'_>,
+    name: &str,
     bytes: &[u8],
     tally: &mut Tally,
 ) -> Result<(), AllocError>
     requires { tally.old.texts < 2 ^ 64 - 1 }
-    ensures { OnOk result ((outcome : FileOutcome) × IsPrinted L.reports kind file.now bytes.now outcome
-        × (tally.new ≡ with_file file.now outcome tally.old)) }
+    ensures { OnOk result ((outcome : FileOutcome)
+        × IsPrinted L.reports (options_view options.now) name.now bytes.now outcome
+        × (tally.new ≡ with_file name.now outcome tally.old)) }
 {
     match std::str::from_utf8(bytes) {
-        Ok(text) => tally.add_report(&linter.lint(alloc, kind, file, text)?),
-        Err(_) => tally.add_no_text(file),
+        Ok(text) => tally.add_report(&linter.lint(alloc, &options.lint, name, text)?),
+        Err(_) => tally.add_no_text(name),
     }
 }

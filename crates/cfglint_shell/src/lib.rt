@@ -4,12 +4,18 @@
 mod answer;
 mod arguments;
 mod files;
+mod finding_kind;
+pub mod laws;
+mod levels;
 mod linter;
 mod program;
 mod runtime;
 mod summary;
 mod tally;
+mod usage;
 
-pub use linter::{Linter, Report};
+pub use finding_kind::FindingKind;
+pub use levels::{Level, Levels};
+pub use linter::{LintOptions, Linter, Report};
 pub use program::lint;
 pub use runtime::run_over;

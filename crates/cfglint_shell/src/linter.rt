@@ -2,20 +2,30 @@
 
 ghost use Rattle.std.specs.Prelude.{IfOk};
 
+use crate::levels::Levels;
 use cfgprogram::KindArg;
 use std::alloc::{AllocError, Global};
 use std::marker::Model;
 
+/// How texts are linted.
+#[derive(Clone, Copy, Debug)]
+pub struct LintOptions {
+    /// The kind that they are read as; without one, each is read as the kind that it names itself.
+    pub kind: Option<KindArg>,
+    /// What becomes of findings.
+    pub levels: Levels,
+}
+
 /// What is reported about a text.
 #[derive(Debug, Drop)]
 pub struct Report {
-    /// Its errors or warnings, as people read them.
+    /// Its errors, or the findings about its grammar, as people read them.
     pub lines: String,
     /// Whether the text names no kind, so that one was assumed.
     pub is_taken: bool,
-    /// How many errors it has.
+    /// How many errors are reported.
     pub errors: usize,
-    /// How many warnings it has.
+    /// How many warnings are reported.
     pub warnings: usize,
 }
 
@@ -35,15 +45,14 @@ impl Model for Report {
 
 /// What lints texts.
 pub trait Linter {
-    ghost use Rattle.std.specs.Prelude.{ℕ, List, Option};
-    ghost use Rattle.cfgprogram.specs.declared.kinds.KindArg.{KindArg};
+    ghost use Rattle.std.specs.Prelude.{ℕ, List};
+    ghost use Rattle.cfglint_shell.specs.declared.linter.LintOptions.{LintOptions};
     ghost use Rattle.cfglint_shell.specs.Tally.{Printed};
 
-    // What may be reported about a text in a file of this name, as a file of the kind; without one, as the kind that it
-    // names itself.
-    ghost reports: { Option KindArg → List ℕ → List ℕ → Printed → Type 0 };
+    // What may be reported about a text in a file of this name, with these options.
+    ghost reports: { LintOptions → List ℕ → List ℕ → Printed → Type 0 };
 
-    /// Lints a text in a file of this name, as a file of the kind; without one, as the kind that it names itself.
+    /// Lints a text in a file of this name, with these options.
     ///
     /// # Errors
     ///
@@ -51,9 +60,9 @@ pub trait Linter {
     fn lint(
         &self,
         alloc: Global,
-        kind: Option<KindArg>,
+        options: &LintOptions,
         name: &str,
         text: &str,
     ) -> Result<Report, AllocError>
-        ensures { IfOk result (reports kind name.now text.now) };
+        ensures { IfOk result (reports options.now name.now text.now) };
 }

@@ -9,9 +9,10 @@ ghost use Rattle.cfglint_shell.specs.Requests.{requested, files_requested};
 ghost use Rattle.cfglint_shell.specs.Requests as requests;
 
 use crate::answer::{Answer, print};
-use crate::arguments::{HELP, Options, Requested, VERSION, requested_by};
+use crate::arguments::{Options, Requested, Stop, requested_by};
 use crate::files::lint_files;
 use crate::linter::Linter;
+use crate::usage::{HELP, VERSION};
 use cfgprogram::source::Source;
 use cfgsink::sink::{Sink, write_whole};
 use std::alloc::{AllocError, Global};
@@ -61,9 +62,9 @@ fn answered<L: Linter, S: Source>(
         (files_requested (requested (map (λ argument. argument.now) args.now)))) }
 {
     match requested_by(alloc, args)? {
-        Requested::Help => Answer::written(alloc, HELP),
-        Requested::Version => Answer::written(alloc, VERSION),
-        Requested::Wrong => Answer::refused(alloc),
+        Requested::Stops(Stop::Help) => Answer::written(alloc, HELP),
+        Requested::Stops(Stop::Version) => Answer::written(alloc, VERSION),
+        Requested::Stops(Stop::Wrong(error)) => Answer::refused(alloc, &error),
         Requested::Lint(options) => linted(alloc, linter, &options, source),
     }
 }
@@ -83,6 +84,6 @@ fn linted<L: Linter, S: Source>(
         (requests.Lint (options_view options.now)) answer) }
     ensures err { OnErr result (AsksFirst S.fetches source.old source.new (options_view options.now).files) }
 {
-    let tally = lint_files(alloc, linter, options.kind, &options.files, source)?;
-    Answer::of_files(alloc, tally, options.denies)
+    let tally = lint_files(alloc, linter, options, &options.files, source)?;
+    Answer::of_files(alloc, tally, options)
 }

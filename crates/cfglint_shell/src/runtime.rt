@@ -4,9 +4,9 @@ ghost use Rattle.std.specs.Prelude.{◌≡◌, ◌-◌, ◌^◌, ◌<◌, ◌≤
 ghost use Rattle.cfgsink.specs.Sinks.{AppendsOrFaults};
 ghost use Rattle.cfglint_shell.specs.Run.{ending_errors, ending_status, ending_without};
 
-use crate::arguments::USAGE;
 use crate::linter::Linter;
 use crate::program::lint;
+use crate::usage::NOT_UTF8;
 use cfgprogram::arguments::{ArgumentsFault, arguments};
 use cfgprogram::runtime::{ErrorStream, SystemFiles};
 use cfgsink::sink::{Counted, Sink, write_whole};
@@ -15,7 +15,7 @@ use std::rt::{Env, Files};
 
 /// Runs the program over a runtime, and returns its status: [`lint`](crate::lint) on the command-line arguments, over
 /// the runtime's files, its standard input under the name `-`, its standard output and its standard error. Arguments
-/// that are not UTF-8 are wrong usage.
+/// that are not UTF-8 are wrong.
 pub fn run_over<R: Env + Files + Input + Print + Eprint + AllocGlobal, L: Linter>(
     rt: &R,
     linter: &L,
@@ -65,7 +65,7 @@ fn refuse_arguments<E: Sink>(fault: ArgumentsFault, err: &mut E) -> u8
 {
     match fault {
         ArgumentsFault::NotUtf8 => {
-            let _ = write_whole(err, USAGE.as_bytes());
+            let _ = write_whole(err, NOT_UTF8.as_bytes());
             2
         }
         ArgumentsFault::OutOfMemory => {

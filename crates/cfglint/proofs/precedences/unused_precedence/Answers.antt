@@ -1,6 +1,6 @@
 use Rattle.std.proofs.Common.{◌≡◌, ◌++◌, [], ◌∷◌, List, ℕ, IfOk, codes, append_assoc, sym, ap, subst, ◌∙◌}
 use Rattle.cfglint.specs.Shown.{ShownFinding}
-use Rattle.cfglint.specs.declared.finding.FindingKind.TheVariants.{UnusedPrecedence}
+use Rattle.cfglint_shell.specs.declared.finding_kind.FindingKind.TheVariants.{UnusedPrecedence}
 use Rattle.cfglint.proofs.precedences.unused_precedence.Goals as goal
 
 pub returns : goal.returns

@@ -1,6 +1,7 @@
-use Rattle.std.proofs.Common.{◌∙◌, ap, arith, refl}
-use Rattle.cfglint.specs.Shown.{ShownFinding, spanskind_of}
-use Rattle.cfglint.specs.Reported.{finding_lines}
+use Rattle.std.proofs.Common.{◌≡◌, List, length, count_by, ◌∙◌, ap, sym, arith}
+use Rattle.std.proofs.lemmas.List.Sums.{count_by-le-length}
+use Rattle.cfglint.specs.Shown.{spanskind_of}
+use Rattle.cfglint.specs.Reported.{Reported, finding_lines, finding_message, reported_by}
 use Rattle.cfglint.proofs.Rendered.{each_rendered}
 use Rattle.cfglint.proofs.linter.FileReporterTextReaderReport.grammar.Goals as goal
 
@@ -8,6 +9,13 @@ pub returns : goal.returns
 returns c =
     let name = c.args.self.now.name.now in
     let text = c.args.text.now in
-    let lines = each_rendered (λ (finding : ShownFinding). finding.text) (λ (finding : ShownFinding). finding.spans)
-    (λ (finding : ShownFinding). spanskind_of finding.kind) name text c.in_ok-lines.ensures in
-    (c.in_ok-all.all.items, c.in_ok-all.ensures, lines ∙ ap (finding_lines name text) c.deref.ensures.value, refl, omega (arith, c.len.ensures, c.in_ok-all.all.ok.0))
+    let all = c.in_ok-all.all.items in
+    let shown : List Reported = reported_by c.args.self.now.levels all in
+    let are : c.in_ok-reported.reported.items ≡ shown = c.in_ok-reported.ensures ∙ ap (reported_by c.args.self.now.levels) c.deref.ensures.value in
+    let lines = each_rendered finding_message (λ (reported : Reported). reported.finding.spans) (λ (reported : Reported). spanskind_of reported.finding.kind)
+    name text c.in_ok-lines.ensures in
+    let errors : c.error_count-errors.result ≡ count_by (λ (reported : Reported). reported.is_error) shown =
+    c.error_count-errors.ensures ∙ ap (count_by (λ (reported : Reported). reported.is_error)) (c.deref-3.ensures.value ∙ are) in
+    let few = count_by-le-length (λ (reported : Reported). reported.is_error) shown in
+    let many : length c.in_ok-reported.reported.items ≡ length shown = ap length are in
+    (all, c.in_ok-all.ensures, lines ∙ ap (finding_lines name text) (c.deref-2.ensures.value ∙ are), errors, omega (arith, c.len.ensures, c.in_ok-reported.reported.ok.0, errors, few, many))

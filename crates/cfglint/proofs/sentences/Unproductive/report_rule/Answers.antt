@@ -3,7 +3,7 @@ use Rattle.cfgrammar.specs.Grammar.{HasProduction}
 use Rattle.cfgrammar.specs.Generator.{HasNone}
 use Rattle.cfgrammar.specs.Numbered.{Numbered, core}
 use Rattle.cfglint.specs.Findings.{rules_added}
-use Rattle.cfglint.specs.declared.finding.FindingKind.TheVariants.{NoSentence}
+use Rattle.cfglint_shell.specs.declared.finding_kind.FindingKind.TheVariants.{NoSentence}
 use Rattle.cfglint.proofs.Read.{rule_fits, rule_seen}
 use Rattle.cfglint.proofs.Texts.{no_sentence_reported, shown_at}
 use Rattle.cfglint.proofs.sentences.Unproductive.report_rule.Goals as goal

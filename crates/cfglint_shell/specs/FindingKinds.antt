@@ -1,0 +1,62 @@
+-- The words that name kinds of findings, and what becomes of the findings of each kind.
+use Rattle.std.specs.Prelude.{ℕ, List, Option, Some, None, if◌then◌else◌, codes}
+use Rattle.std.specs.Str.{bytes_eq}
+use Rattle.cfglint_shell.specs.declared.finding_kind.FindingKind.{FindingKind}
+use Rattle.cfglint_shell.specs.declared.finding_kind.FindingKind.TheVariants.{UnusedRule, UnusedToken, NoSentence, UnusableProduction, IsCyclic, RepeatedProduction, UnusedPrecedence}
+use Rattle.cfglint_shell.specs.declared.levels.Level.{Level}
+use Rattle.cfglint_shell.specs.declared.levels.Level.TheVariants.{Warn}
+use Rattle.cfglint_shell.specs.declared.levels.Levels.{Levels}
+
+-- the word that names a kind
+abbrev pub word_of : FindingKind → List ℕ
+word_of UnusedRule = codes "unused-rule"
+word_of UnusedToken = codes "unused-token"
+word_of NoSentence = codes "no-sentence"
+word_of UnusableProduction = codes "unusable-production"
+word_of IsCyclic = codes "cyclic-rule"
+word_of RepeatedProduction = codes "repeated-production"
+word_of UnusedPrecedence = codes "unused-precedence"
+
+-- the kind that a word names
+abbrev pub finding_named : List ℕ → Option FindingKind
+finding_named word =
+    if bytes_eq word (codes "unused-rule") then Some UnusedRule
+    else if bytes_eq word (codes "unused-token") then Some UnusedToken
+    else if bytes_eq word (codes "no-sentence") then Some NoSentence
+    else if bytes_eq word (codes "unusable-production") then Some UnusableProduction
+    else if bytes_eq word (codes "cyclic-rule") then Some IsCyclic
+    else if bytes_eq word (codes "repeated-production") then Some RepeatedProduction
+    else if bytes_eq word (codes "unused-precedence") then Some UnusedPrecedence
+    else None
+
+-- every finding is a warning
+abbrev pub warns_all : Levels
+warns_all = record {
+  unused_rule = Warn;
+  unused_token = Warn;
+  no_sentence = Warn;
+  unusable_production = Warn;
+  cyclic_rule = Warn;
+  repeated_production = Warn;
+  unused_precedence = Warn;
+}
+
+-- the level of a kind
+abbrev pub level_of : Levels → FindingKind → Level
+level_of levels UnusedRule = levels.unused_rule
+level_of levels UnusedToken = levels.unused_token
+level_of levels NoSentence = levels.no_sentence
+level_of levels UnusableProduction = levels.unusable_production
+level_of levels IsCyclic = levels.cyclic_rule
+level_of levels RepeatedProduction = levels.repeated_production
+level_of levels UnusedPrecedence = levels.unused_precedence
+
+-- the levels after a kind is given this one
+abbrev pub with_level : Levels → FindingKind → Level → Levels
+with_level levels UnusedRule level = record levels { unused_rule = level }
+with_level levels UnusedToken level = record levels { unused_token = level }
+with_level levels NoSentence level = record levels { no_sentence = level }
+with_level levels UnusableProduction level = record levels { unusable_production = level }
+with_level levels IsCyclic level = record levels { cyclic_rule = level }
+with_level levels RepeatedProduction level = record levels { repeated_production = level }
+with_level levels UnusedPrecedence level = record levels { unused_precedence = level }

@@ -1,0 +1,58 @@
+//! The kinds of findings, and the words that name them.
+
+ghost use Rattle.std.specs.Prelude.{◌≡◌};
+ghost use Rattle.cfglint_shell.specs.FindingKinds.{finding_named, word_of};
+
+/// The kind of a finding about a grammar without errors.
+#[derive(Clone, Copy, Debug, PartialEq, Eq)]
+pub enum FindingKind {
+    /// The rule isn't reachable from the start rule.
+    UnusedRule,
+    /// The token isn't reachable from the start rule, and no production's `%prec` names it.
+    UnusedToken,
+    /// The rule derives no list of tokens.
+    NoSentence,
+    /// No sentence of the production's rule uses it, since it contains an unproductive rule.
+    UnusableProduction,
+    /// The rule is cyclic, so each of its sentences has infinitely many parse trees.
+    IsCyclic,
+    /// The rule has an earlier production with the same symbols, so each sentence by one of the two has two parse
+    /// trees.
+    RepeatedProduction,
+    /// The token is given a precedence, but is in no production, and no production takes its precedence from it.
+    UnusedPrecedence,
+}
+
+impl FindingKind {
+    /// The word that names the kind in arguments and in reports, as `unused-rule`.
+    pub fn word(self) -> &'static str
+        ensures { result.now ≡ word_of self }
+    {
+        match self {
+            FindingKind::UnusedRule => "unused-rule",
+            FindingKind::UnusedToken => "unused-token",
+            FindingKind::NoSentence => "no-sentence",
+            FindingKind::UnusableProduction => "unusable-production",
+            FindingKind::IsCyclic => "cyclic-rule",
+            FindingKind::RepeatedProduction => "repeated-production",
+            FindingKind::UnusedPrecedence => "unused-precedence",
+        }
+    }
+
+    /// The kind that a word names, byte for byte.
+    pub fn of_word(word: &str) -> Option<FindingKind>
+        ensures { result ≡ finding_named word.now }
+    {
+        let kind = match word {
+            "unused-rule" => FindingKind::UnusedRule,
+            "unused-token" => FindingKind::UnusedToken,
+            "no-sentence" => FindingKind::NoSentence,
+            "unusable-production" => FindingKind::UnusableProduction,
+            "cyclic-rule" => FindingKind::IsCyclic,
+            "repeated-production" => FindingKind::RepeatedProduction,
+            "unused-precedence" => FindingKind::UnusedPrecedence,
+            _ => return None,
+        };
+        Some(kind)
+    }
+}

@@ -1,0 +1,76 @@
+//! What becomes of findings, kind by kind.
+
+ghost use Rattle.std.specs.Prelude.{◌≡◌};
+ghost use Rattle.cfglint_shell.specs.FindingKinds.{level_of, warns_all, with_level};
+
+use crate::finding_kind::FindingKind;
+
+/// What becomes of a finding.
+#[derive(Clone, Copy, Debug, PartialEq, Eq)]
+pub enum Level {
+    /// It isn't reported.
+    Allow,
+    /// It is reported as a warning.
+    Warn,
+    /// It is reported as an error.
+    Deny,
+}
+
+/// The level of each kind of finding.
+#[derive(Clone, Copy, Debug)]
+pub struct Levels {
+    unused_rule: Level,
+    unused_token: Level,
+    no_sentence: Level,
+    unusable_production: Level,
+    cyclic_rule: Level,
+    repeated_production: Level,
+    unused_precedence: Level,
+}
+
+impl Levels {
+    /// Every finding is a warning.
+    pub fn warn() -> Self
+        ensures { result ≡ warns_all }
+    {
+        Levels {
+            unused_rule: Level::Warn,
+            unused_token: Level::Warn,
+            no_sentence: Level::Warn,
+            unusable_production: Level::Warn,
+            cyclic_rule: Level::Warn,
+            repeated_production: Level::Warn,
+            unused_precedence: Level::Warn,
+        }
+    }
+
+    /// The level of a kind.
+    pub fn of(&self, kind: FindingKind) -> Level
+        ensures { result ≡ level_of self.now kind }
+    {
+        match kind {
+            FindingKind::UnusedRule => self.unused_rule,
+            FindingKind::UnusedToken => self.unused_token,
+            FindingKind::NoSentence => self.no_sentence,
+            FindingKind::UnusableProduction => self.unusable_production,
+            FindingKind::IsCyclic => self.cyclic_rule,
+            FindingKind::RepeatedProduction => self.repeated_production,
+            FindingKind::UnusedPrecedence => self.unused_precedence,
+        }
+    }
+
+    /// Gives a kind this level.
+    pub fn set(&mut self, kind: FindingKind, level: Level)
+        ensures { self.new ≡ with_level self.old kind level }
+    {
+        match kind {
+            FindingKind::UnusedRule => self.unused_rule = level,
+            FindingKind::UnusedToken => self.unused_token = level,
+            FindingKind::NoSentence => self.no_sentence = level,
+            FindingKind::UnusableProduction => self.unusable_production = level,
+            FindingKind::IsCyclic => self.cyclic_rule = level,
+            FindingKind::RepeatedProduction => self.repeated_production = level,
+            FindingKind::UnusedPrecedence => self.unused_precedence = level,
+        }
+    }
+}

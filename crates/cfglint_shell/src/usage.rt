@@ -1,0 +1,130 @@
+//! How the program is used, and what is wrong with arguments.
+
+ghost use Rattle.std.specs.Prelude.{◌≡◌, ◌++◌, IfOk, string_bytes};
+ghost use Rattle.cfglint_shell.specs.Inner.{usage_error_view};
+ghost use Rattle.cfglint_shell.specs.Requests.{option_name, option_named, usage, usage_error_text};
+
+use std::alloc::{AllocError, Global};
+
+/// How the program is used; it is printed if the arguments are wrong.
+pub(crate) const USAGE: &str = "usage: cfglint [OPTION..] [--] FILE..\n";
+
+/// What is printed if an argument isn't UTF-8.
+pub(crate) const NOT_UTF8: &str =
+    "cfglint: an argument is not UTF-8\nusage: cfglint [OPTION..] [--] FILE..\n";
+
+/// What is printed for `--version`.
+pub(crate) const VERSION: &str = "cfglint 0.15.0\n";
+
+/// What is printed for `--help`.
+pub(crate) const HELP: &str =
+    "cfglint reports errors in Yacc grammar files, and warnings about their grammars.
+
+usage: cfglint [OPTION..] [--] FILE..
+
+  --kind KIND        original-noaction, original-useraction, original-genericparsetree, grmtools, eco or section
+                     (the kind that the file's section names). Without it the section names the kind; a file that
+                     names none is read as original-noaction.
+  --allow FINDING    Findings of this kind aren't reported.
+  --deny FINDING     Findings of this kind are errors.
+  --deny-warnings    Warnings end with status 1 too.
+  --quiet            Writes no summary.
+  --stdin-name NAME  Standard input is reported under this name.
+  -h, --help         Writes this.
+  --version          Writes the version.
+  --                 What follows are files.
+  FILE               A path, or - for standard input.
+
+FINDING is unused-rule, unused-token, no-sentence, unusable-production, cyclic-rule, repeated-production or
+unused-precedence; of several --allow and --deny with the same one the last counts. --kind=KIND is --kind KIND, and
+so on.
+
+status: 0 without errors or denied warnings; 1 with either; 2 if the arguments are wrong, a file can't be read or
+the output can't be written; 3 if there is no memory left
+";
+
+/// An option that has a value.
+#[derive(Clone, Copy, Debug, PartialEq, Eq)]
+pub(crate) enum ValueOption {
+    Kind,
+    Allow,
+    Deny,
+    StdinName,
+}
+
+impl ValueOption {
+    /// The option with this name.
+    pub(crate) fn of_name(name: &str) -> Option<ValueOption>
+        ensures { result ≡ option_named name.now }
+    {
+        let option = match name {
+            "--kind" => ValueOption::Kind,
+            "--allow" => ValueOption::Allow,
+            "--deny" => ValueOption::Deny,
+            "--stdin-name" => ValueOption::StdinName,
+            _ => return None,
+        };
+        Some(option)
+    }
+
+    /// The name of the option.
+    fn name(self) -> &'static str
+        ensures { result.now ≡ option_name self }
+    {
+        match self {
+            ValueOption::Kind => "--kind",
+            ValueOption::Allow => "--allow",
+            ValueOption::Deny => "--deny",
+            ValueOption::StdinName => "--stdin-name",
+        }
+    }
+}
+
+/// What is wrong with arguments.
+#[derive(Clone, Copy, Debug)]
+pub(crate) enum UsageError<'a> {
+    /// There is no such option.
+    UnknownOption(&'a str),
+    /// This value of `--kind` names no kind.
+    UnknownKind(&'a str),
+    /// This value of `--allow` or `--deny` names no kind of finding.
+    UnknownFinding(&'a str),
+    /// No value follows the option.
+    MissingValue(ValueOption),
+    /// No file is given.
+    NoFile,
+}
+
+impl UsageError<'_> {
+    /// The line that says so, and the usage.
+    pub(crate) fn text(&self, alloc: Global) -> Result<String, AllocError>
+        ensures { IfOk result (λ text. string_bytes text ≡ usage_error_text (usage_error_view self.now) ++ usage) }
+    {
+        match *self {
+            UsageError::UnknownOption(option) => {
+                format!(in alloc; "cfglint: unknown option '{option}'\n{USAGE}")
+            }
+            UsageError::UnknownKind(kind) => {
+                format!(in alloc; "cfglint: unknown kind '{kind}': the kinds are {KINDS}\n{USAGE}")
+            }
+            UsageError::UnknownFinding(finding) => {
+                format!(in alloc;
+                    "cfglint: unknown finding '{finding}': the findings are {FINDINGS}\n{USAGE}"
+                )
+            }
+            UsageError::MissingValue(option) => {
+                let name = option.name();
+                format!(in alloc; "cfglint: option '{name}' needs a value\n{USAGE}")
+            }
+            UsageError::NoFile => format!(in alloc; "cfglint: no file is given\n{USAGE}"),
+        }
+    }
+}
+
+/// The values of `--kind`.
+const KINDS: &str =
+    "original-noaction, original-useraction, original-genericparsetree, grmtools, eco, section";
+
+/// The values of `--allow` and `--deny`.
+const FINDINGS: &str = "unused-rule, unused-token, no-sentence, unusable-production, cyclic-rule, \
+    repeated-production, unused-precedence";
