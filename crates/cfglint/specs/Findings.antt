@@ -19,7 +19,7 @@ use Rattle.cfgrammar.specs.Warnings.{GrammarWarning}
 use Rattle.cfgrammar.specs.YaccGrammarWarningKind.TheVariants.{UnusedToken}
 use Rattle.cfgrammar.specs.Openings.{nth_production}
 use Rattle.cfgrammar.specs.Numbered.{Numbered, core}
-use Rattle.cfglint.specs.Shown.{ShownFinding, cyclic_finding, no_sentence, position_of, repeated, unusable, unused_precedence, warned}
+use Rattle.cfglint.specs.Shown.{ShownFinding, cyclic_finding, no_sentence, offset_of, repeated, unusable, unused_precedence, warned}
 
 -- The findings for the numbers below this one, in order: `Reports n (Some finding)` says that this is the finding for n, and `Reports n None`
 -- that there is none.
@@ -143,13 +143,13 @@ pub record AreReportedInTurn (s : Syntax) (g : Numbered) (reported : List ShownF
   pub is : reported ≡ unused ++ (without ++ (useless ++ (cycles ++ (repeats ++ precedences))))
 
 -- the same findings sorted by offset; those at the same offset stay in their order
-pub record AreByPosition (reported all : List ShownFinding) : Type 0 where
+pub record AreByOffset (reported all : List ShownFinding) : Type 0 where
   pub same : IsPermutation reported all
-  pub sorted : IsSortedByKey position_of nat_cmp all
-  pub stable : IsStableByKey position_of nat_cmp reported all
+  pub sorted : IsSortedByKey offset_of nat_cmp all
+  pub stable : IsStableByKey offset_of nat_cmp reported all
 
 -- all findings, each once
 pub record AreFindings (s : Syntax) (g : Numbered) (all : List ShownFinding) : Type 0 where
   pub reported : List ShownFinding
   pub in_turn : AreReportedInTurn s g reported
-  pub by_position : AreByPosition reported all
+  pub by_offset : AreByOffset reported all

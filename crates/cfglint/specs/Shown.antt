@@ -30,8 +30,8 @@ spanskind_of RepeatedProduction = DuplicationError
 spanskind_of _ = Error
 
 -- the offset of a finding, in bytes: the start of its first span
-abbrev pub position_of : ShownFinding → ℕ
-position_of finding = option_map_or (λ (span : Span). span.start) (slice_get finding.spans 0) 0
+abbrev pub offset_of : ShownFinding → ℕ
+offset_of finding = option_map_or (λ (span : Span). span.start) (slice_get finding.spans 0) 0
 
 abbrev pub kind_of_warning : YaccGrammarWarningKind → FindingKind
 kind_of_warning warnings.UnusedRule = UnusedRule

@@ -1,7 +1,7 @@
 //! Findings about a grammar, and where they are.
 
 ghost use Rattle.std.specs.Prelude.{◌≡◌, [], ◌∷◌, IfOk, Some, string_bytes};
-ghost use Rattle.cfglint.specs.Shown.{position_of};
+ghost use Rattle.cfglint.specs.Shown.{offset_of};
 
 pub use cfglint_shell::FindingKind;
 use cfgrammar::{Span, Spanned, SpansKind};
@@ -69,8 +69,8 @@ impl Finding {
     }
 
     /// Its offset in bytes: the start of its first span.
-    pub(crate) fn index(&self) -> usize
-        ensures { result ≡ position_of self.now }
+    pub(crate) fn offset(&self) -> usize
+        ensures { result ≡ offset_of self.now }
     {
         match self.spans.first() {
             Some(span) => span.start(),

@@ -33,6 +33,6 @@ pub fn findings(
     push_cycles(alloc, &mut all, grammar)?;
     push_repeats(alloc, &mut all, grammar)?;
     push_precedences(alloc, &mut all, ast)?;
-    all.sort_by_key(|finding| finding.index())?;
+    all.sort_by_key(|finding| finding.offset())?;
     Ok(all)
 }

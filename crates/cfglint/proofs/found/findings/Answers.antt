@@ -1,7 +1,7 @@
 use Rattle.std.proofs.Common.{◌≡◌, ◌++◌, List, [], nat_cmp, refl, subst, ap, ◌∙◌, append_assoc, rules}
 use Rattle.std.specs.List.Sorted.{IsPermutation, IsStableByKey}
 use Rattle.std.proofs.lemmas.Fn.{always_returns_same}
-use Rattle.cfglint.specs.Shown.{ShownFinding, position_of}
+use Rattle.cfglint.specs.Shown.{ShownFinding, offset_of}
 use Rattle.cfglint.proofs.found.findings.Goals as goal
 
 joined : (a0 a1 a2 a3 a4 a5 w s u l r p : List ShownFinding) → a0 ≡ [] → a1 ≡ a0 ++ w → a2 ≡ a1 ++ (s ++ u) → a3 ≡ a2 ++ l → a4 ≡ a3 ++ r → a5 ≡ a4 ++ p
@@ -24,8 +24,8 @@ returns c =
     let is : before ≡ reported = joined c.new-all.result.items c.push_warnings.new.all.items c.push_sentences.new.all.items
     c.push_cycles.new.all.items c.push_repeats.new.all.items before unused without useless cycles repeats precedences
     c.new-all.ensures.items unused_is sentences_is cycles_is repeats_is precedences_is in
-    let sorted = c.in_ok-sort_by_key.ensures.sorted position_of (always_returns_same _ _ _ (λ a r f called. search rules)) in
-    let stable = c.in_ok-sort_by_key.ensures.stable position_of (always_returns_same _ _ _ (λ a r f called. search rules)) in
+    let sorted = c.in_ok-sort_by_key.ensures.sorted offset_of (always_returns_same _ _ _ (λ a r f called. search rules)) in
+    let stable = c.in_ok-sort_by_key.ensures.stable offset_of (always_returns_same _ _ _ (λ a r f called. search rules)) in
     record {
       reported = reported;
       in_turn = record {
@@ -45,9 +45,9 @@ returns c =
         are_precedences = are_precedences;
         is = refl;
       };
-      by_position = record {
+      by_offset = record {
         same = subst (λ (l : List ShownFinding). IsPermutation l after) is c.in_ok-sort_by_key.ensures.permutation;
         sorted = sorted;
-        stable = subst (λ (l : List ShownFinding). IsStableByKey position_of nat_cmp l after) is stable;
+        stable = subst (λ (l : List ShownFinding). IsStableByKey offset_of nat_cmp l after) is stable;
       };
     }
