@@ -1,5 +1,5 @@
-//! What `==` and `clone` of kinds, faults and reasons compare and copy. They are derived, so each law names the impl, as in
-//! `⟦<KindArg as PartialEq>⟧`, and holds for every value.
+//! What `==` and `clone` of kinds, faults and reasons compare and copy. They are derived, so each law names the impl,
+//! as in `⟦<KindArg as PartialEq>⟧`, and holds for every value.
 
 ghost use Rattle.std.specs.Prelude.{◌≡◌, ◌↔◌, IsTrue};
 ghost use Rattle.cfgprogram.specs.declared.kinds.KindArg.{KindArg};
@@ -10,7 +10,8 @@ use crate::arguments::ArgumentsFault;
 use crate::kinds::KindArg;
 use crate::source::ReadError;
 
-/// Two kinds, faults or reasons are equal exactly if they are the same. A clone equals its source and allocates nothing.
+/// Two kinds, faults or reasons are equal exactly if they are the same. A clone equals its source and allocates
+/// nothing.
 pub fn kinds_are_distinct()
     ensures equal_kinds { (a b : KindArg) → IsTrue (⟦<KindArg as PartialEq>⟧.eq a b) ↔ (a ≡ b) }
     ensures clone_kind { (a b : KindArg) → ⟦<KindArg as Clone>⟧.is_clone a b → b ≡ a }

@@ -52,7 +52,7 @@ module _ (P : ℕ → List Sym → Type 0) (cost : ℕ → ℕ) where
         (omega (arith, cost_between p.prefix t.word q.back)),
       )
 
-  -- a rule derives itself, and the symbols beside it cost something
+  -- a rule derives a list that contains it, and the other symbols derive tokens that cost something
   pub growing_cycle_of : (x : ℕ) (w : List ℕ) (l : DerivesContaining P x x) → Derives P (l.before ++ l.after) (map Token w)
       → 0 < cost_of cost w → GrowingCycle P cost x
   growing_cycle_of x w l d h = record {

@@ -141,8 +141,8 @@ pub fn extreme_sentences_cost_the_extremes()
         → Greatest (HasProduction g) cost r (cost_of cost w) }
 {}
 
-/// Each rule in a list on the way to a sentence of a rule is useful for it. A rule that derives itself has a growing
-/// cycle if the symbols beside it derive tokens that cost something.
+/// Each rule in a list on the way to a sentence of a rule is useful for it. A rule that derives a list containing the
+/// rule again has a growing cycle if the other symbols of that list derive tokens that cost something.
 pub fn derivations_show_cycles()
     ensures useful { (g : Grammar) (r x : ℕ) (l : List Sym) (w : List ℕ)
         → Derives (HasProduction g) (Rule r ∷ []) l
