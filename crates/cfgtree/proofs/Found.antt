@@ -1,5 +1,5 @@
 -- What is found among rules and tokens by a name.
-use Rattle.std.proofs.Common.{◌≡◌, ℕ, Option, List, map, position, String, Global, string_bytes, string_eq, false, [], ◌∷◌, sym, ap, ◌∙◌}
+use Rattle.std.proofs.Common.{◌≡◌, ℕ, List, map, position, String, Global, string_bytes, string_eq, false, [], ◌∷◌, sym, ap, ◌∙◌}
 use Rattle.std.specs.List.{IsDistinct, AllByRecursion}
 use Rattle.std.specs.Map.{keys_of}
 use Rattle.std.specs.Str.{bytes_eq}

@@ -4,5 +4,6 @@ pub mod Gathered
 pub mod Nodes
 pub mod Repeats
 pub mod Trees
+pub mod UnusedNodes
 pub mod Warning
 pub mod WellFormedLemmas

@@ -46,7 +46,7 @@ module _ (s : Syntax) where
       go (x ∷ rules) zero at = ap (option_map (λ (rule : List ℕ × Rule). RuleName rule.0)) at
       go (x ∷ rules) (suc n) at = go rules n at
 
-  token_there : (n i : ℕ) → n ≡ length s.rules + i → slice_get (nodes s) n ≡ option_map TokenName (slice_get s.tokens i)
+  pub token_there : (n i : ℕ) → n ≡ length s.rules + i → slice_get (nodes s) n ≡ option_map TokenName (slice_get s.tokens i)
   token_there n i e = after (map (λ rule. RuleName rule.0) s.rules) (map TokenName s.tokens) n i (e ∙ ap (λ m. m + i) (sym rules_before))
       ∙ slice_get-map TokenName s.tokens i
 

@@ -1,5 +1,5 @@
 -- Warnings about a grammar: unreachable rules and tokens.
-use Rattle.std.specs.Prelude.{◌≡◌, ℕ, List, [], ◌∷◌, ◌++◌, map, Contains, Some, slice_get, bytes_eq}
+use Rattle.std.specs.Prelude.{◌≡◌, ℕ, ◌+◌, Bool, false, List, [], ◌∷◌, ◌++◌, map, length, Contains, MatchBool, Some, slice_get, slice_index_or, bytes_eq}
 use Rattle.std.specs.List.{zip}
 use Rattle.std.specs.Map.{lookup}
 use Rattle.search.specs.Reachable.{Reachable}
@@ -55,6 +55,14 @@ pub data Expected (s : Syntax) : Name → Type 0 where
 -- neither reachable nor expected to be unused
 abbrev pub IsUnused : Syntax → Name → Type 0
 IsUnused s name = (IsReachable s name → ⊥) × (Expected s name → ⊥)
+
+-- for each rule, and then for each token, whether it is unused
+pub record AreUnused (s : Syntax) (unused : List Bool) : Type 0 where
+  pub long : length unused ≡ length s.rules + length s.tokens
+  pub rules : (n : ℕ) (rule : List ℕ × Rule) → slice_get s.rules n ≡ Some rule
+      → MatchBool (slice_index_or unused n false) (IsUnused s (RuleName rule.0)) (IsUnused s (RuleName rule.0) → ⊥)
+  pub tokens : (n : ℕ) (token : List ℕ) → slice_get s.tokens n ≡ Some token
+      → MatchBool (slice_index_or unused (length s.rules + n) false) (IsUnused s (TokenName token)) (IsUnused s (TokenName token) → ⊥)
 
 abbrev pub rule_warning : List ℕ × Rule → Name × GrammarWarning
 rule_warning rule = (RuleName rule.0, warning_at UnusedRule rule.1.name.span)

@@ -8,7 +8,7 @@ ghost use Rattle.cfgerrors.specs.Warnings.{warning_at};
 ghost use Rattle.search.specs.Reachable.{FoundBy, Reaches};
 ghost use Rattle.cfgtree.specs.Inner.Nodes.{nodes, node_of, HeldAt, IsNodeOf, Knows};
 ghost use Rattle.cfgtree.specs.Unused.{RuleName, TokenName, name_of, entry_token, Expected, IsStart, AreWarnings};
-ghost use Rattle.cfgtree.specs.Unused.{Name, possible_warnings};
+ghost use Rattle.cfgtree.specs.Unused.{AreUnused, Name, possible_warnings};
 ghost use Rattle.cfgast.specs.SyntaxView.{symbol_view, span_entry};
 ghost use Rattle.cfgtree.specs.TreeView.{syntax};
 
@@ -42,6 +42,23 @@ impl GrammarAST {
             }
         }
         Ok(warnings)
+    }
+
+    /// For each rule, and then for each token, whether it is unused, in order: whether [`warnings`](Self::warnings) has
+    /// a warning about it.
+    ///
+    /// # Errors
+    ///
+    /// Running out of memory.
+    pub fn unused(&self, alloc: Global) -> Result<Vec<bool>, AllocError>
+        ensures { IfOk result (λ unused. AreUnused (syntax self.now) unused.items) }
+    {
+        let known = self.known(alloc)?;
+        let mut unused = Vec::new(alloc);
+        for node in 0..self.node_count() {
+            unused.push(!known.is_reachable(node))?;
+        }
+        Ok(unused)
     }
 
     // How many nodes there are. No two rules or tokens share a name.
