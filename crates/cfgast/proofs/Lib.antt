@@ -1,3 +1,4 @@
+pub mod Add
 pub mod Compared
 pub mod Fields
 pub mod Found

@@ -1,19 +1,21 @@
 -- What the views of keys, entries and copies show.
-use Rattle.std.proofs.Common.{◌≡◌, ℕ, Bool, true, false, List, [], ◌∷◌, ◌++◌, map, Option, Some, None, option_map, Result, Ok, Err, OnErr, String, Global, string_bytes, string_eq, if◌then◌else◌, is_some, refl, sym, ap, ◌∙◌}
+use Rattle.std.proofs.Common.{◌≡◌, ℕ, Bool, true, false, List, [], ◌∷◌, ◌++◌, map, position, slice_get, Option, Some, None, option_map, Result, Ok, Err, OnErr, String, Global, string_bytes, string_eq, if◌then◌else◌, is_some, refl, sym, ap, ◌∙◌}
 use Rattle.std.specs.List.{list_any, position_or_len, AllZip, IsDistinct}
-use Rattle.std.specs.Map.{lookup, set_value, keys_of}
+use Rattle.std.specs.Map.{lookup, set_value, keys_of, values_of}
 use Rattle.std.specs.Str.{bytes_eq}
+use Rattle.std.specs.String.{string_eq_equiv}
 use Rattle.std.specs.Cmp.Lexicographic.{bytes_decides, nat_list_eq_equiv}
 use Rattle.std.proofs.lemmas.List.{map-append}
 use Rattle.std.proofs.lemmas.Simd.{map-map}
 use Rattle.std.proofs.lemmas.Map.Made.{is_some-lookup}
+use Rattle.std.proofs.lemmas.Option.{slice_get-map}
 use Rattle.lemmas.specs.Lists.{pushed_unless}
 use Rattle.lemmas.proofs.Copies.{AreCopies, map-copies, option_map-copies}
 use Rattle.lemmas.proofs.Options.{None-from_is_some}
 use Rattle.lemmas.proofs.Pushed.{map-pushed_unless}
-use Rattle.lemmas.proofs.Positions.{position_or_len-map, position_or_len-push}
+use Rattle.lemmas.proofs.Positions.{position_or_len-map, position_or_len-push, position-distinct}
 use Rattle.lemmas.proofs.Tests.{list_any-map}
-use Rattle.indexmap.specs.IndexMap.{IndexMap, insert_entry}
+use Rattle.indexmap.specs.IndexMap.{IndexMap, insert_entry, set_value_at}
 use Rattle.indexmap.specs.IndexSet.{insert_key}
 use Rattle.indexmap.proofs.CallerLemmas.{insert_entry-new}
 use Rattle.cfgbase.specs.declared.span.Span.{Span}
@@ -98,6 +100,16 @@ marked-copies {S} R same o p h =
     option_map-copies (λ x y. AllZip R x.entries y.entries) (λ (table : IndexMap (String Global) Span S). map span_entry table.entries)
     (λ x y h. map-copies R span_entry same x.entries y.entries h) o p h
 
+-- keys differ from each other, so the entry at an index is the one that a look-up of its key finds
+pub index_of-entry : {V : Type 0} (name : List ℕ) (es : List (String Global × V)) (i : ℕ) (entry : String Global × V) → IsDistinct string_eq (keys_of es)
+    → Some entry ≡ slice_get es i → string_bytes entry.0 ≡ name → Some i ≡ position (is_key name) (keys_of es)
+index_of-entry {V} name es i entry distinct at is =
+    sym (position-distinct string_eq_equiv (keys_of es) i entry.0 distinct (slice_get-map first es i ∙ ap (option_map first) (sym at)))
+    ∙ ap (λ n. position (is_key n) (keys_of es)) is
+  where
+    first : String Global × V → String Global
+    first e = e.0
+
 -- the index of a rule's name among the rules
 pub rule_index : (name : List ℕ) (es : List (String Global × source.Rule)) → index_of name (map (λ (rule : List ℕ × Rule). rule.0) (map rule_entry es)) ≡ position_or_len (is_key name) (keys_of es)
 rule_index name es =
@@ -135,6 +147,21 @@ module _ (name : List ℕ) (change : Rule → Rule) where
       → rule_view new ≡ change (rule_view old) → map rule_entry (set_value (is_key name) es new) ≡ map changed (map rule_entry es)
   changed-set_value es old new distinct found grown = one.changed-set_value string_eq (is_key name) own rule_entry changed others es old new distinct found
       (λ key is. (λ i. (string_bytes key, grown i)) ∙ (λ i. if sym is i then (string_bytes key, change (rule_view old)) else rule_entry (key, old)))
+
+  -- the same if it is written by its index
+  pub changed-set_value_at : (es : List (String Global × source.Rule)) (i : ℕ) (old new : source.Rule) → IsDistinct string_eq (keys_of es)
+      → i ≡ index_of name (map (λ (rule : List ℕ × Rule). rule.0) (map rule_entry es)) → Some old ≡ slice_get (values_of es) i
+      → rule_view new ≡ change (rule_view old) → map rule_entry (set_value_at es i new) ≡ map changed (map rule_entry es)
+  changed-set_value_at es i old new distinct is at grown =
+      let index : i ≡ position_or_len (is_key name) (keys_of es) = is ∙ rule_index name es in
+      ap (map rule_entry) (ap (λ k. set_value_at es k new) index ∙ one.set_value-index (is_key name) es new)
+      ∙ changed-set_value es old new distinct (one.lookup-index (is_key name) es ∙ ap (slice_get (values_of es)) (sym index) ∙ sym at) grown
+
+  -- no rule is at that index
+  pub changed-no_value_at : (es : List (String Global × source.Rule)) (i : ℕ) → i ≡ index_of name (map (λ (rule : List ℕ × Rule). rule.0) (map rule_entry es))
+      → None ≡ slice_get (values_of es) i → map changed (map rule_entry es) ≡ map rule_entry es
+  changed-no_value_at es i is none =
+      changed-absent es (one.lookup-index (is_key name) es ∙ ap (slice_get (values_of es)) (sym (is ∙ rule_index name es)) ∙ sym none)
 
 -- a rule that isn't changed
 pub changed-nothing : (name : List ℕ) (rules : List (List ℕ × Rule)) → map (changed name (λ rule. rule)) rules ≡ rules

@@ -1,8 +1,9 @@
 -- A map in which one value is written: of its entries, the one of the key that the test finds changes.
-use Rattle.std.proofs.Common.{◌≡◌, Bool, true, false, cond, List, [], ◌∷◌, map, Some, None, refl, sym, ap, ◌∙◌}
-use Rattle.std.specs.List.{AllByRecursion, IsDistinct}
-use Rattle.std.specs.Map.{lookup, set_value, keys_of}
+use Rattle.std.proofs.Common.{◌≡◌, ℕ, suc, ◌+◌, arith, Bool, true, false, cond, not, List, [], ◌∷◌, map, slice_get, Some, None, refl, sym, ap, ◌∙◌}
+use Rattle.std.specs.List.{position_or_len, AllByRecursion, IsDistinct}
+use Rattle.std.specs.Map.{lookup, set_value, keys_of, values_of}
 use Rattle.std.proofs.lemmas.Map.Keys.{IsDistinct-head, IsDistinct-tail}
+use Rattle.indexmap.specs.IndexMap.{set_value_at}
 
 -- own: the keys that pass are those that are equal to one that passes
 module _ {K V D : Type 0} (eq : K → K → Bool) (test : K → Bool) (own : (x y : K) → test x ≡ true → test y ≡ eq x y)
@@ -40,3 +41,27 @@ module _ {K V D : Type 0} (eq : K → K → Bool) (test : K → Bool) (own : (x 
           λ i. (changed e.0 is ∙ ap (λ v. change (show (e.0, v))) (sym value)) i
           ∷ sym (changed-others es (apart (keys_of es) is (IsDistinct-head eq e.0 (keys_of es) distinct))) i
       go false is same rest = λ i. sym (others e is) i ∷ rest same i
+
+later : (n : ℕ) → suc n ≡ 1 + n
+later n = omega arith
+
+-- The index of the first key that passes, which a look-up finds.
+module _ {K V : Type 0} (test : K → Bool) where
+  pub lookup-index : (es : List (K × V)) → lookup test es ≡ slice_get (values_of es) (position_or_len test (keys_of es))
+  lookup-index [] = refl
+  lookup-index (e ∷ es) = go (test e.0) (position_or_len test (keys_of es)) (lookup-index es)
+    where
+      go : (b : Bool) (n : ℕ) → lookup test es ≡ slice_get (values_of es) n
+          → cond b (Some e.1) (lookup test es) ≡ slice_get (e.1 ∷ values_of es) (cond (not b) (1 + n) 0)
+      go true n rest = refl
+      go false n rest = rest ∙ ap (slice_get (e.1 ∷ values_of es)) (later n)
+
+  -- a value that is written there is written under its key
+  pub set_value-index : (es : List (K × V)) (w : V) → set_value_at es (position_or_len test (keys_of es)) w ≡ set_value test es w
+  set_value-index [] w = refl
+  set_value-index (e ∷ es) w = go (test e.0) (position_or_len test (keys_of es)) (set_value-index es w)
+    where
+      go : (b : Bool) (n : ℕ) → set_value_at es n w ≡ set_value test es w
+          → set_value_at (e ∷ es) (cond (not b) (1 + n) 0) w ≡ cond b ((e.0, w) ∷ es) (e ∷ set_value test es w)
+      go true n rest = refl
+      go false n rest = ap (λ i. set_value_at (e ∷ es) i w) (sym (later n)) ∙ ap (λ fs. e ∷ fs) rest

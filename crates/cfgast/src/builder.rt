@@ -1,4 +1,5 @@
-ghost use Rattle.std.specs.Prelude.{◌≡◌, List, [], ◌∷◌, ◌++◌, map, Some, string_bytes, IfOk, OnOk};
+ghost use Rattle.std.specs.Prelude.{◌≡◌, ◌==◌, List, [], ◌∷◌, ◌++◌, map, Some, string_bytes, IfOk, OnOk};
+ghost use Rattle.std.specs.List.{list_any};
 ghost use Rattle.cfgast.specs.Items.{Item, TokenDeclared, StartDeclared, ActionTypeDeclared, PrintedFormDeclared};
 ghost use Rattle.cfgast.specs.Items.{ExpectDeclared, ExpectReduceReduceDeclared, ExpectedUnused, ParseParamDeclared};
 ghost use Rattle.cfgast.specs.Items.{GenericsDeclared, AvoidInsertBegun, AvoidInsertDeclared, ImplicitTokensBegun};
@@ -12,7 +13,7 @@ use crate::item::{Body, RuleHead};
 use crate::occurrence::{Occurrence, Unique, UniqueKind};
 use crate::precedence::{AssocKind, Precedence};
 use crate::production::Production;
-use crate::rule::{Rule, list_production};
+use crate::rule::{Rule, list_production_at, rule_index};
 use crate::symbol::Symbol;
 use crate::syntax::Syntax;
 use crate::tables::{begin_marked, put_entry, put_marked};
@@ -30,7 +31,7 @@ pub struct AstBuilder {
     syntax: Syntax,
 }
 
-#[tactic(auto, unfolding(crate::specs::SyntaxView::syntax_built, crate::specs::SyntaxView::syntax_view, crate::specs::Building::add))]
+#[tactic(auto, unfolding(crate::proofs::Add::syntax_built, crate::proofs::Add::syntax_view, crate::proofs::Add::add))]
 impl AstBuilder {
     ghost use Rattle.cfgast.specs.SyntaxView.{syntax_view, syntax_built, production_view, rule_view, symbol_view};
     ghost use Rattle.cfgast.specs.SyntaxView.{word_view};
@@ -301,7 +302,7 @@ impl AstBuilder {
         let production = self.production_of(alloc, body)?;
         let rule = self.put_rule(alloc, head)?;
         let index = self.syntax.prods.len();
-        list_production(&mut self.syntax.rules, head.name.name, index)?;
+        list_production_at(&mut self.syntax.rules, rule, index)?;
         self.syntax.prods.push(production)?;
         self.syntax.prods_rules.push(rule)?;
         Ok(())
@@ -378,7 +379,7 @@ impl AstBuilder {
             ≡ index_of (head_name (head_view head.entry)) (map (λ rule. rule.0) (syntax_built self.new).rules)) }
     {
         let name = head.name.name;
-        if let Some(index) = self.syntax.rules.get_index_of(name) {
+        if let Some(index) = rule_index(&self.syntax.rules, name) {
             return Ok(index);
         }
         let key = String::from_str(alloc, name)?;
@@ -454,8 +455,19 @@ impl AstBuilder {
             return false;
         }
         match self.syntax.tokens.get_index_of(name) {
-            Some(index) => self.syntax.token_directives.contains(&index),
+            Some(index) => self.is_directive(index),
             None => false,
+        }
+    }
+
+    // Whether a `%token` declared the token at this index. Such lists mostly come first, so the indices of the tokens
+    // that they declare are mostly at themselves.
+    fn is_directive(&self, index: usize) -> bool
+        ensures { result ≡ list_any (λ other. index == other) (syntax_built self.now).token_directives }
+    {
+        match self.syntax.token_directives.get_index(index) {
+            Some(other) if *other == index => true,
+            _ => self.syntax.token_directives.contains(&index),
         }
     }
 }

@@ -1,4 +1,7 @@
-ghost use Rattle.std.specs.Prelude.{◌≡◌, map, OnErr, OnOk};
+ghost use Rattle.std.specs.Prelude.{◌≡◌, ℕ, List, map, string_bytes, OnErr, OnOk};
+ghost use Rattle.std.specs.Str.{bytes_eq};
+ghost use Rattle.indexmap.specs.IndexMap.{index_of_by};
+ghost use Rattle.cfgast.specs.Syntax.{index_of};
 ghost use Rattle.cfgast.specs.Building.{listed};
 ghost use Rattle.cfgast.specs.SyntaxView.{rule_entry};
 
@@ -45,4 +48,29 @@ pub fn list_production(
         rule.pidxs.push(index)?;
     }
     Ok(())
+}
+
+/// Lists the production of this index with the rule at the index `at`.
+pub(crate) fn list_production_at(
+    rules: &mut IndexMap<String, Rule>,
+    at: usize,
+    index: usize,
+) -> Result<(), AllocError>
+    ensures { (name : List ℕ) → at ≡ index_of name (map (λ rule. rule.0) (map rule_entry rules.old.entries))
+        → OnOk result (map rule_entry rules.new.entries ≡ map (listed name index) (map rule_entry rules.old.entries)) }
+{
+    if let Some(owner) = rules.get_index_mut(at) {
+        owner.pidxs.push(index)?;
+    }
+    Ok(())
+}
+
+/// The index of the rule of this name. The last rule is looked at first, since a rule's productions follow each other.
+pub(crate) fn rule_index(rules: &IndexMap<String, Rule>, name: &str) -> Option<usize>
+    ensures { result ≡ index_of_by (λ key. bytes_eq name.now (string_bytes key)) rules.now }
+{
+    match rules.last() {
+        Some((key, _)) if key.as_str() == name => Some(rules.len() - 1),
+        _ => rules.get_index_of(name),
+    }
 }

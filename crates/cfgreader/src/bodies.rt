@@ -153,17 +153,19 @@ impl<'a> Reader<'a> {
         }
     }
 
-    /// Passes the parts of a production before its first symbol.
-    pub(super) fn prefix_parts(&mut self) -> Result<Parts<'a>, ReadFault>
+    /// Passes the parts of a production before its first symbol. The symbols after them will be added to this list,
+    /// which is cleared.
+    pub(super) fn prefix_parts(&mut self, symbols: Vec<Token<'a>>) -> Result<Parts<'a>, ReadFault>
         ensures read { Builds parts_view self.old self.new result (prefix_parts self.old.len) }
         ensures ends { IfOk result (λ parts. IfSome parts.end (λ end. offset_of self.old.len self.old.rest.now ≤ end)) }
         ensures shorter { OnOk result (length self.new.rest.now ≤ length self.old.rest.now) }
     {
         let mut parts = Parts {
-            symbols: Vec::new(self.alloc),
+            symbols,
             precedence: None,
             end: None,
         };
+        parts.symbols.clear();
         while let Some(part) = self.prefix_part()? {
             parts.add(part)?;
         }

@@ -44,6 +44,8 @@ pub(crate) struct Reader<'a> {
     pub(crate) len: usize,
     pub(crate) rest: &'a str,
     pub(crate) tree: AstBuilder,
+    /// The list that the symbols of one production after another are read into.
+    pub(crate) symbols: Vec<Token<'a>>,
     ghost within: { length rest.now ≤ len },
 }
 
@@ -63,6 +65,7 @@ impl<'a> Reader<'a> {
             len,
             rest,
             tree: AstBuilder::new(alloc),
+            symbols: Vec::new(alloc),
         }
     }
 

@@ -16,6 +16,7 @@ use cfgbase::Span;
 use cfgkinds::YaccKind;
 use cfgwords::actions::leading_action;
 use cfgwords::fault::FaultKind;
+use std::mem;
 
 impl<'a> Reader<'a> {
     ghost use Rattle.cfgreader.specs.Inner.Builds.{Builds};
@@ -112,9 +113,12 @@ impl<'a> Reader<'a> {
         ensures { Builds goes_on self.old self.new result (production self.old.len (head_view head.entry)) }
     {
         let start = self.offset();
-        let prefix = self.prefix_parts()?;
+        let symbols = mem::replace(&mut self.symbols, Vec::new(self.alloc));
+        let prefix = self.prefix_parts(symbols)?;
         let parts = self.more_parts(prefix)?;
-        self.production_end(head, start, &parts)
+        let follows = self.production_end(head, start, &parts)?;
+        self.symbols = parts.symbols;
+        Ok(follows)
     }
 
     /// Passes the productions of a rule.

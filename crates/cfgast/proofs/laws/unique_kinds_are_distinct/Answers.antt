@@ -1,4 +1,4 @@
-use Rattle.std.proofs.Common.{◌≡◌, ℕ, List, [], ◌∷◌, get_or, refl, sym, ap, ◌∙◌}
+use Rattle.std.proofs.Common.{◌≡◌, ℕ, [], ◌∷◌, get_or, refl, sym, ap, ◌∙◌}
 use Rattle.std.specs.Hash.{HashWrites, le_bytes}
 use Rattle.cfgast.specs.contracts.occurrence.UniqueKindHash.TheImpl.{ghosts as kinds}
 use Rattle.cfgast.specs.declared.occurrence.UniqueKind.{UniqueKind}

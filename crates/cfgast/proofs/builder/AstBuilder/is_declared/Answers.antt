@@ -14,7 +14,7 @@ returns-then-is_empty c = none_declared (syntax_built c.args.self.now) c.args.na
 pub returns-in-Some : goal.returns-in-Some
 unfolding syntax_built syntax_view is_declared
 returns-in-Some c =
-    c.contains.ensures ∙ ap (λ (o : Option ℕ). option_map_or (λ i. list_any (λ j. i == j) c.args.self.now.syntax.token_directives.keys) o false)
+    c.is_directive.ensures ∙ ap (λ (o : Option ℕ). option_map_or (λ i. list_any (λ j. i == j) c.args.self.now.syntax.token_directives.keys) o false)
     (c.in-Some.ensures.index ∙ sym (position-map (bytes_eq c.args.name.now) string_bytes c.args.self.now.syntax.tokens.keys))
 
 pub returns-in-None : goal.returns-in-None

@@ -1,6 +1,8 @@
-use Rattle.std.proofs.Common.{◌≡◌, refl, [], ◌∷◌, ◌++◌, map, sym, ap, ◌∙◌}
+use Rattle.std.proofs.Common.{◌≡◌, ℕ, Option, String, Global, refl, List, [], ◌∷◌, ◌++◌, map, position, is_some, sym, ap, ◌∙◌}
 use Rattle.std.specs.List.{position_or_len}
-use Rattle.std.specs.Map.{keys_of}
+use Rattle.std.specs.Map.{keys_of, lookup}
+use Rattle.indexmap.proofs.MapLemmas.{some_index}
+use Rattle.cfgast.specs.declared.rule.Rule.{Rule}
 use Rattle.lemmas.proofs.Positions.{position_found}
 use Rattle.cfgast.specs.Syntax.{index_of, typed}
 use Rattle.cfgast.specs.Building.{new_rule}
@@ -9,19 +11,23 @@ use Rattle.cfgast.proofs.Steps.{rule-known, rule-new}
 use Rattle.cfgast.proofs.Views.{is_key, has_entry-entries, entries-new, rule_index, rule_index-new}
 use Rattle.cfgast.proofs.builder.AstBuilder.put_rule.Goals as goal
 
+-- an index is found exactly if an entry is
+found : (name : List ℕ) (rules : List (String Global × Rule)) (index : Option ℕ) → index ≡ position (is_key name) (keys_of rules) → is_some index ≡ is_some (lookup (is_key name) rules)
+found name rules index is = ap is_some is ∙ some_index (is_key name) rules
+
 pub returns-in-Some-clause-added : goal.returns-in-Some-clause-added
 unfolding syntax_built syntax_view
 returns-in-Some-clause-added c =
     let built = syntax_built c.args.self.now in
     rule-known built (typed built.settings.action_type (head_view c.args.head))
-    (has_entry-entries rule_view c.args.head.name.name.now c.args.self.now.syntax.rules.entries ∙ sym c.in-Some.ensures.found)
+    (has_entry-entries rule_view c.args.head.name.name.now c.args.self.now.syntax.rules.entries ∙ sym (found c.args.head.name.name.now c.args.self.now.syntax.rules.entries _ c.in-Some.ensures))
 
 pub returns-in-Some-clause-index : goal.returns-in-Some-clause-index
 unfolding syntax_built syntax_view
 returns-in-Some-clause-index c =
     let name = c.args.head.name.name.now in
     let rules = c.args.self.now.syntax.rules.entries in
-    position_found (is_key name) (keys_of rules) c.in-Some.index c.in-Some.ensures.index ∙ sym (rule_index name rules)
+    position_found (is_key name) (keys_of rules) c.in-Some.index c.in-Some.ensures ∙ sym (rule_index name rules)
 
 -- the rules, with the new one at the end
 grown : (c : goal.Joined-branch-4) → map rule_entry c.insert_full.new.self.entries
@@ -31,7 +37,7 @@ grown c =
     let name = c.args.head.name.name.now in
     let old = c.args.self.now.syntax.rules in
     ap (map rule_entry) c.in_ok-index.ensures.entries
-    ∙ entries-new rule_view name old c.in_ok-key.key c.in_ok-rule.rule c.in_ok-key.ensures.ok (has_entry-entries rule_view name old.entries ∙ sym c.in_default.ensures.found)
+    ∙ entries-new rule_view name old c.in_ok-key.key c.in_ok-rule.rule c.in_ok-key.ensures.ok (has_entry-entries rule_view name old.entries ∙ sym (found name old.entries _ c.in_default.ensures))
     ∙ ap (λ rule. map rule_entry old.entries ++ (name, rule) ∷ []) c.in_ok-rule.ensures
 
 pub returns-clause-added : goal.returns-clause-added
@@ -39,7 +45,7 @@ unfolding syntax_built syntax_view
 returns-clause-added c =
     let built = syntax_built c.args.self.now in
     rule-new built (typed built.settings.action_type (head_view c.args.head)) _
-    (has_entry-entries rule_view c.args.head.name.name.now c.args.self.now.syntax.rules.entries ∙ sym c.in_default.ensures.found) (grown c)
+    (has_entry-entries rule_view c.args.head.name.name.now c.args.self.now.syntax.rules.entries ∙ sym (found c.args.head.name.name.now c.args.self.now.syntax.rules.entries _ c.in_default.ensures)) (grown c)
 
 pub returns-clause-index : goal.returns-clause-index
 unfolding syntax_built syntax_view

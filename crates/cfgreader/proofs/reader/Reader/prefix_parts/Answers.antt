@@ -7,7 +7,7 @@ use Rattle.cfgreader.proofs.Parts.{parts_start, parts_on, parts_smaller, parts_d
 use Rattle.cfgreader.proofs.reader.Reader.prefix_parts.Goals as goal
 
 pub loop-parts-init : goal.loop-parts-init
-loop-parts-init c = parts_start prefix_part no_parts c.args.self.now _ (ap (λ tokens. record no_parts { symbols = map token_view tokens }) c.new.ensures.items)
+loop-parts-init c = parts_start prefix_part no_parts c.args.self.now _ (ap (λ tokens. record no_parts { symbols = map token_view tokens }) c.clear.ensures.items)
 
 pub loop-parts-smaller : goal.loop-parts-smaller
 loop-parts-smaller c = parts_smaller prefix_part no_parts c.args.self.now c.loop-parts.self c.loop-parts.parts c.loop-parts.invariant c.prefix_part.new.self
