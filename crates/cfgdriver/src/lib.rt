@@ -2,16 +2,16 @@
 //! errors, or of its grammar.
 #![tactic(auto)]
 
-ghost use Rattle.std.specs.Prelude.{All, IfOk, None};
+ghost use Rattle.std.specs.Prelude.{All, IfOk, IfSome, None};
 ghost use Rattle.std.specs.Fn.{FnOnceReturnsAt, FnOnceTakesAt};
-ghost use Rattle.cfgrammar.specs.Answer.{Found, WasRead};
+ghost use Rattle.cfgrammar.specs.Answer.{Found, IsGrammar, WasRead, in_numbers};
 ghost use Rattle.cfgrammar.specs.ErrorSpans.{EachErrorSpan, EachParsedSpan};
 ghost use Rattle.cfgrammar.specs.GrammarOf.{IsFoundAs, IsFoundItself};
 ghost use Rattle.cfgrammar.specs.TextSpans.{IsPiece, IsWithin};
 ghost use Rattle.cfgrammar.specs.Syntax.{EachSpan};
 ghost use Rattle.cfgrammar.specs.TreeView.{syntax};
 ghost use Rattle.cfgprogram.specs.declared.kinds.KindArg.{KindArg};
-ghost use Rattle.cfgdriver.specs.ReadText.{IsFound, IsMadeOf, IsReadAs};
+ghost use Rattle.cfgdriver.specs.ReadText.{IsFound, IsMadeOf, IsMadeOfGrammar, IsReadAs, greatest};
 
 use cfgprogram::KindArg;
 use cfgrammar::yacc::ast::{ASTWithValidityInfo, GrammarAST, KindSource};
@@ -44,6 +44,20 @@ pub trait TextReader<R> {
     ) -> Result<R, AllocError>
         requires { All (EachErrorSpan (IsPiece text.now)) errors.now }
         ensures { IfOk result (of_errors self.now text.now errors.now) };
+
+    /// Makes the result for a text that has this tree, if it is the same whatever the grammar; the grammar's tables are
+    /// then not made.
+    ///
+    /// # Errors
+    ///
+    /// Running out of memory.
+    fn tree(&self, _alloc: Global, text: &str, ast: &GrammarAST) -> Result<Option<R>, AllocError>
+        requires { EachSpan (IsPiece text.now) (IsWithin text.now) (syntax ast.now) }
+        ensures { IfOk result (λ made. IfSome made (λ made. (grammar : Numbered)
+            → of_grammar self.now text.now (syntax ast.now) grammar made)) }
+    {
+        Ok(None)
+    }
 
     /// Makes the result for a text that has this tree and this grammar.
     ///
@@ -174,10 +188,30 @@ fn made_of_parsed<R, T: TextReader<R>>(
     ensures { IfOk result (IsMadeOf (T.of_errors reader.now text.now) (T.of_grammar reader.now text.now)
         (WasRead parsed.now)) }
 {
-    match YaccGrammar::new_from_ast_with_validity_info(alloc, parsed) {
-        Ok(tables) => reader.grammar(alloc, text, parsed.ast(), &tables),
+    match YaccGrammar::<u32>::check_ast(alloc, parsed) {
+        Ok(()) => made_of_valid(alloc, text, parsed, reader),
         Err(YaccFault::Errors(errors)) => reader.errors(alloc, text, &errors),
         Err(YaccFault::OutOfMemory) => Err(AllocError),
+    }
+}
+
+/// What is made of a text that reads as this, which has a grammar.
+fn made_of_valid<R, T: TextReader<R>>(
+    alloc: Global,
+    text: &str,
+    parsed: &ASTWithValidityInfo,
+    reader: &T,
+) -> Result<R, AllocError>
+    requires spans { EachParsedSpan (IsPiece text.now) (IsWithin text.now) parsed.now }
+    requires grammar { IsGrammar greatest (WasRead parsed.now) (in_numbers parsed.now) }
+    ensures { IfOk result (IsMadeOfGrammar (T.of_grammar reader.now text.now) (WasRead parsed.now)) }
+{
+    match reader.tree(alloc, text, parsed.ast())? {
+        Some(made) => Ok(made),
+        None => {
+            let grammar = YaccGrammar::new_from_checked_ast(alloc, parsed)?;
+            reader.grammar(alloc, text, parsed.ast(), &grammar)
+        }
     }
 }
 

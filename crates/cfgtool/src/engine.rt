@@ -98,6 +98,21 @@ impl TextReader<(Outcome, String)> for Request<'_> {
         Ok((Outcome::Refused, error_lines(alloc, text, errors)?))
     }
 
+    fn tree(
+        &self,
+        alloc: Global,
+        text: &str,
+        ast: &GrammarAST,
+    ) -> Result<Option<(Outcome, String)>, AllocError> {
+        match self {
+            Request::Command(Command::Warnings) => {
+                let lines = reported_warnings(alloc, text, ast)?;
+                Ok(Some((Outcome::Done, lines)))
+            }
+            Request::Command(_) | Request::Names(_) => Ok(None),
+        }
+    }
+
     fn grammar(
         &self,
         alloc: Global,

@@ -13,7 +13,7 @@ use Rattle.cfgerrors.specs.declared.error.YaccFault.{YaccFault}
 use Rattle.cfgerrors.specs.declared.error.YaccFault.TheVariants as faults
 use Rattle.cfgsyntax.specs.Parsed.{Parsed}
 use Rattle.cfgyacc.specs.Answer.{WasRead, IsAnswer, IsGrammar, IsReadRefused, IsTooSmall, in_numbers}
-use Rattle.cfgnumbers.specs.Fits.{LeavesRoom}
+use Rattle.cfgnumbers.specs.Fits.{Fits, LeavesRoom}
 use Rattle.cfgnumbers.specs.Numbered.{Numbered, NumberedProduction, numbered, numbered_by, implicit_of, added_rules, file_rule, added_productions, file_production, file_token, end_token}
 use Rattle.cfgnumbers.specs.TablesView.{tables, rule_view, token_view}
 use Rattle.cfgnumbers.specs.WellNumbered.{IsWellNumbered}
@@ -65,6 +65,11 @@ pub refused : (max : ℕ) (errors : List GrammarError) (g : Numbered) (reported 
 refused max [] g reported some same = absurd (some refl)
 refused max (error ∷ errors) g reported some same = same
 
+-- a grammar that fits leaves room
+pub room : (max : ℕ) (parsed : Parsed) → IsSound parsed.syntax parsed.errors → Fits max (in_numbers parsed) → LeavesRoom max (implicit_of parsed.kind parsed.syntax) parsed.syntax
+unfolding numbered
+room max parsed sound fits = room_from_fits max (implicit_of parsed.kind parsed.syntax) parsed.syntax sound.well_formed fits
+
 -- a grammar that is too large
 pub too_large : (max : ℕ) (parsed : Parsed) (fault : YaccFault) → IsSound parsed.syntax parsed.errors → parsed.errors ≡ []
     → (LeavesRoom max (implicit_of parsed.kind parsed.syntax) parsed.syntax → ⊥) → IsTooSmall fault → IsAnswer max (WasRead parsed) (Err fault)
@@ -72,7 +77,7 @@ unfolding numbered
 too_large max parsed faults.OutOfMemory sound none no_room reported = tt
 too_large max parsed (faults.Errors list) sound none no_room reported =
     subst (λ e. IsReadRefused max e (in_numbers parsed) list.items) (sym none)
-    ((λ fits. no_room (room_from_fits max (implicit_of parsed.kind parsed.syntax) parsed.syntax sound.well_formed fits)), reported)
+    ((λ fits. no_room (room max parsed sound fits)), reported)
 
 -- a grammar
 pub answered : (max : ℕ) (parsed : Parsed) (g : Numbered) → IsSound parsed.syntax parsed.errors → parsed.errors ≡ [] → LeavesRoom max (implicit_of parsed.kind parsed.syntax) parsed.syntax

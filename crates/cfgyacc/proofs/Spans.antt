@@ -11,7 +11,7 @@ use Rattle.cfgwords.specs.TextSpans.{IsPiece}
 use Rattle.cfgast.specs.Syntax.{EachProductionSpan, EachSpan, Production, Syntax}
 use Rattle.cfgtree.specs.Check.{nowhere}
 use Rattle.cfgerrors.specs.Errors.{StorageTooSmall, error_at}
-use Rattle.cfgsyntax.specs.ErrorSpans.{EachErrorSpan}
+use Rattle.cfgsyntax.specs.ErrorSpans.{EachErrorSpan, EachFaultSpan}
 use Rattle.cfgkinds.specs.declared.kind.YaccKind.{YaccKind}
 use Rattle.cfgerrors.specs.declared.error.YaccFault.{YaccFault}
 use Rattle.cfgerrors.specs.declared.error.YaccFault.TheVariants as faults
@@ -61,8 +61,14 @@ module _ (P Q : Span → Type 0) (added : P nowhere) where
   unfolding numbered
   grammar_spans kind s each = numbered_spans (implicit_of kind s) s each
 
-  -- the error for a grammar that is too large
-  pub too_small_spans : (fault : YaccFault) → IsTooSmall fault → EachAnswerSpan P Q (Err fault)
+  -- the spans of a fault are those of the result that it is
+  pub fault_spans : (fault : YaccFault) → EachFaultSpan P fault → EachAnswerSpan P Q (Err fault)
+  fault_spans faults.OutOfMemory each = tt
+  fault_spans (faults.Errors list) each = each
+
+-- the error for a grammar that is too large
+module _ (P : Span → Type 0) (added : P nowhere) where
+  pub too_small_spans : (fault : YaccFault) → IsTooSmall fault → EachFaultSpan P fault
   too_small_spans faults.OutOfMemory reported = tt
   too_small_spans (faults.Errors list) reported =
       subst (All (EachErrorSpan P)) (sym reported)

@@ -27,6 +27,19 @@ pub fn made<S: Storage>(
     )
 }
 
+/// The grammar of what was read of a text, in the two steps that make it.
+pub fn checked<S: Storage>(
+    alloc: Global,
+    parsed: &ASTWithValidityInfo,
+) -> YaccGrammarResult<YaccGrammar<S>> {
+    let errors: YaccGrammarResult<()> = YaccGrammar::<S>::check_ast(alloc, parsed);
+    errors?;
+    let grammar: Result<YaccGrammar<S>, AllocError> = YaccGrammar::new_from_checked_ast(
+        alloc, parsed,
+    );
+    Ok(grammar?)
+}
+
 /// The sizes of the tables, and the first index of each.
 pub fn sizes<S: Storage>(grammar: &YaccGrammar<S>) -> (PIdx<S>, RIdx<S>, TIdx<S>, bool) {
     let prods_len: PIdx<S> = grammar.prods_len();

@@ -2,7 +2,7 @@
 
 ghost use Rattle.std.specs.Prelude.{◌≡◌, ◌↔◌, ◌==◌, ℕ, ◌+◌, ◌<◌, if◌then◌else◌, List};
 ghost use Rattle.std.specs.Prelude.{[], Some, count_by, map, nat_eq, length, position};
-ghost use Rattle.std.specs.Prelude.{option_map, All, Err, IfErr, IfOk, IfSome, IsSome};
+ghost use Rattle.std.specs.Prelude.{option_map, All, Err, IfErr, IfOk, IfSome, IsSome, OnOk};
 ghost use Rattle.std.specs.HashMap.{get_by};
 ghost use Rattle.std.specs.Str.{IsUtf8, bytes_eq};
 ghost use Rattle.std.specs.String.{string_bytes};
@@ -11,9 +11,9 @@ ghost use Rattle.cfgast.specs.SyntaxView.{pair_view};
 ghost use Rattle.cfgerrors.specs.Refusal.{ListsErrors};
 ghost use Rattle.cfgtree.specs.TreeView.{syntax};
 ghost use Rattle.cfgtree.specs.Sound.{IsSound};
-ghost use Rattle.cfgsyntax.specs.ErrorSpans.{EachParsedSpan};
+ghost use Rattle.cfgsyntax.specs.ErrorSpans.{EachFaultSpan, EachParsedSpan};
 ghost use Rattle.cfgkinds.specs.declared.kind.YaccKind.{YaccKind};
-ghost use Rattle.cfgyacc.specs.Answer.{IsAnswer, WasRead};
+ghost use Rattle.cfgyacc.specs.Answer.{IsAnswer, IsGrammar, WasRead, in_numbers};
 ghost use Rattle.cfgyacc.specs.Counting.{YieldsNumbersInOrder};
 ghost use Rattle.cfgnumbers.specs.Fits.{LeavesRoom};
 ghost use Rattle.cfgyacc.specs.GrammarOf.{IsGrammarOf, IsGrammarOfItself};
@@ -157,6 +157,23 @@ impl<S: Storage> YaccGrammar<S> {
             → EachAnswerSpan (IsPiece text) (IsWithin text) result }
         ensures listed { IfErr result ListsErrors }
     {
+        YaccGrammar::<S>::check_ast(alloc, parsed)?;
+        Ok(YaccGrammar::new_from_checked_ast(alloc, parsed)?)
+    }
+
+    /// Whether a syntax that was read has a grammar: it has no errors, and `S` can count its grammar. This takes much
+    /// less time than the grammar, since no tables are made.
+    ///
+    /// # Errors
+    ///
+    /// Those of [`new_from_ast_with_validity_info`](YaccGrammar::new_from_ast_with_validity_info).
+    pub fn check_ast(alloc: Global, parsed: &ASTWithValidityInfo) -> YaccGrammarResult<()>
+        ensures grammar { OnOk result (IsGrammar S.MAX (WasRead parsed.now) (in_numbers parsed.now)) }
+        ensures refused { IfErr result (λ fault. IsAnswer S.MAX (WasRead parsed.now) (Err fault)) }
+        ensures offsets { (text : List ℕ) → IsUtf8 text → EachParsedSpan (IsPiece text) (IsWithin text) parsed.now
+            → IfErr result (EachFaultSpan (IsPiece text)) }
+        ensures listed { IfErr result ListsErrors }
+    {
         if !parsed.is_valid() {
             return Err(YaccFault::Errors(parsed.errors().to_vec(alloc)?));
         }
@@ -165,7 +182,22 @@ impl<S: Storage> YaccGrammar<S> {
         if !Numbering::new(kind, ast).fits::<S>() {
             return Err(storage_too_small(alloc)?);
         }
-        Ok(YaccGrammar::from_valid(alloc, kind, ast)?)
+        Ok(())
+    }
+
+    /// The grammar of a syntax that [`check_ast`](YaccGrammar::check_ast) accepts.
+    ///
+    /// # Errors
+    ///
+    /// Out of memory.
+    pub fn new_from_checked_ast(
+        alloc: Global,
+        parsed: &ASTWithValidityInfo,
+    ) -> Result<Self, AllocError>
+        requires { IsGrammar S.MAX (WasRead parsed.now) (in_numbers parsed.now) }
+        ensures { IfOk result (λ grammar. grammar ≡ in_numbers parsed.now) }
+    {
+        YaccGrammar::from_valid(alloc, parsed.yacc_kind(), parsed.ast())
     }
 
     /// The grammar of a syntax that was read without errors from a file of this kind.

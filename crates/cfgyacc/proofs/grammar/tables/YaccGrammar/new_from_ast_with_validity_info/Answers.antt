@@ -1,54 +1,11 @@
-use Rattle.std.proofs.Common.{List, Option, ℕ, rules, sym, subst, ◌∙◌, true≢false}
+use Rattle.std.proofs.Common.{sym, subst}
 use Rattle.cfgwords.specs.TextSpans.{IsPiece, IsWithin}
-use Rattle.cfgast.specs.Syntax.{Syntax}
-use Rattle.cfgtree.specs.TreeView.{syntax}
-use Rattle.cfgnumbers.specs.Fits.{LeavesRoom}
-use Rattle.cfgnumbers.specs.Numbered.{implicit_of, numbered}
 use Rattle.cfgyacc.specs.GrammarSpans.{EachGrammarSpan}
-use Rattle.cfgyacc.proofs.Built.{too_large, answered, of_both}
-use Rattle.cfgyacc.proofs.Refusals.{errors_list, too_small_lists}
-use Rattle.cfgyacc.proofs.Spans.{grammar_spans, nowhere_located, too_small_spans}
+use Rattle.cfgyacc.proofs.Spans.{fault_spans, grammar_spans, nowhere_located}
 use Rattle.cfgyacc.proofs.grammar.tables.YaccGrammar.new_from_ast_with_validity_info.Goals as goal
-
-pub returns-then-not-fits-clause-answer : goal.returns-then-not-fits-clause-answer
-returns-then-not-fits-clause-answer g c =
-    let parsed = c.args.parsed.now in
-    let HasRoom = λ (s : Syntax) (implicit : Option (List (List ℕ))). LeavesRoom g.S.Storage.MAX implicit s in
-    let file = c.new.ensures.file ∙ c.ast-ast.ensures.value in
-    let implicit = c.new.ensures.implicit ∙ (λ i. implicit_of (c.yacc_kind-kind.ensures i) (c.ast-ast.ensures.value i)) in
-    too_large g.S.Storage.MAX parsed c.in_ok-storage_too_small.field-0 c.ast-ast.ensures.sound (c.is_valid.ensures.0 c.if-not-is_valid.false)
-    (λ room. true≢false (sym (c.fits.ensures.1 (of_both HasRoom _ _ _ _ file implicit room)) ∙ c.if-not-fits.true))
-    c.in_ok-storage_too_small.ensures
-
-pub returns-then-not-fits-clause-offsets : goal.returns-then-not-fits-clause-offsets
-returns-then-not-fits-clause-offsets g c = λ text utf8 each.
-    too_small_spans (IsPiece text) (IsWithin text) (nowhere_located text utf8) c.in_ok-storage_too_small.field-0 c.in_ok-storage_too_small.ensures
-
-pub returns-then-not-fits-clause-listed : goal.returns-then-not-fits-clause-listed
-returns-then-not-fits-clause-listed g c = too_small_lists c.in_ok-storage_too_small.field-0 c.in_ok-storage_too_small.ensures
-
-pub returns-then-not-is_valid-clause-listed : goal.returns-then-not-is_valid-clause-listed
-returns-then-not-is_valid-clause-listed g c =
-    errors_list _ c.args.parsed.now.errors (search rules) (λ none. true≢false (sym (c.is_valid.ensures.1 none) ∙ c.if-not-is_valid.true))
-
-pub from_valid-requires-clause-room : goal.from_valid-requires-clause-room
-from_valid-requires-clause-room g c =
-    let HasRoom = λ (s : Syntax) (implicit : Option (List (List ℕ))). LeavesRoom g.S.Storage.MAX implicit s in
-    of_both HasRoom (syntax c.ast-ast.result.now) _ (implicit_of c.yacc_kind-kind.result (syntax c.ast-ast.result.now)) _ (sym c.new.ensures.file) (sym c.new.ensures.implicit)
-    (c.fits.ensures.0 c.if-not-fits.false)
-
-pub returns-clause-answer : goal.returns-clause-answer
-returns-clause-answer g c =
-    let parsed = c.args.parsed.now in
-    let HasRoom = λ (s : Syntax) (implicit : Option (List (List ℕ))). LeavesRoom g.S.Storage.MAX implicit s in
-    let file = c.new.ensures.file ∙ c.ast-ast.ensures.value in
-    let implicit = c.new.ensures.implicit ∙ (λ i. implicit_of (c.yacc_kind-kind.ensures i) (c.ast-ast.ensures.value i)) in
-    answered g.S.Storage.MAX parsed c.in_ok-from_valid.field-0 c.ast-ast.ensures.sound (c.is_valid.ensures.0 c.if-not-is_valid.false)
-    (of_both HasRoom _ _ _ _ (sym file) (sym implicit) (c.fits.ensures.0 c.if-not-fits.false))
-    (c.in_ok-from_valid.ensures ∙ (λ i. numbered (c.yacc_kind-kind.ensures i) (c.ast-ast.ensures.value i)))
 
 pub returns-clause-offsets : goal.returns-clause-offsets
 returns-clause-offsets g c = λ text utf8 each.
     let parsed = c.args.parsed.now in
-    subst (EachGrammarSpan (IsPiece text) (IsWithin text)) (sym (c.in_ok-from_valid.ensures ∙ (λ i. numbered (c.yacc_kind-kind.ensures i) (c.ast-ast.ensures.value i))))
+    subst (EachGrammarSpan (IsPiece text) (IsWithin text)) (sym c.in_ok-new_from_checked_ast.ensures)
     (grammar_spans (IsPiece text) (IsWithin text) (nowhere_located text utf8) parsed.kind parsed.syntax each.syntax)
