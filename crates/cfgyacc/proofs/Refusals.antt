@@ -1,5 +1,5 @@
 -- A text that has no grammar has at least one error.
-use Rattle.std.proofs.Common.{◌≡◌, ℕ, ◌<◌, List, [], ◌∷◌, length, map, arith, Result, Ok, Err, refl, sym, subst}
+use Rattle.std.proofs.Common.{◌≡◌, ℕ, ◌<◌, List, [], ◌∷◌, length, arith, Result, Ok, Err, refl, sym, subst}
 use Rattle.std.specs.Prelude.{IfErr}
 use Rattle.std.proofs.lemmas.List.{length-map}
 use Rattle.cfgkinds.specs.declared.kind.YaccKind.{YaccKind}

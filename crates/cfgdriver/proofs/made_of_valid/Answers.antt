@@ -13,3 +13,15 @@ tree-requires g c = subst (EachSpan (IsPiece c.args.text.now) (IsWithin c.args.t
 
 pub grammar-requires : goal.grammar-requires
 grammar-requires g c = subst (EachSpan (IsPiece c.args.text.now) (IsWithin c.args.text.now)) (sym c.ast-in-None.ensures.value) c.requires.spans.syntax
+
+pub returns-in_ok-grammar-in-None : goal.returns-in_ok-grammar-in-None
+returns-in_ok-grammar-in-None g c =
+    let parsed = c.args.parsed.now in
+    let OfGrammar = g.T.TextReader.of_grammar c.args.reader.now c.args.text.now in
+    IfOk-weaker c.grammar-in-None.result (OfGrammar (syntax c.ast-in-None.result.now) c.in_ok-grammar-in-None.grammar) (IsMadeOfGrammar OfGrammar (WasRead parsed))
+    (λ made of. (
+      c.requires.grammar.0,
+      c.requires.grammar.1,
+      subst (λ (s : Syntax). OfGrammar s (in_numbers parsed) made) c.ast-in-None.ensures.value
+          (subst (λ (n : Numbered). OfGrammar (syntax c.ast-in-None.result.now) n made) c.in_ok-grammar-in-None.ensures of),
+    )) c.grammar-in-None.ensures

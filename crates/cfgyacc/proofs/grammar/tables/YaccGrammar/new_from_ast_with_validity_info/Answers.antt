@@ -1,7 +1,7 @@
 use Rattle.std.proofs.Common.{sym, subst}
 use Rattle.cfgwords.specs.TextSpans.{IsPiece, IsWithin}
 use Rattle.cfgyacc.specs.GrammarSpans.{EachGrammarSpan}
-use Rattle.cfgyacc.proofs.Spans.{fault_spans, grammar_spans, nowhere_located}
+use Rattle.cfgyacc.proofs.Spans.{grammar_spans, nowhere_located}
 use Rattle.cfgyacc.proofs.grammar.tables.YaccGrammar.new_from_ast_with_validity_info.Goals as goal
 
 pub returns-clause-offsets : goal.returns-clause-offsets
