@@ -25,6 +25,19 @@ class Cycles:
         targets = kept if len(kept) == 1 else range(len(symbols)) if not kept else []
         return [Step(symbols, at) for at in targets if symbols[at][0] == 'rule']
 
+    def reached(self, rule):
+        """The rules to which one or more steps lead from this rule."""
+        reached, todo = set(), [rule]
+        while todo:
+            new = {step.rule for step in self.steps[todo.pop()]} - reached
+            reached |= new
+            todo += new
+        return reached
+
+    def together(self, rule):
+        """The rules on a common cycle with this rule, in order; none if it has no cycle."""
+        return sorted(self.reached(rule) & self.distances(rule).keys())
+
     def distances(self, rule):
         """The least number of steps to this rule from each rule from which steps lead to it; 0 for the rule itself."""
         distances, layer = {rule: 0}, [rule]

@@ -13,7 +13,7 @@ class Finding:
         self.kind, self.spans, self.text = kind, spans, text
 
     def spans_kind(self):
-        return 'DuplicationError' if self.kind == 'RepeatedProduction' else 'Error'
+        return 'DuplicationError' if self.kind in ('CyclicRule', 'RepeatedProduction') else 'Error'
 
 
 def findings_of(tree, grammar, is_printed):
@@ -50,15 +50,17 @@ def unproductive(grammar):
 
 
 def cycles(grammar, is_printed):
-    """Cyclic rules."""
-    all_cycles, found = Cycles(grammar), []
+    """Groups of cyclic rules on common cycles, each with a shortest cycle of its first rule of the file."""
+    all_cycles, found, known = Cycles(grammar), [], set()
     for rule in rules_of_file(grammar):
-        name = grammar.rules[rule].name
-        prefix = "Rule '%s' derives itself: %s" % (name, name)
-        texts = [prefix + all_cycles.text(path) for path in all_cycles.shortest(rule)]
-        if texts:
+        group = [] if rule in known else [it for it in all_cycles.together(rule) if it in rules_of_file(grammar)]
+        known.update(group)
+        if group:
+            name = grammar.rules[rule].name
+            prefix = "Rule '%s' derives itself: %s" % (name, name)
+            texts = [prefix + all_cycles.text(path) for path in all_cycles.shortest(rule)]
             text = next(filter(is_printed, texts), texts[0])
-            found.append(Finding('CyclicRule', [grammar.rules[rule].span], text))
+            found.append(Finding('CyclicRule', [grammar.rules[it].span for it in group], text))
     return found
 
 

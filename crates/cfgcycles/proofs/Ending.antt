@@ -12,7 +12,8 @@ use Rattle.cfgcycles.specs.declared.step_paths.Step.{Step}
 use Rattle.cfgcycles.specs.StepLists.{AreWithin, HasStep}
 use Rattle.cfgcycles.specs.StepPaths.{IsCycle, IsShortestCycle, Leads}
 use Rattle.cfgcycles.specs.Inner.Layers.{AreLayers, Finds, HaveLayers, InLayer, IsFound, IsPathTo, PathTo, noted, left}
-use Rattle.cfgcycles.proofs.Layers.{before, in_some_layer, leads_on, next_layer}
+use Rattle.cfgcycles.specs.Inner.Components.{Reaches}
+use Rattle.cfgcycles.proofs.Layers.{before, in_some_layer, leads_on, next_layer, path_to_layer}
 
 -- what is left to do: rules to find, and a layer to process
 abbrev some : List ℕ → ℕ
@@ -250,6 +251,13 @@ module _ (steps : List (List Step)) (rule : ℕ) (within : rule < length steps) 
 
   pub cycle_shortest : (path : List Step) → IsPathTo (HasStep now) rule table rule path → IsShortestCycle (HasStep steps) rule path
   cycle_shortest path is = is_shortest steps rule count table layer s.are path (subst (λ l. IsPathTo (HasStep l) rule table rule path) s.same is)
+
+  -- a path leads to each rule that was found
+  pub found_reached : (other : ℕ) (f : Found) → noted table other ≡ Some f → Reaches (HasStep steps) rule other
+  found_reached other f is =
+      let b = s.are.previous other f is in
+      let r = path_to_layer (HasStep steps) rule count table layer s.are f.length other (inr (omega (arith, b.1), record { found = f; is = is; long = refl })) in
+      (r.path, r.leads)
 
   -- how the search ends: at an empty layer, or when the rule is found
   pub ends : {E : Type 0} (result : Result (Option (Vec Step Global)) E) → (layer ≡ []) ⊎ (is_some (noted table rule) ≡ true)

@@ -8,7 +8,8 @@ use Rattle.std.proofs.lemmas.List.Elements.{Contains-get_or}
 use Rattle.derivation.specs.Grammar.{Sym, Rule, Grammar, Production, HasProduction}
 use Rattle.derivation.specs.Derivation.{Derives}
 use Rattle.cfgtables.specs.Openings.{nth_production}
-use Rattle.cfgcycles.specs.UnitPaths.{UnitPath, IsCyclic, HoldsUnit, one, more}
+use Rattle.cfgcycles.specs.CyclicGroups.{LeadsTo}
+use Rattle.cfgcycles.specs.UnitPaths.{UnitPath, DerivesRule, IsCyclic, HoldsUnit, one, more}
 use Rattle.cfgcycles.specs.declared.step_paths.Step.{Step}
 use Rattle.cfgcycles.specs.StepPaths.{IsCycle, Leads}
 use Rattle.cfgcycles.specs.UnitSteps.{IsStep}
@@ -70,13 +71,7 @@ module _ (g : Grammar) where
   path_of_steps a step [] b h = one (subst (λ n. HoldsUnit (HasProduction g) a n) h.1 (step_unit a step h.0))
   path_of_steps a step (next ∷ path) b h = more (step_unit a step h.0) (path_of_steps step.rule next path b h.1)
 
-  -- a path of one or more steps
-  record PathTo (a b : ℕ) : Type 0 where
-    path : List Step
-    some : 0 < length path
-    leads : Leads (IsStep g) a path b
-
-  steps_of_path : {a b : ℕ} → UnitPath (HasProduction g) a b → PathTo a b
+  steps_of_path : {a b : ℕ} → UnitPath (HasProduction g) a b → LeadsTo (IsStep g) a b
   steps_of_path {a = a} {b = b} (one h) = let s = unit_step a b h in
       record { path = s.step ∷ []; some = omega arith; leads = (s.has, s.to) }
   steps_of_path {a = a} (more {b = b} {c = c} h p) =
@@ -84,12 +79,18 @@ module _ (g : Grammar) where
       let r = steps_of_path p in
       record { path = s.step ∷ r.path; some = omega arith; leads = (s.has, subst (λ n. Leads (IsStep g) n r.path c) (sym s.to) r.leads) }
 
+  pub path_of_derivation : (a b : ℕ) → DerivesRule (HasProduction g) a b → LeadsTo (IsStep g) a b
+  path_of_derivation a b d = steps_of_path (path_of_units (HasProduction g) d)
+
+  pub derivation_of_path : (a b : ℕ) → LeadsTo (IsStep g) a b → DerivesRule (HasProduction g) a b
+  derivation_of_path a b l = go l.path l.some l.leads
+    where
+      go : (path : List Step) → 0 < length path → Leads (IsStep g) a path b → DerivesRule (HasProduction g) a b
+      go [] some l = absurd (omega (arith, some))
+      go (step ∷ path) some l = unit_along (HasProduction g) (path_of_steps a step path b l)
+
   pub cycle_of_derivation : (r : ℕ) → IsCyclic (HasProduction g) r → (path : List Step) × IsCycle (IsStep g) r path
-  cycle_of_derivation r d = let w = steps_of_path (path_of_units (HasProduction g) d) in (w.path, record { some = w.some; leads = w.leads })
+  cycle_of_derivation r d = let w = path_of_derivation r r d in (w.path, record { some = w.some; leads = w.leads })
 
   pub derivation_of_cycle : (r : ℕ) → (path : List Step) × IsCycle (IsStep g) r path → IsCyclic (HasProduction g) r
-  derivation_of_cycle r h = go h.0 h.1
-    where
-      go : (path : List Step) → IsCycle (IsStep g) r path → IsCyclic (HasProduction g) r
-      go [] l = absurd (omega (arith, l.some))
-      go (step ∷ path) l = unit_along (HasProduction g) (path_of_steps r step path r l.leads)
+  derivation_of_cycle r h = derivation_of_path r r (record { path = h.0; some = h.1.some; leads = h.1.leads })

@@ -1,3 +1,4 @@
+pub mod CyclicGroups
 pub mod UnitPaths
 pub mod Inner
 pub mod StepLists

@@ -1,13 +1,16 @@
-//! What cycles, and paths of unit steps, say of derivations; which productions can be used; and what `clone` of steps
-//! copies. That is derived, so the law names the impl, as in `⟦<Step as Clone>⟧`.
+//! What cycles, and paths of unit steps, say of derivations; groups of cyclic rules; which productions can be used; and
+//! what `clone` of steps copies. That is derived, so the law names the impl, as in `⟦<Step as Clone>⟧`.
 
-ghost use Rattle.std.specs.Prelude.{◌≡◌, ◌↔◌, ℕ, List, Contains};
+ghost use Rattle.std.specs.Prelude.{◌≡◌, ◌↔◌, ℕ, List, Option, Contains, length};
 ghost use Rattle.derivation.specs.Grammar.{Grammar, HasProduction, Sym, Rule};
 ghost use Rattle.derivation.specs.Sentence.{Sentence};
 ghost use Rattle.cfgcycles.specs.UnitPaths.{UnitPath, DerivesRule, IsCyclic};
+ghost use Rattle.cfgcycles.specs.CyclicGroups.{AreGroups, IsInOneGroup, LeadsTo, OnCommonCycle};
+ghost use Rattle.cfgcycles.specs.StepLists.{HasStep};
 ghost use Rattle.cfgcycles.specs.StepPaths.{IsCycle};
 ghost use Rattle.cfgcycles.specs.UnitSteps.{IsStep};
 ghost use Rattle.cfgcycles.specs.Uses.{IsUsable};
+ghost use Rattle.cfgcycles.specs.declared.groups.CyclicGroup.{CyclicGroup};
 ghost use Rattle.cfgcycles.specs.declared.step_paths.Step.{Step};
 
 use crate::step_paths::Step;
@@ -15,6 +18,12 @@ use crate::step_paths::Step;
 /// A rule has a path of unit steps to another exactly if, in one or more steps, it derives the list of only that rule.
 pub fn unit_paths_are_derivations()
     ensures { (g : Grammar) (a b : ℕ) → UnitPath (HasProduction g) a b ↔ DerivesRule (HasProduction g) a b }
+{}
+
+/// One or more unit steps lead from a rule to another exactly if, in one or more steps, it derives the list of only
+/// that rule.
+pub fn unit_steps_are_derivations()
+    ensures { (g : Grammar) (a b : ℕ) → LeadsTo (IsStep g) a b ↔ DerivesRule (HasProduction g) a b }
 {}
 
 /// A rule has a cycle of unit steps exactly if it is cyclic.
@@ -28,6 +37,13 @@ pub fn usable_productions_hold_sentences()
     ensures { (g : Grammar) (r : ℕ) (symbols : List Sym) → HasProduction g r symbols
         → IsUsable (HasProduction g) r symbols ↔ ((q : ℕ) → Contains symbols (Rule q)
         → (v : List ℕ) × Sentence (HasProduction g) q v) }
+{}
+
+/// Each cyclic rule is in exactly one group.
+pub fn cyclic_rules_are_in_one_group()
+    ensures { (steps : List (List Step)) (groups : List (Option CyclicGroup)) (rule : ℕ)
+        → AreGroups (HasStep steps) (length steps) groups → OnCommonCycle (HasStep steps) rule rule
+        → IsInOneGroup groups rule }
 {}
 
 /// A clone of a step equals its source, and allocates nothing.

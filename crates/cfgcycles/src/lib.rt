@@ -1,13 +1,14 @@
 //! Cyclic rules, and the paths of unit steps that show it.
 #![tactic(auto)]
 
-mod acyclic;
+mod components;
+mod groups;
 pub mod laws;
-mod reversed;
 mod shortest;
 pub mod step_paths;
 mod stepping;
 
-pub use shortest::{shortest_cycle, shortest_cycles};
+pub use groups::{CyclicGroup, cyclic_groups};
+pub use shortest::shortest_cycle;
 pub use step_paths::{Step, Steps};
 pub use stepping::unit_steps;

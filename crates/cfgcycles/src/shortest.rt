@@ -1,18 +1,17 @@
 //! Shortest cycles, by layers of rules.
 
-ghost use Rattle.std.specs.Prelude.{◌≡◌, ℕ, ◌<◌, List, [], None, Some, Contains, get_or, is_some, length};
+ghost use Rattle.std.specs.Prelude.{◌≡◌, ℕ, ◌<◌, [], None, Some, Contains, get_or, is_some, length};
 ghost use Rattle.std.specs.Prelude.{replicate, IfOk, MatchOption, OnOk};
 ghost use Rattle.cfgcycles.specs.StepLists.{AreWithin, HasStep};
+ghost use Rattle.cfgcycles.specs.Inner.Components.{Reaches};
 ghost use Rattle.cfgcycles.specs.Inner.Layers.{Finds, HaveLayers, IsPathTo, noted};
 ghost use Rattle.cfgcycles.specs.StepPaths.{IsShortestOf};
+ghost use Rattle.cfgcycles.specs.declared.shortest.Found.{Found};
 
-use crate::acyclic::acyclic_rules;
-use crate::reversed::rules_after_no_cycle;
 use crate::step_paths::{Step, Steps};
 use std::alloc::{AllocError, Global};
 
-/// A shortest path of steps from the rule to itself, or `None` if there is no such path. Rules are found in layers,
-/// each by the steps of the one before (Moore).
+/// A shortest path of steps from the rule to itself, or `None` if there is no such path.
 ///
 /// # Errors
 ///
@@ -27,6 +26,25 @@ pub fn shortest_cycle(
     ensures { IfOk result (λ found. IsShortestOf (HasStep steps.now) rule found) }
 {
     let mut layers = Layers::new(alloc, steps)?;
+    find_cycle(alloc, &mut layers, rule)
+}
+
+/// A shortest path of steps from the rule to itself, or `None` if there is no such path. Rules are found in layers,
+/// each by the steps of the one before (Moore).
+pub(crate) fn find_cycle(
+    alloc: Global,
+    layers: &mut Layers,
+    rule: usize,
+) -> Result<Option<Vec<Step>>, AllocError>
+    requires rule { rule < length layers.old.steps.now }
+    requires within { AreWithin layers.old.steps.now }
+    requires found { layers.old.found.items ≡ replicate (length layers.old.steps.now) None }
+    ensures cycle { IfOk result (λ found. IsShortestOf (HasStep layers.old.steps.now) rule found) }
+    ensures steps { OnOk result (layers.new.steps.now ≡ layers.old.steps.now) }
+    ensures entries { OnOk result (length layers.new.found.items ≡ length layers.old.found.items) }
+    ensures found { OnOk result ((other : ℕ) (found : Found) → noted layers.new.found.items other ≡ Some found
+        → Reaches (HasStep layers.old.steps.now) rule other) }
+{
     let mut layer = vec![in alloc; rule; 1]?;
     let mut count = 0;
     while !layer.is_empty() && !layers.is_found(rule) {
@@ -34,33 +52,6 @@ pub fn shortest_cycle(
         layer = layers.next(alloc, &layer, count)?;
     }
     layers.cycle_of(alloc, rule)
-}
-
-/// For each rule, a shortest path of steps from it to itself, or `None` if there is no such path. Rules from which no
-/// path leads to a cycle, and those that none leads to from a cycle, in total take the time of a few looks at each
-/// step; each other rule takes a search of its own.
-///
-/// # Errors
-///
-/// Out of memory.
-pub fn shortest_cycles(alloc: Global, steps: &Steps) -> Result<Vec<Option<Vec<Step>>>, AllocError>
-    requires { AreWithin steps.now }
-    ensures rules { IfOk result (λ found. length found.items ≡ length steps.now) }
-    ensures each { IfOk result (λ found. (rule : ℕ) → rule < length steps.now
-        → IsShortestOf (HasStep steps.now) rule (get_or found.items rule None)) }
-{
-    let ends = acyclic_rules(alloc, steps)?;
-    let after = rules_after_no_cycle(alloc, steps)?;
-    let mut cycles = Vec::new(alloc);
-    for rule in 0..steps.len() {
-        let found = if ends[rule] || after[rule] {
-            None
-        } else {
-            shortest_cycle(alloc, steps, rule)?
-        };
-        cycles.push(found)?;
-    }
-    Ok(cycles)
 }
 
 /// How a rule was found: a step of this rule leads to it, and ends a path of this many steps.
@@ -73,14 +64,14 @@ pub(crate) struct Found {
 
 /// Rules that are found by steps, in layers.
 #[derive(Drop)]
-struct Layers<'a> {
-    steps: &'a Steps,
-    found: Vec<Option<Found>>,
+pub(crate) struct Layers<'a> {
+    pub(crate) steps: &'a Steps,
+    pub(crate) found: Vec<Option<Found>>,
 }
 
 impl<'a> Layers<'a> {
     /// No rule has been found.
-    fn new(alloc: Global, steps: &'a Steps) -> Result<Self, AllocError>
+    pub(crate) fn new(alloc: Global, steps: &'a Steps) -> Result<Self, AllocError>
         ensures steps { IfOk result (λ x. x.steps.now ≡ steps.now) }
         ensures found { IfOk result (λ x. x.found.items ≡ replicate (length steps.now) None) }
     {
@@ -88,6 +79,19 @@ impl<'a> Layers<'a> {
             steps,
             found: vec![in alloc; None; steps.len()]?,
         })
+    }
+
+    /// Forgets how these rules were found.
+    pub(crate) fn clear(&mut self, rules: &[usize])
+        requires { (rule : ℕ) → Contains rules.now rule → rule < length self.old.found.items }
+        ensures steps { self.new.steps.now ≡ self.old.steps.now }
+        ensures entries { length self.new.found.items ≡ length self.old.found.items }
+        ensures found { (rule : ℕ) (found : Found) → noted self.new.found.items rule ≡ Some found
+            → (noted self.old.found.items rule ≡ Some found) × (Contains rules.now rule → ⊥) }
+    {
+        for rule in rules {
+            self.found[*rule] = None;
+        }
     }
 
     /// Whether the rule has been found.

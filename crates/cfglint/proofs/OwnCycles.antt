@@ -1,47 +1,76 @@
--- Cycles of the rules of a grammar, and their steps.
-use Rattle.std.proofs.Common.{◌≡◌, ℕ, ◌<◌, ◌≤◌, ◌↔◌, List, [], ◌∷◌, All, Option, None, Some, Result, Ok, Err, IfOk, Vec, Global, get_or, length, sym, subst, ◌∙◌}
+-- Groups of cyclic rules of a grammar, and their cycles.
+use Rattle.std.proofs.Common.{◌≡◌, ℕ, ◌<◌, ◌≤◌, ◌↔◌, inl, inr, Bool, true, false, cond, leb, List, [], ◌∷◌, ◌++◌, All, Contains, Option, None, Some, get_or, length, arith, refl, sym, ap, subst, ◌∙◌, length-append}
+use Rattle.std.specs.List.{filter}
+use Rattle.std.specs.List.Sorted.{IsStrictlyIncreasing}
+use Rattle.std.proofs.lemmas.Bool.{le-leb, leb-true}
 use Rattle.std.proofs.lemmas.List.{get_or_default}
 use Rattle.std.proofs.lemmas.List.Elements.{All-cons, All-nil}
+use Rattle.std.proofs.lemmas.List.Kept.{IsStrictlyIncreasing-filter}
+use Rattle.lemmas.proofs.Contained.{contains_cases, contains_first, contains_later, contains_none}
 use Rattle.cfgrammar.specs.Grammar.{Grammar, HasProduction}
 use Rattle.cfgrammar.specs.Numbered.{Numbered, core}
-use Rattle.cfgrammar.specs.UnitPaths.{IsCyclic}
+use Rattle.cfgrammar.specs.UnitPaths.{DerivesRule, IsCyclic}
+use Rattle.cfgrammar.specs.CyclicGroup.{CyclicGroup}
+use Rattle.cfgrammar.specs.CyclicGroups.{AreGroups, IsFirst, IsGroup, IsGroupOf, LeadsTo, OnCommonCycle}
 use Rattle.cfgrammar.specs.StepLists.{HasStep}
-use Rattle.cfgrammar.specs.StepPaths.{IsCycle, IsShortestCycle, IsShortestOf, Leads}
+use Rattle.cfgrammar.specs.StepPaths.{IsCycle, IsShortestCycle, Leads}
 use Rattle.cfgrammar.specs.UnitSteps.{AreSteps, IsStep}
 use Rattle.cfgrammar.specs.Step.{Step}
-use Rattle.cfglint.specs.Findings.{ReportsCycle, rules_added}
+use Rattle.cfglint.specs.Findings.{DeriveEachOther, IsCyclicGroup, ReportsGroup, rules_added}
 use Rattle.cfglint.specs.Shown.{ShownFinding, cyclic_finding}
-use Rattle.cfglint.specs.Inner.CyclicRules.{AreCycles, IsSomeStep}
+use Rattle.cfglint.specs.Inner.CyclicRules.{AreOwnGroups, IsSomeStep}
 
--- the same paths, if each step is also one of the others
-leads_as : (Has Has' : ℕ → Step → Type 0) → ((rule : ℕ) (step : Step) → Has rule step → Has' rule step) → (a : ℕ) (path : List Step) (b : ℕ)
-    → Leads Has a path b → Leads Has' a path b
-leads_as Has Has' to a [] b same = same
-leads_as Has Has' to a (step ∷ path) b (first, rest) = (to a step first, leads_as Has Has' to step.rule path b rest)
+-- steps that are also others
+module _ (Has Has' : ℕ → Step → Type 0) (to : (rule : ℕ) (step : Step) → Has rule step → Has' rule step) where
+  leads_as : (a : ℕ) (path : List Step) (b : ℕ) → Leads Has a path b → Leads Has' a path b
+  leads_as a [] b same = same
+  leads_as a (step ∷ path) b (first, rest) = (to a step first, leads_as step.rule path b rest)
 
-cycle_as : (Has Has' : ℕ → Step → Type 0) → ((rule : ℕ) (step : Step) → Has rule step → Has' rule step) → (rule : ℕ) (path : List Step)
-    → IsCycle Has rule path → IsCycle Has' rule path
-cycle_as Has Has' to rule path l = record { some = l.some; leads = leads_as Has Has' to rule path rule l.leads }
+  cycle_as : (rule : ℕ) (path : List Step) → IsCycle Has rule path → IsCycle Has' rule path
+  cycle_as rule path l = record { some = l.some; leads = leads_as rule path rule l.leads }
 
-shortest_as : (Has Has' : ℕ → Step → Type 0) → ((rule : ℕ) (step : Step) → Has rule step → Has' rule step) → ((rule : ℕ) (step : Step) → Has' rule step → Has rule step)
-    → (rule : ℕ) (found : Option (Vec Step Global)) → IsShortestOf Has rule found → IsShortestOf Has' rule found
-shortest_as Has Has' to from rule None none = λ path l. none path (cycle_as Has' Has from rule path l)
-shortest_as Has Has' to from rule (Some path) s = record {
-  itself = cycle_as Has Has' to rule path.items s.itself;
-  least = λ other l. s.least other (cycle_as Has' Has from rule other l);
+  leads_to_as : (a b : ℕ) → LeadsTo Has a b → LeadsTo Has' a b
+  leads_to_as a b l = record { path = l.path; some = l.some; leads = leads_as a l.path b l.leads }
+
+  common_as : (a b : ℕ) → OnCommonCycle Has a b → OnCommonCycle Has' a b
+  common_as a b h = record { there = leads_to_as a b h.there; back = leads_to_as b a h.back }
+
+-- the same steps
+module _ (Has Has' : ℕ → Step → Type 0) (to : (rule : ℕ) (step : Step) → Has rule step → Has' rule step) (from : (rule : ℕ) (step : Step) → Has' rule step → Has rule step) where
+  pub shortest_as : (rule : ℕ) (path : List Step) → IsShortestCycle Has rule path → IsShortestCycle Has' rule path
+  shortest_as rule path s = record {
+    itself = cycle_as Has Has' to rule path s.itself;
+    least = λ other l. s.least other (cycle_as Has' Has from rule other l);
+  }
+
+  group_as : (rule : ℕ) (found : Option CyclicGroup) → IsGroupOf Has rule found → IsGroupOf Has' rule found
+  group_as rule None none = λ first. none (record {
+    cyclic = common_as Has' Has from rule rule first.cyclic;
+    least = λ other h. first.least other (common_as Has Has' to rule other h);
+  })
+  group_as rule (Some group) s = record {
+    ascending = s.ascending;
+    all = λ other. ((λ c. common_as Has Has' to rule other ((s.all other).0 c)), (λ h. (s.all other).1 (common_as Has' Has from rule other h)));
+    least = s.least;
+    shortest = shortest_as rule group.cycle.items s.shortest;
+  }
+
+-- the groups by the steps of a grammar are its groups
+pub own_groups : (g : Numbered) (steps : List (List Step)) → AreSteps (core g) steps → (groups : List (Option CyclicGroup))
+    → AreGroups (HasStep steps) (length steps) groups → AreOwnGroups g steps groups
+own_groups g steps are groups h = record {
+  steps = are;
+  groups = record {
+    entries = h.entries ∙ are.rules;
+    each = λ rule within. group_as (HasStep steps) (IsStep (core g)) (λ a step. (are.all a step).0) (λ a step. (are.all a step).1) rule (get_or groups rule None)
+        (h.each rule (subst (λ n. rule < n) (sym are.rules) within));
+  };
 }
 
--- what is found by the steps of a grammar are its cycles
-pub are_cycles : (g : Numbered) (steps : List (List Step)) → AreSteps (core g) steps → {E : Type 0} (result : Result (Vec (Option (Vec Step Global)) Global) E)
-    → IfOk result (λ found. length found.items ≡ length steps)
-    → IfOk result (λ found. (rule : ℕ) → rule < length steps → IsShortestOf (HasStep steps) rule (get_or found.items rule None))
-    → IfOk result (λ found. AreCycles g found.items)
-are_cycles g steps are (Ok found) long each = record {
-  rules = long ∙ are.rules;
-  each = λ rule within. shortest_as (HasStep steps) (IsStep (core g)) (λ a step. (are.all a step).0) (λ a step. (are.all a step).1) rule (get_or found.items rule None)
-      (each rule (subst (λ n. rule < n) (sym are.rules) within));
-}
-are_cycles g steps are (Err e) long each = tt
+-- a shortest cycle by the steps of a grammar
+pub own_shortest : (g : Numbered) (steps : List (List Step)) → AreSteps (core g) steps → (rule : ℕ) (path : List Step)
+    → IsShortestCycle (HasStep steps) rule path → IsShortestCycle (IsStep (core g)) rule path
+own_shortest g steps are = shortest_as (HasStep steps) (IsStep (core g)) (λ a step. (are.all a step).0) (λ a step. (are.all a step).1)
 
 -- each step of a path is a step of some rule
 pub steps_of_path : (g : Numbered) (a : ℕ) (path : List Step) (b : ℕ) → Leads (IsStep (core g)) a path b → All (IsSomeStep g) path
@@ -49,17 +78,112 @@ steps_of_path g a [] b same = All-nil (IsSomeStep g)
 steps_of_path g a (step ∷ path) b (first, rest) = All-cons (IsSomeStep g) step path (a, first) (steps_of_path g step.rule path b rest)
 
 -- what is found of a rule of the grammar that is shown
-pub found_at : (g shown : Numbered) → g ≡ shown → (cycles : List (Option (Vec Step Global))) → AreCycles g cycles → (rule : ℕ) → rule < length shown.rules
-    → (found entry : Option (Vec Step Global)) → found ≡ get_or cycles rule found → found ≡ entry → IsShortestOf (IsStep (core g)) rule entry
-found_at g shown same cycles are rule within found entry is read =
+pub found_at : (g shown : Numbered) → g ≡ shown → (groups : List (Option CyclicGroup)) → AreGroups (IsStep (core g)) (length g.rules) groups → (rule : ℕ)
+    → rule < length shown.rules → (found entry : Option CyclicGroup) → found ≡ get_or groups rule found → found ≡ entry → IsGroupOf (IsStep (core g)) rule entry
+found_at g shown same groups are rule within found entry is read =
     let there : rule < length g.rules = subst (λ (g : Numbered). rule < length g.rules) (sym same) within in
-    subst (IsShortestOf (IsStep (core g)) rule) (get_or_default cycles rule None found (subst (λ n. rule < n) (sym are.rules) there) ∙ sym is ∙ read) (are.each rule there)
+    subst (IsGroupOf (IsStep (core g)) rule) (get_or_default groups rule None found (subst (λ n. rule < n) (sym are.entries) there) ∙ sym is ∙ read) (are.each rule there)
 
--- the finding for a rule: its cycle, or nothing
-module _ (law : (g : Grammar) (r : ℕ) → IsCyclic (HasProduction g) r ↔ ((path : List Step) × IsCycle (IsStep g) r path)) (g : Numbered) (rule : ℕ) where
-  pub reports_cycle : rules_added g ≤ rule → (path : List Step) → IsShortestCycle (IsStep (core g)) rule path → (finding : ShownFinding) → finding ≡ cyclic_finding g rule path
-      → ReportsCycle g rule (Some finding)
-  reports_cycle ours path shortest finding is = (record { ours = ours; derives = (law (core g) rule).1 (path, shortest.itself) }, path, shortest, is)
+-- the elements that pass a test
+module _ (test : ℕ → Bool) where
+  kept : (xs : List ℕ) (x : ℕ) → Contains xs x → test x ≡ true → Contains (filter test xs) x
+  kept [] x c t = absurd (contains_none x c)
+  kept (y ∷ xs) x c t = elim (contains_cases y x xs c) [
+    | inl same ↦ subst (λ b. Contains (cond b (y ∷ filter test xs) (filter test xs)) x) (sym (ap test same ∙ t))
+        (subst (λ n. Contains (y ∷ filter test xs) n) same (contains_first y (filter test xs)))
+    | inr later ↦ go (test y) (kept xs x later t)
+  ]
+    where
+      go : (b : Bool) → Contains (filter test xs) x → Contains (cond b (y ∷ filter test xs) (filter test xs)) x
+      go true c = contains_later y x (filter test xs) c
+      go false c = c
 
-  pub reports_none : ((path : List Step) → IsCycle (IsStep (core g)) rule path → ⊥) → ReportsCycle g rule None
-  reports_none none target = let (path, l) = (law (core g) rule).0 target.derives in none path l
+  passed : (xs : List ℕ) (x : ℕ) → Contains (filter test xs) x → Contains xs x × (test x ≡ true)
+  passed [] x c = absurd (contains_none x c)
+  passed (y ∷ xs) x c = go (test y) refl c
+    where
+      go : (b : Bool) → test y ≡ b → Contains (cond b (y ∷ filter test xs) (filter test xs)) x → Contains (y ∷ xs) x × (test x ≡ true)
+      go true t c = elim (contains_cases y x (filter test xs) c) [
+        | inl same ↦ (subst (Contains (y ∷ xs)) same (contains_first y xs), ap test (sym same) ∙ t)
+        | inr later ↦ let w = passed xs x later in (contains_later y x xs w.0, w.1)
+      ]
+      go false t c = let w = passed xs x c in (contains_later y x xs w.0, w.1)
+
+module _ (law : (g : Grammar) (a b : ℕ) → LeadsTo (IsStep g) a b ↔ DerivesRule (HasProduction g) a b) (g : Numbered) where
+  derive_each_other : (a b : ℕ) → OnCommonCycle (IsStep (core g)) a b → DeriveEachOther g a b
+  derive_each_other a b h = record { there = (law (core g) a b).0 h.there; back = (law (core g) b a).0 h.back }
+
+  on_cycle : (a b : ℕ) → DeriveEachOther g a b → OnCommonCycle (IsStep (core g)) a b
+  on_cycle a b h = record { there = (law (core g) a b).1 h.there; back = (law (core g) b a).1 h.back }
+
+  -- the rule is the first of no group
+  pub reports_none : (first : ℕ) → (IsFirst (IsStep (core g)) first → ⊥) → ReportsGroup g first None
+  reports_none first none = λ r others is. none (record {
+    cyclic = on_cycle first first (record { there = is.cyclic; back = is.cyclic });
+    least = λ other h. is.least other (derive_each_other first other h);
+  })
+
+  module _ (steps : List (List Step)) (are : AreSteps (core g) steps) (first : ℕ) (rules : List ℕ) (cycle : List Step)
+      (group : IsGroup (IsStep (core g)) first rules cycle) (own : List ℕ) (is : own ≡ filter (λ rule. leb (rules_added g) rule) rules) where
+    abbrev test : ℕ → Bool
+    test rule = leb (rules_added g) rule
+
+    common : (rule : ℕ) → Contains own rule → (rules_added g ≤ rule) × OnCommonCycle (IsStep (core g)) first rule
+    common rule c =
+        let w = passed test rules rule (subst (λ l. Contains l rule) is c) in
+        (leb-true (rules_added g) rule w.1, (group.all rule).0 w.0)
+
+    held : (rule : ℕ) → rules_added g ≤ rule → DeriveEachOther g first rule → Contains own rule
+    held rule ours each = subst (λ l. Contains l rule) (sym is)
+        (kept test rules rule ((group.all rule).1 (on_cycle first rule each)) (le-leb (rules_added g) rule ours))
+
+    own_group : IsCyclicGroup g first own
+    own_group = record {
+      cyclic = (law (core g) first first).0 itself;
+      least = λ rule each. group.least rule ((group.all rule).1 (on_cycle first rule each));
+      ascending = subst IsStrictlyIncreasing (sym is) (IsStrictlyIncreasing-filter test rules group.ascending);
+      all = λ rule. (
+        (λ c. let w = common rule c in (w.0, derive_each_other first rule w.1)),
+        (λ h. held rule h.0 h.1),
+      );
+    }
+      where
+        itself : LeadsTo (IsStep (core g)) first first
+        itself = record { path = cycle; some = group.shortest.itself.some; leads = group.shortest.itself.leads }
+
+    -- rules of the group are rules of the grammar
+    pub own_within : All (λ rule. rule < length g.rules) own
+    own_within k d lt = let l = (common (get_or own k d) (k, lt, get_or_default own k _ d lt)).1.there in
+        inside first l.path (get_or own k d) l.some l.leads
+      where
+        inside : (a : ℕ) (path : List Step) (b : ℕ) → 0 < length path → Leads (IsStep (core g)) a path b → b < length g.rules
+        inside a [] b some l = absurd (omega (arith, some))
+        inside a (step ∷ []) b some l = subst (λ n. n < length g.rules) l.1 (subst (λ n. step.rule < n) are.rules (are.within a step ((are.all a step).1 l.0)))
+        inside a (step ∷ next ∷ path) b some l = inside step.rule (next ∷ path) b (omega arith) l.1
+
+    -- it has no rules of the file
+    pub reports_no_own : own ≡ [] → ReportsGroup g first None
+    reports_no_own none = λ r others h.
+        let w = (h.all r).0 (contains_first r others) in
+        contains_none r (subst (λ l. Contains l r) none (held r w.0 w.1))
+
+    -- it has rules of the file, the first of which has this cycle
+    pub reports_own : (r : ℕ) (others : List ℕ) → own ≡ r ∷ others → (path : List Step) → IsShortestCycle (IsStep (core g)) r path → (finding : ShownFinding)
+        → finding ≡ cyclic_finding g r own path → ReportsGroup g first (Some finding)
+    reports_own r others at path shortest finding shown =
+        (r, others, path, subst (IsCyclicGroup g first) at own_group, shortest, shown ∙ ap (λ l. cyclic_finding g r l path) at)
+
+    -- each of them has a cycle
+    pub own_cycle : (r : ℕ) → Contains own r → (path : List Step) × IsCycle (IsStep (core g)) r path
+    own_cycle r c =
+        let h = (common r c).1 in
+        let some = h.back.some in
+        (h.back.path ++ h.there.path, record {
+          some = omega (arith, some, length-append h.back.path h.there.path);
+          leads = through r h.back.path first h.there.path r h.back.leads h.there.leads;
+        })
+      where
+        through : (a : ℕ) (path : List Step) (b : ℕ) (more : List Step) (c : ℕ) → Leads (IsStep (core g)) a path b → Leads (IsStep (core g)) b more c
+            → Leads (IsStep (core g)) a (path ++ more) c
+        through a [] b more c same l = subst (λ n. Leads (IsStep (core g)) n more c) (sym same) l
+        through a (step ∷ path) b more c l m = (l.0, through step.rule path b more c l.1 m)

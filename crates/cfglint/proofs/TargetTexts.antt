@@ -90,16 +90,19 @@ quote : (name rest : List ℕ) → (codes "Rule '" ++ (name ++ (codes "' derives
 quote name rest = simp append_assoc
 
 pub target_reported : (g : Numbered) (stored rule : ℕ) → stored ≡ rule → (name : List ℕ) → rule_part (λ rule. rule.name) g stored ≡ Some name
-    → (span : Span) → rule_part (λ rule. rule.span) g stored ≡ Some span → (path : List Step) (begun text : List ℕ)
+    → (rules : List ℕ) (spans : List Span) → spans ≡ map (rule_span g) rules → (path : List Step) (begun text : List ℕ)
     → begun ≡ codes "Rule '" ++ (name ++ (codes "' derives itself: " ++ name)) → text ≡ begun ++ flat_map (step_text g) path
-    → (finding : ShownFinding) → finding ≡ record { kind = IsCyclic; spans = span ∷ []; text = text } → finding ≡ cyclic_finding g rule path
-target_reported g stored rule same name named span located path begun text first written finding is =
+    → (finding : ShownFinding) → finding ≡ record { kind = IsCyclic; spans = spans; text = text } → finding ≡ cyclic_finding g rule rules path
+target_reported g stored rule same name named rules spans located path begun text first written finding is =
     let called : rule_name g rule ≡ name = ap (rule_name g) (sym same) ∙ rule_named g stored name named in
-    let there : rule_span g rule ≡ span = ap (rule_span g) (sym same) ∙ ap (λ o. unwrap_or o nowhere) located in
     let reported = written ∙ ap (λ t. t ++ flat_map (step_text g) path) first ∙ quote name (flat_map (step_text g) path) in
-    is ∙ (λ i. record { kind = IsCyclic; spans = sym there i ∷ []; text = reported i })
+    is ∙ (λ i. record { kind = IsCyclic; spans = located i; text = reported i })
     ∙ (λ i. record {
       kind = IsCyclic;
-      spans = rule_span g rule ∷ [];
+      spans = map (rule_span g) rules;
       text = codes "Rule " ++ ((codes "'" ++ (sym called i ++ codes "'")) ++ (codes " derives itself: " ++ (sym called i ++ flat_map (step_text g) path)));
     })
+
+-- the span of one more rule
+pub span_shown : (g : Numbered) (stored rule : ℕ) → stored ≡ rule → (span : Span) → rule_part (λ rule. rule.span) g stored ≡ Some span → span ≡ rule_span g rule
+span_shown g stored rule same span located = sym (ap (rule_span g) (sym same) ∙ ap (λ o. unwrap_or o nowhere) located)

@@ -1,11 +1,11 @@
 -- The findings about a grammar without errors, given its syntax and its numbers. None are about rules and productions that the file doesn't
 -- have.
-use Rattle.std.specs.Prelude.{◌≡◌, ℕ, ◌+◌, ◌<◌, ◌≤◌, List, [], ◌∷◌, ◌++◌, Contains, Option, Some, None, if◌then◌else◌, is_some, length, map, slice_get}
-use Rattle.std.specs.List.Sorted.{IsPermutation, IsSortedByKey, IsStableByKey}
+use Rattle.std.specs.Prelude.{◌≡◌, ◌↔◌, ℕ, ◌+◌, ◌<◌, ◌≤◌, List, [], ◌∷◌, ◌++◌, Contains, Option, Some, None, if◌then◌else◌, is_some, length, map, slice_get}
+use Rattle.std.specs.List.Sorted.{IsPermutation, IsSortedByKey, IsStableByKey, IsStrictlyIncreasing}
 use Rattle.std.specs.Ordering.{nat_cmp}
 use Rattle.cfgrammar.specs.Grammar.{Sym, Rule, HasProduction}
 use Rattle.cfgrammar.specs.Sentence.{Sentence}
-use Rattle.cfgrammar.specs.UnitPaths.{IsCyclic}
+use Rattle.cfgrammar.specs.UnitPaths.{DerivesRule, IsCyclic}
 use Rattle.cfgrammar.specs.StepPaths.{IsShortestCycle}
 use Rattle.cfgrammar.specs.UnitSteps.{IsStep}
 use Rattle.cfgrammar.specs.Uses.{IsUsable}
@@ -63,14 +63,24 @@ module _ (g : Numbered) where
   ReportsUnusable p (Some finding) = IsUnusable p × (q : ℕ) × IsFirstWithout (nth_production (core g) p).symbols q × (finding ≡ unusable g p q)
   ReportsUnusable p None = IsUnusable p → ⊥
 
-  -- a cyclic rule of the file, each of whose sentences has infinitely many parse trees
-  pub record IsCyclicRule (r : ℕ) : Type 0 where
-    pub ours : rules_added ≤ r
-    pub derives : IsCyclic (HasProduction (core g)) r
+  -- a ⇒+ b ⇒+ a
+  pub record DeriveEachOther (a b : ℕ) : Type 0 where
+    pub there : DerivesRule (HasProduction (core g)) a b
+    pub back : DerivesRule (HasProduction (core g)) b a
 
-  abbrev pub ReportsCycle : ℕ → Option ShownFinding → Type 0
-  ReportsCycle r (Some finding) = IsCyclicRule r × (path : List Step) × IsShortestCycle (IsStep (core g)) r path × (finding ≡ cyclic_finding g r path)
-  ReportsCycle r None = IsCyclicRule r → ⊥
+  -- The rule with the number `first` is cyclic, so that each of its sentences has infinitely many parse trees. Of the rules that it derives
+  -- and that derive it, it has the lowest number, and those of the file are exactly `rules`, in ascending order.
+  pub record IsCyclicGroup (first : ℕ) (rules : List ℕ) : Type 0 where
+    pub cyclic : IsCyclic (HasProduction (core g)) first
+    pub least : (rule : ℕ) → DeriveEachOther first rule → first ≤ rule
+    pub ascending : IsStrictlyIncreasing rules
+    pub all : (rule : ℕ) → Contains rules rule ↔ ((rules_added ≤ rule) × DeriveEachOther first rule)
+
+  -- the finding for the group whose first rule has this number, if it has rules of the file: the first of these is r
+  abbrev pub ReportsGroup : ℕ → Option ShownFinding → Type 0
+  ReportsGroup first (Some finding) = (r : ℕ) × (others : List ℕ) × (path : List Step) × IsCyclicGroup first (r ∷ others)
+      × IsShortestCycle (IsStep (core g)) r path × (finding ≡ cyclic_finding g r (r ∷ others) path)
+  ReportsGroup first None = (r : ℕ) (others : List ℕ) → IsCyclicGroup first (r ∷ others) → ⊥
 
   -- an earlier production of the same rule with the same symbols
   pub record IsTwin (p earlier : ℕ) : Type 0 where
@@ -137,7 +147,7 @@ pub record AreReportedInTurn (s : Syntax) (g : Numbered) (reported : List ShownF
   pub are_unused : ReportsBelow (ReportsWarning s warnings) (length warnings) unused
   pub are_without : ReportsBelow (ReportsNoSentence g) (length g.rules) without
   pub are_useless : ReportsBelow (ReportsUnusable g) g.start_production useless
-  pub are_cycles : ReportsBelow (ReportsCycle g) (length g.rules) cycles
+  pub are_cycles : ReportsBelow (ReportsGroup g) (length g.rules) cycles
   pub are_repeats : ReportsBelow (ReportsRepeated g) g.start_production repeats
   pub are_precedences : ReportsBelow (ReportsPrecedence s) (length s.tables.precedences) precedences
   pub is : reported ≡ unused ++ (without ++ (useless ++ (cycles ++ (repeats ++ precedences))))

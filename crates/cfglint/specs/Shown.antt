@@ -1,5 +1,5 @@
 -- A finding as plain data, as callers see a `Finding`; and the texts of findings.
-use Rattle.std.specs.Prelude.{ℕ, ◌+◌, List, [], ◌∷◌, ◌++◌, drop, take, codes, slice_get, unwrap_or}
+use Rattle.std.specs.Prelude.{ℕ, ◌+◌, List, [], ◌∷◌, ◌++◌, drop, map, take, codes, slice_get, unwrap_or}
 use Rattle.std.specs.List.{flat_map}
 use Rattle.std.specs.Option.{option_map_or}
 use Rattle.cfgrammar.specs.Grammar.{Sym, Rule}
@@ -24,8 +24,9 @@ pub record ShownFinding : Type 0 where
   pub spans : List Span
   pub text : List ℕ
 
--- what the spans mean: for a repeated production, both are shown
+-- what the spans mean: for cyclic rules and for a repeated production, all are shown
 abbrev pub spanskind_of : FindingKind → SpansKind
+spanskind_of IsCyclic = DuplicationError
 spanskind_of RepeatedProduction = DuplicationError
 spanskind_of _ = Error
 
@@ -81,11 +82,11 @@ module _ (g : Numbered) where
       let symbols = (nth_production (core g) step.production).symbols in
       codes " ->" ++ (nullable (take step.index symbols) ++ (codes " " ++ (rule_name step.rule ++ nullable (drop (step.index + 1) symbols))))
 
-  -- that the rule is cyclic, by this path of steps
-  abbrev pub cyclic_finding : ℕ → List Step → ShownFinding
-  cyclic_finding r path = record {
+  -- that these rules are cyclic, and that the first of them is by this path of steps
+  abbrev pub cyclic_finding : ℕ → List ℕ → List Step → ShownFinding
+  cyclic_finding r rules path = record {
     kind = IsCyclic;
-    spans = rule_span r ∷ [];
+    spans = map rule_span rules;
     text = codes "Rule " ++ (quoted (rule_name r) ++ (codes " derives itself: " ++ (rule_name r ++ flat_map step_text path)));
   }
 

@@ -1,115 +1,182 @@
 //! Cyclic rules.
 
-ghost use Rattle.std.specs.Prelude.{◌≡◌, ◌++◌, ◌<◌, All, IfOk, OnOk, length, map, string_bytes};
-ghost use Rattle.std.specs.List.{flat_map};
+ghost use Rattle.std.specs.Prelude.{◌≡◌, ◌++◌, ◌<◌, All, IfOk, OnOk, Some, length, map, nat_le, slice_get};
+ghost use Rattle.std.specs.Prelude.{string_bytes};
+ghost use Rattle.std.specs.List.{filter, flat_map};
 ghost use Rattle.cfgrammar.specs.Accessors.{IsSymbolWithin, sym_name};
+ghost use Rattle.cfgrammar.specs.CyclicGroups.{IsGroup};
+ghost use Rattle.cfgrammar.specs.Numbered.{core};
 ghost use Rattle.cfgrammar.specs.NumberedSymbols.{sym_of};
-ghost use Rattle.cfglint.specs.Findings.{ReportsBelow, ReportsCycle};
-ghost use Rattle.cfglint.specs.Inner.CyclicRules.{AreCycles, IsSomeStep};
-ghost use Rattle.cfglint.specs.Shown.{cyclic_finding, step_text, nullable};
+ghost use Rattle.cfgrammar.specs.UnitSteps.{AreSteps, IsStep};
+ghost use Rattle.cfglint.specs.Findings.{ReportsBelow, ReportsGroup, rules_added as added};
+ghost use Rattle.cfglint.specs.Inner.CyclicRules.{AreOwnGroups, IsSomeStep};
+ghost use Rattle.cfglint.specs.Shown.{cyclic_finding, rule_span, step_text, nullable};
 
 use crate::added::rules_added;
 use crate::finding::{Finding, FindingKind};
 use crate::reporter::{Reporter, push_reported};
-use cfgrammar::laws::cycles_are_derivations;
+use cfgrammar::laws::unit_steps_are_derivations;
 use cfgrammar::storage::to_storage;
 use cfgrammar::yacc::YaccGrammar;
-use cfgrammar::yacc::cycles::{Step, shortest_cycles, unit_steps};
-use cfgrammar::{PIdx, RIdx, Symbol};
+use cfgrammar::yacc::cycles::{
+    CyclicGroup, Step, Steps, cyclic_groups, shortest_cycle, unit_steps,
+};
+use cfgrammar::{PIdx, RIdx, Span, Symbol};
 use std::alloc::{AllocError, Global};
 use std::marker::Model;
 
-/// Adds the cyclic rules of the file to the findings, each with a shortest path of steps from it to itself.
+/// Adds the groups of cyclic rules to the findings, each with a shortest path of steps from its first rule of the file
+/// to itself.
 pub(crate) fn push_cycles(
     alloc: Global,
     all: &mut Vec<Finding>,
     grammar: &YaccGrammar<u32>,
 ) -> Result<(), AllocError>
-    ensures { OnOk result ((reported : _) × ReportsBelow (ReportsCycle grammar.now) (length grammar.now.rules) reported
+    ensures { OnOk result ((reported : _) × ReportsBelow (ReportsGroup grammar.now) (length grammar.now.rules) reported
         × (all.new.items ≡ all.old.items ++ reported)) }
 {
     let targets = CyclicRules::new(alloc, grammar)?;
     push_reported(alloc, all, &targets, usize::from(grammar.rules_len()))
 }
 
-/// A grammar, and for each of its rules a shortest cycle, or `None` if it has none.
+/// A grammar, its unit steps, and for each of its rules the group of cyclic rules of which it is the first, or `None` if
+/// it is the first of none.
 #[derive(Drop)]
 struct CyclicRules<'a> {
     grammar: &'a YaccGrammar<u32>,
-    cycles: Vec<Option<Vec<Step>>>,
+    steps: Steps,
+    groups: Vec<Option<CyclicGroup>>,
 }
 
 impl<'a> Model for CyclicRules<'a> {
     ghost use Rattle.cfgrammar.specs.Numbered.{Numbered};
-    ghost use Rattle.cfglint.specs.Inner.CyclicRules.{AreCycles};
+    ghost use Rattle.cfglint.specs.Inner.CyclicRules.{AreOwnGroups};
 
     ghost Value = { Numbered };
 
     ghost view = { λ x. x.grammar.now };
 
-    ghost invariant = { λ x. AreCycles x.grammar.now x.cycles.items };
+    ghost invariant = { λ x. AreOwnGroups x.grammar.now x.steps x.groups.items };
 }
 
 impl<'a> CyclicRules<'a> {
-    /// The cycles of the grammar's rules.
+    /// The groups of the grammar's cyclic rules.
     fn new(alloc: Global, grammar: &'a YaccGrammar<u32>) -> Result<Self, AllocError>
         ensures { IfOk result (λ x. x ≡ grammar.now) }
     {
-        let cycles = cycles_of(alloc, grammar)?;
-        Ok(CyclicRules { grammar, cycles })
+        let firsts = grammar.firsts(alloc)?;
+        let steps = unit_steps(alloc, grammar, &firsts)?;
+        let groups = cyclic_groups(alloc, &steps)?;
+        Ok(CyclicRules {
+            grammar,
+            steps,
+            groups,
+        })
     }
 }
 
 impl<'a> Reporter for CyclicRules<'a> {
     ghost use Rattle.std.specs.Prelude.{length};
-    ghost use Rattle.cfglint.specs.Findings.{ReportsCycle};
+    ghost use Rattle.cfglint.specs.Findings.{ReportsGroup};
 
     ghost count = { λ x. length x.rules };
 
-    ghost reports = { ReportsCycle };
+    ghost reports = { ReportsGroup };
 
     fn report(&self, alloc: Global, number: usize) -> Result<Option<Finding>, AllocError> {
-        cycles_are_derivations();
-        if number < rules_added(self.grammar) {
-            return Ok(None);
-        }
-        match &self.cycles[number] {
-            Some(path) => Ok(Some(cyclic_rule(alloc, self.grammar, number, path)?)),
+        unit_steps_are_derivations();
+        match &self.groups[number] {
+            Some(group) => group_finding(alloc, self.grammar, &self.steps, number, group),
             None => Ok(None),
         }
     }
 }
 
-/// For each rule of the grammar a shortest cycle, or `None` if it has none.
-fn cycles_of(
+/// The finding for the group whose first rule has this number, if it has rules of the file.
+fn group_finding(
     alloc: Global,
     grammar: &YaccGrammar<u32>,
-) -> Result<Vec<Option<Vec<Step>>>, AllocError>
-    ensures { IfOk result (λ cycles. AreCycles grammar.now cycles.items) }
+    steps: &Steps,
+    number: usize,
+    group: &CyclicGroup,
+) -> Result<Option<Finding>, AllocError>
+    requires steps { AreSteps (core grammar.now) steps.now }
+    requires group { IsGroup (IsStep (core grammar.now)) number group.now.rules.items group.now.cycle.items }
+    ensures { IfOk result (ReportsGroup grammar.now number) }
 {
-    let firsts = grammar.firsts(alloc)?;
-    let steps = unit_steps(alloc, grammar, &firsts)?;
-    shortest_cycles(alloc, &steps)
+    unit_steps_are_derivations();
+    let rules = own_rules(alloc, grammar, &group.rules)?;
+    let Some(first) = rules.first().copied() else {
+        return Ok(None);
+    };
+    if first == number {
+        return Ok(Some(cyclic_group(
+            alloc,
+            grammar,
+            first,
+            &rules,
+            &group.cycle,
+        )?));
+    }
+    match shortest_cycle(alloc, steps, first)? {
+        Some(path) => Ok(Some(cyclic_group(alloc, grammar, first, &rules, &path)?)),
+        None => Ok(None),
+    }
 }
 
-/// The finding that the rule is cyclic, by this cycle.
-fn cyclic_rule(
+/// Those of the rules that are rules of the file.
+fn own_rules(
+    alloc: Global,
+    grammar: &YaccGrammar<u32>,
+    rules: &[usize],
+) -> Result<Vec<usize>, AllocError>
+    ensures { IfOk result (λ own. own.items ≡ filter (λ rule. nat_le (added grammar.now) rule) rules.now) }
+{
+    let first = rules_added(grammar);
+    rules
+        .iter()
+        .copied()
+        .filter(|rule| first <= *rule)
+        .collect(alloc)
+}
+
+/// The finding that these rules are cyclic, the first of them by this cycle.
+fn cyclic_group(
     alloc: Global,
     grammar: &YaccGrammar<u32>,
     rule: usize,
+    rules: &[usize],
     path: &[Step],
 ) -> Result<Finding, AllocError>
-    requires within { rule < length grammar.now.rules }
+    requires rule { rule < length grammar.now.rules }
+    requires rules { All (λ r. r < length grammar.now.rules) rules.now }
     requires steps { All (IsSomeStep grammar.now) path.now }
-    ensures { IfOk result (λ finding. finding ≡ cyclic_finding grammar.now rule path.now) }
+    ensures { IfOk result (λ finding. finding ≡ cyclic_finding grammar.now rule rules.now path.now) }
 {
     grammar.invariant_holds();
     let rule = RIdx(to_storage(rule));
     let name = grammar.rule_name_str(rule);
     let mut text = format!(in alloc; "Rule '{name}' derives itself: {name}")?;
     write_path(&mut text, grammar, path)?;
-    let span = grammar.rule_name_span(rule);
-    Finding::at(alloc, FindingKind::IsCyclic, span, text)
+    let spans = name_spans(alloc, grammar, rules)?;
+    Ok(Finding::new(FindingKind::IsCyclic, spans, text))
+}
+
+/// The spans of the rules' names.
+fn name_spans(
+    alloc: Global,
+    grammar: &YaccGrammar<u32>,
+    rules: &[usize],
+) -> Result<Vec<Span>, AllocError>
+    requires { All (λ r. r < length grammar.now.rules) rules.now }
+    ensures { IfOk result (λ spans. spans.items ≡ map (rule_span grammar.now) rules.now) }
+{
+    grammar.invariant_holds();
+    let mut spans = Vec::new(alloc);
+    for rule in rules {
+        spans.push(grammar.rule_name_span(RIdx(to_storage(*rule))))?;
+    }
+    Ok(spans)
 }
 
 /// Writes steps, one after the other.

@@ -37,6 +37,7 @@ pub use Rattle.derivation.specs.CostLists
 pub use Rattle.derivation.specs.CostErrorTexts
 pub use Rattle.cfgtables.specs.NumberedSymbols
 pub use Rattle.cfgtables.specs.Openings
+pub use Rattle.cfgcycles.specs.CyclicGroups
 pub use Rattle.cfgcycles.specs.UnitPaths
 pub use Rattle.cfgcycles.specs.StepLists
 pub use Rattle.cfgcycles.specs.StepPaths
@@ -145,6 +146,7 @@ pub use Rattle.cfgmarks.specs.declared.markmap.fault.MergeError
 pub use Rattle.cfgmarks.specs.declared.markmap.fault.MergeFault
 pub use Rattle.derivation.specs.declared.errors.CostError
 pub use Rattle.cfgcosts.specs.declared.errors.SentenceError
+pub use Rattle.cfgcycles.specs.declared.groups.CyclicGroup
 pub use Rattle.cfgcycles.specs.declared.step_paths.Step
 pub use Rattle.cfgerrors.specs.declared.header.HeaderErrorKind
 pub use Rattle.cfgerrors.specs.declared.header.HeaderError

@@ -7,7 +7,8 @@ pub use cfgcosts::laws::{
     no_minimal_sentence_begins_another, sentences_cost_their_length,
 };
 pub use cfgcycles::laws::{
-    cycles_are_derivations, unit_paths_are_derivations, usable_productions_hold_sentences,
+    cycles_are_derivations, cyclic_rules_are_in_one_group, unit_paths_are_derivations,
+    unit_steps_are_derivations, usable_productions_hold_sentences,
 };
 pub use cfggreatest::laws::{
     bounded_rules_have_a_greatest_cost, sets_that_grow_are_unbounded,

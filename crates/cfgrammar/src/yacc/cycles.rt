@@ -1,3 +1,3 @@
-//! Cyclic rules, and shortest cycles.
+//! Cyclic rules, their groups, and shortest cycles.
 
-pub use cfgcycles::{Step, Steps, shortest_cycle, shortest_cycles, unit_steps};
+pub use cfgcycles::{CyclicGroup, Step, Steps, cyclic_groups, shortest_cycle, unit_steps};

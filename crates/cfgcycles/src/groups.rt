@@ -1,0 +1,131 @@
+//! Groups of rules that are on common cycles.
+
+ghost use Rattle.std.specs.Prelude.{◌≡◌, ◌↔◌, ℕ, ◌<◌, List, [], None, Some, Contains, get_or, length, replicate};
+ghost use Rattle.std.specs.Prelude.{slice_get, slice_index, IfOk, MatchOption, OnOk};
+ghost use Rattle.cfgcycles.specs.CyclicGroups.{AreGroups};
+ghost use Rattle.cfgcycles.specs.StepLists.{AreWithin, HasStep};
+ghost use Rattle.cfgcycles.specs.StepPaths.{IsCycle, IsShortestCycle};
+ghost use Rattle.cfgcycles.specs.Inner.Components.{Reaches};
+ghost use Rattle.cfgcycles.specs.Inner.Members.{AreInner, AreMembers, IsGroupAmong};
+ghost use Rattle.cfgcycles.specs.Inner.Putting.{ArePut};
+ghost use Rattle.cfgcycles.specs.declared.step_paths.Step.{Step};
+
+use crate::components::components;
+use crate::shortest::{Layers, find_cycle};
+use crate::step_paths::{Step, Steps};
+use cfgindex::ListTable;
+use std::alloc::{AllocError, Global};
+
+/// Rules that are on a common cycle with the first of them, and a shortest cycle of that one.
+#[derive(Drop)]
+pub struct CyclicGroup {
+    /// The numbers of the rules, in ascending order.
+    pub rules: Vec<usize>,
+    /// A shortest path of steps from the first rule to itself.
+    pub cycle: Vec<Step>,
+}
+
+/// For each rule the group of cyclic rules of which it is the first, or `None` if it is the first of none. In total this
+/// takes the time of a few looks at each step.
+///
+/// # Errors
+///
+/// Out of memory.
+pub fn cyclic_groups(
+    alloc: Global,
+    steps: &Steps,
+) -> Result<Vec<Option<CyclicGroup>>, AllocError>
+    requires { AreWithin steps.now }
+    ensures { IfOk result (λ groups. AreGroups (HasStep steps.now) (length steps.now) groups.items) }
+{
+    let roots = components(alloc, steps)?;
+    let members = members_of(alloc, &roots)?;
+    let inner = inner_steps(alloc, steps, &roots)?;
+    let mut layers = Layers::new(alloc, &inner)?;
+    let mut groups = Vec::new(alloc);
+    for rule in 0..steps.len() {
+        let group = group_of(alloc, &mut layers, rule, members.of(roots[rule]))?;
+        groups.push(group)?;
+    }
+    Ok(groups)
+}
+
+/// For each rule the rules whose root it is, in ascending order.
+fn members_of(alloc: Global, roots: &[usize]) -> Result<ListTable<usize>, AllocError>
+    requires { (rule : ℕ) → rule < length roots.now → slice_index roots.now rule < length roots.now }
+    ensures lists { IfOk result (λ members. length members ≡ length roots.now) }
+    ensures members { IfOk result (λ members. (root : ℕ) → AreMembers roots.now (length roots.now) root
+        (get_or members root [])) }
+{
+    let mut members = ListTable::new(alloc, roots.len())?;
+    for rule in 0..roots.len() {
+        members.push(roots[rule], rule)?;
+    }
+    Ok(members)
+}
+
+/// The steps that lead to rules with the same root.
+fn inner_steps(alloc: Global, steps: &Steps, roots: &[usize]) -> Result<Steps, AllocError>
+    requires within { AreWithin steps.now }
+    requires roots { length roots.now ≡ length steps.now }
+    ensures lists { IfOk result (λ inner. length inner ≡ length steps.now) }
+    ensures inner { IfOk result (AreInner steps.now roots.now) }
+{
+    let mut inner = Steps::new(alloc, steps.len())?;
+    for rule in 0..steps.len() {
+        put_inner(&mut inner, rule, steps.of(rule), roots)?;
+    }
+    Ok(inner)
+}
+
+/// Adds those of the rule's steps that lead to rules with the same root.
+fn put_inner(
+    inner: &mut Steps,
+    rule: usize,
+    path: &[Step],
+    roots: &[usize],
+) -> Result<(), AllocError>
+    requires rule { rule < length inner.old }
+    requires within { (step : Step) → Contains path.now step → step.rule < length roots.now }
+    requires roots { length roots.now ≡ length inner.old }
+    ensures { OnOk result (ArePut (λ a step. (a ≡ rule) × Contains path.now step
+        × (slice_index roots.now rule ≡ slice_index roots.now step.rule)) inner.old inner.new) }
+{
+    for step in path {
+        if roots[rule] == roots[step.rule] {
+            inner.push(rule, *step)?;
+        }
+    }
+    Ok(())
+}
+
+/// The group of the rule, if it is the first of these rules and has a cycle of these steps. `rules` has all rules that
+/// the rule leads to.
+fn group_of(
+    alloc: Global,
+    layers: &mut Layers,
+    rule: usize,
+    rules: &[usize],
+) -> Result<Option<CyclicGroup>, AllocError>
+    requires rule { rule < length layers.old.steps.now }
+    requires within { AreWithin layers.old.steps.now }
+    requires found { layers.old.found.items ≡ replicate (length layers.old.steps.now) None }
+    requires all { (other : ℕ) → Reaches (HasStep layers.old.steps.now) rule other → Contains rules.now other }
+    requires inside { (other : ℕ) → Contains rules.now other → other < length layers.old.steps.now }
+    ensures steps { OnOk result (layers.new.steps.now ≡ layers.old.steps.now) }
+    ensures found { OnOk result (layers.new.found.items ≡ layers.old.found.items) }
+    ensures group { IfOk result (IsGroupAmong (HasStep layers.old.steps.now) rule rules.now) }
+{
+    if rules.first().copied() != Some(rule) {
+        return Ok(None);
+    }
+    let found = find_cycle(alloc, layers, rule)?;
+    layers.clear(rules);
+    match found {
+        Some(cycle) => {
+            let rules = rules.to_vec(alloc)?;
+            Ok(Some(CyclicGroup { rules, cycle }))
+        }
+        None => Ok(None),
+    }
+}
