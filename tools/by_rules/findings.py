@@ -19,7 +19,8 @@ class Finding:
 def findings_of(tree, grammar, is_printed):
     """The findings of a tree and its numbered grammar. Of several shortest cycles of a rule the first that is printed is taken, and
     any if none is."""
-    found = unused(tree) + unproductive(grammar) + cycles(grammar, is_printed) + repeats(grammar) + idle(tree)
+    found = (unused(tree) + unproductive(grammar) + useless(grammar) + cycles(grammar, is_printed) + repeats(grammar)
+             + idle(tree))
     return sorted(found, key=lambda finding: finding.spans[0][0])
 
 
@@ -35,9 +36,14 @@ def rules_of_file(grammar):
     return range(3 if grammar.has_implicit else 1, len(grammar.rules))
 
 
+def least_costs(grammar):
+    """The least cost of each rule, and None of one that is unproductive."""
+    return Costs(grammar, [1] * (len(grammar.tokens) + 1)).least
+
+
 def unproductive(grammar):
     """Unproductive rules, and then unusable productions of productive rules."""
-    least = Costs(grammar, [1] * (len(grammar.tokens) + 1)).least
+    least = least_costs(grammar)
     name = lambda rule: grammar.rules[rule].name
     found = [Finding('NoSentence', [grammar.rules[rule].span], "Rule '%s' has no sentence" % name(rule))
              for rule in rules_of_file(grammar) if least[rule] is None]
@@ -47,6 +53,29 @@ def unproductive(grammar):
             text = "Unusable production: rule '%s' has no sentence" % name(inside[0])
             found.append(Finding('UnusableProduction', [p.span], text))
     return found
+
+
+def useless(grammar):
+    """Productive rules, and then tokens, that the start rule reaches, but not by usable productions. There are none if the start rule
+    is unproductive."""
+    least = least_costs(grammar)
+    if least[0] is None:
+        return []
+    usable = [p for p in grammar.productions if all(what == 'token' or least[index] is not None for what, index in p.symbols)]
+    only_unusably = reached(grammar.productions) - reached(usable)
+    names = ([('Rule', rule, grammar.rules[rule].name, grammar.rules[rule].span) for rule in rules_of_file(grammar)
+              if least[rule] is not None]
+             + [('Token', token, *name_and_span) for token, name_and_span in enumerate(grammar.tokens)])
+    return [Finding('UselessSymbol', [span], "%s '%s' is reached only through unusable productions" % (what, name))
+            for what, index, name, span in names if (what.lower(), index) in only_unusably]
+
+
+def reached(productions):
+    """The symbols that these productions reach from the start rule: what was reached grows until nothing is new."""
+    symbols = {('rule', 0)}
+    while (after := symbols.union(*(p.symbols for p in productions if ('rule', p.rule) in symbols))) != symbols:
+        symbols = after
+    return symbols
 
 
 def cycles(grammar, is_printed):

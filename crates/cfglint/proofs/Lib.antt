@@ -4,6 +4,7 @@ pub mod TargetTexts
 pub mod Lacking
 pub mod Marking
 pub mod OwnCycles
+pub mod Reached
 pub mod Read
 pub mod Rendered
 pub mod Reporting

@@ -5,14 +5,17 @@ use Rattle.std.proofs.lemmas.List.Elements.{Contains-get_or}
 use Rattle.std.proofs.lemmas.Option.{get_or_from_slice_get}
 use Rattle.cfgrammar.specs.Grammar.{HasProduction, Production, Sym}
 use Rattle.cfgrammar.specs.Openings.{nth_production}
-use Rattle.cfgrammar.specs.Numbered.{Numbered, NumberedProduction, NumberedRule, core, production_core}
-use Rattle.cfgrammar.specs.Accessors.{production_part, rule_part}
+use Rattle.cfgrammar.specs.Numbered.{Numbered, NumberedProduction, NumberedRule, NumberedToken, core, production_core}
+use Rattle.cfgrammar.specs.Accessors.{production_part, rule_part, token_part}
 use Rattle.cfgrammar.specs.WellNumbered.{IsWellNumbered}
 
 -- a grammar that is seen as this one, and a number as this one
 module _ (g h : Numbered) (view : h ≡ g) (n k : ℕ) (same : k ≡ n) {A : Type 0} (x : A) where
   pub rule_seen : (part : NumberedRule → A) → rule_part part h k ≡ Some x → rule_part part g n ≡ Some x
   rule_seen part read = let seen : rule_part part h k ≡ rule_part part g n = λ i. rule_part part (view i) (same i) in sym seen ∙ read
+
+  pub token_seen : (part : NumberedToken → A) → token_part part h k ≡ Some x → token_part part g n ≡ Some x
+  token_seen part read = let seen : token_part part h k ≡ token_part part g n = λ i. token_part part (view i) (same i) in sym seen ∙ read
 
   pub production_seen : (part : NumberedProduction → A) → production_part part h k ≡ Some x → production_part part g n ≡ Some x
   production_seen part read = let seen : production_part part h k ≡ production_part part g n = λ i. production_part part (view i) (same i) in sym seen ∙ read

@@ -17,27 +17,38 @@ abbrev pub UsesByRules : Numbered → Type 0
 UsesByRules g = (r : ℕ) (symbols : List Sym) → HasProduction (core g) r symbols
     → IsUsable (HasProduction (core g)) r symbols ↔ ((q : ℕ) → Contains symbols (Rule q) → (v : List ℕ) × Sentence (HasProduction (core g)) q v)
 
-module _ (g : Numbered) (law : UsesByRules g) (p : ℕ) (within : p < length g.productions) (rule : ℕ) (symbols : List Sym)
-    (owner : production_part (λ production. production.rule) g p ≡ Some rule) (held : production_part (λ production. production.symbols) g p ≡ Some symbols) where
-  -- each rule in it is productive
-  pub not_unusable : ((q : ℕ) → Contains symbols (Rule q) → UnproductiveOrNot g q false) → IsUnusable g p → ⊥
-  not_unusable each unusable =
+module _ (g : Numbered) (law : UsesByRules g) (p : ℕ) (within : p < length g.productions) (symbols : List Sym)
+    (held : production_part (λ production. production.symbols) g p ≡ Some symbols) where
+  -- if each rule in it is productive, it is usable
+  pub is_usable : ((q : ℕ) → Contains symbols (Rule q) → UnproductiveOrNot g q false)
+      → IsUsable (HasProduction (core g)) (nth_production (core g) p).rule (nth_production (core g) p).symbols
+  is_usable each =
       let read = symbols_read g p within symbols held in
-      unusable.unused ((law _ _ (has_read g p within)).1 (λ q among. each q (subst (λ l. Contains l (Rule q)) read among)))
+      (law _ _ (has_read g p within)).1 (λ q among. each q (subst (λ l. Contains l (Rule q)) read among))
 
-  -- a rule in it is unproductive, though its own rule is productive
-  pub is_unusable : p < g.start_production → UnproductiveOrNot g rule false → (q : ℕ) → IsFirstWithout g symbols q → IsUnusable g p
-  is_unusable ours (sentence, is) q first =
+  -- if a rule in it is unproductive, it isn't
+  pub not_usable : (q : ℕ) → IsFirstWithout g symbols q
+      → IsUsable (HasProduction (core g)) (nth_production (core g) p).rule (nth_production (core g) p).symbols → ⊥
+  not_usable q first usable =
       let read = symbols_read g p within symbols held in
       let holds = subst (λ l. Contains l (Rule q)) (sym first.holds) (Contains-append_right first.prefix (Rule q ∷ first.back) (Rule q) (contains_first (Rule q) first.back)) in
       let among = subst (λ l. Contains l (Rule q)) (sym read) holds in
-      record {
-        ours = ours;
-        sentence = sentence;
-        is = subst (λ r. Sentence (HasProduction (core g)) r sentence) (sym (rule_read g p within rule owner)) is;
-        unused = λ usable. let (w, has) = (law _ _ (has_read g p within)).0 usable q among in first.none w has;
-      }
+      let (w, has) = (law _ _ (has_read g p within)).0 usable q among in
+      first.none w has
 
   -- the first unproductive one, in what is shown of the production
   pub first_read : (q : ℕ) → IsFirstWithout g symbols q → IsFirstWithout g (nth_production (core g) p).symbols q
   first_read q first = subst (λ l. IsFirstWithout g l q) (sym (symbols_read g p within symbols held)) first
+
+  pub not_unusable : ((q : ℕ) → Contains symbols (Rule q) → UnproductiveOrNot g q false) → IsUnusable g p → ⊥
+  not_unusable each unusable = unusable.unused (is_usable each)
+
+  -- a rule in it is unproductive, though its own rule is productive
+  pub is_unusable : (rule : ℕ) → production_part (λ production. production.rule) g p ≡ Some rule → p < g.start_production → UnproductiveOrNot g rule false
+      → (q : ℕ) → IsFirstWithout g symbols q → IsUnusable g p
+  is_unusable rule owner ours (sentence, is) q first = record {
+    ours = ours;
+    sentence = sentence;
+    is = subst (λ r. Sentence (HasProduction (core g)) r sentence) (sym (rule_read g p within rule owner)) is;
+    unused = not_usable q first;
+  }

@@ -3,7 +3,7 @@
 use Rattle.std.specs.Prelude.{◌≡◌, ◌↔◌, ℕ, ◌+◌, ◌<◌, ◌≤◌, List, [], ◌∷◌, ◌++◌, Contains, Option, Some, None, if◌then◌else◌, is_some, length, map, slice_get}
 use Rattle.std.specs.List.Sorted.{IsPermutation, IsSortedByKey, IsStableByKey, IsStrictlyIncreasing}
 use Rattle.std.specs.Ordering.{nat_cmp}
-use Rattle.cfgrammar.specs.Grammar.{Sym, Rule, HasProduction}
+use Rattle.cfgrammar.specs.Grammar.{Sym, Rule, Token, HasProduction}
 use Rattle.cfgrammar.specs.Sentence.{Sentence}
 use Rattle.cfgrammar.specs.UnitPaths.{DerivesRule, IsCyclic}
 use Rattle.cfgrammar.specs.StepPaths.{IsShortestCycle}
@@ -19,7 +19,8 @@ use Rattle.cfgrammar.specs.Warnings.{GrammarWarning}
 use Rattle.cfgrammar.specs.YaccGrammarWarningKind.TheVariants.{UnusedToken}
 use Rattle.cfgrammar.specs.Openings.{nth_production}
 use Rattle.cfgrammar.specs.Numbered.{Numbered, core}
-use Rattle.cfglint.specs.Shown.{ShownFinding, cyclic_finding, no_sentence, offset_of, repeated, unusable, unused_precedence, warned}
+use Rattle.cfglint.specs.Shown.{ShownFinding, cyclic_finding, no_sentence, offset_of, repeated, unusable, unused_precedence, useless_rule, useless_token, warned}
+use Rattle.cfglint.specs.Useless.{IsUseless}
 
 -- The findings for the numbers below this one, in order: `Reports n (Some finding)` says that this is the finding for n, and `Reports n None`
 -- that there is none.
@@ -62,6 +63,26 @@ module _ (g : Numbered) where
   abbrev pub ReportsUnusable : ℕ → Option ShownFinding → Type 0
   ReportsUnusable p (Some finding) = IsUnusable p × (q : ℕ) × IsFirstWithout (nth_production (core g) p).symbols q × (finding ≡ unusable g p q)
   ReportsUnusable p None = IsUnusable p → ⊥
+
+  -- a rule of the file that is productive, but reachable only through unusable productions
+  pub record IsUselessRule (r : ℕ) : Type 0 where
+    pub ours : rules_added ≤ r
+    pub sentence : List ℕ
+    pub is : Sentence (HasProduction (core g)) r sentence
+    pub useless : IsUseless (core g) (Rule r)
+
+  abbrev pub ReportsUselessRule : ℕ → Option ShownFinding → Type 0
+  ReportsUselessRule r (Some finding) = IsUselessRule r × (finding ≡ useless_rule g r)
+  ReportsUselessRule r None = IsUselessRule r → ⊥
+
+  -- such a token, other than the end token, which has no name
+  pub record IsUselessToken (t : ℕ) : Type 0 where
+    pub named : t + 1 < length g.tokens
+    pub useless : IsUseless (core g) (Token t)
+
+  abbrev pub ReportsUselessToken : ℕ → Option ShownFinding → Type 0
+  ReportsUselessToken t (Some finding) = IsUselessToken t × (finding ≡ useless_token g t)
+  ReportsUselessToken t None = IsUselessToken t → ⊥
 
   -- a ⇒+ b ⇒+ a
   pub record DeriveEachOther (a b : ℕ) : Type 0 where
@@ -139,18 +160,22 @@ pub record AreReportedInTurn (s : Syntax) (g : Numbered) (reported : List ShownF
   pub warnings : List GrammarWarning
   pub unused : List ShownFinding
   pub without : List ShownFinding
-  pub useless : List ShownFinding
+  pub unusable_productions : List ShownFinding
+  pub useless_rules : List ShownFinding
+  pub useless_tokens : List ShownFinding
   pub cycles : List ShownFinding
   pub repeats : List ShownFinding
   pub precedences : List ShownFinding
   pub are_warnings : AreWarnings s warnings
   pub are_unused : ReportsBelow (ReportsWarning s warnings) (length warnings) unused
   pub are_without : ReportsBelow (ReportsNoSentence g) (length g.rules) without
-  pub are_useless : ReportsBelow (ReportsUnusable g) g.start_production useless
+  pub are_unusable_productions : ReportsBelow (ReportsUnusable g) g.start_production unusable_productions
+  pub are_useless_rules : ReportsBelow (ReportsUselessRule g) (length g.rules) useless_rules
+  pub are_useless_tokens : ReportsBelow (ReportsUselessToken g) (length g.tokens) useless_tokens
   pub are_cycles : ReportsBelow (ReportsGroup g) (length g.rules) cycles
   pub are_repeats : ReportsBelow (ReportsRepeated g) g.start_production repeats
   pub are_precedences : ReportsBelow (ReportsPrecedence s) (length s.tables.precedences) precedences
-  pub is : reported ≡ unused ++ (without ++ (useless ++ (cycles ++ (repeats ++ precedences))))
+  pub is : reported ≡ unused ++ (without ++ (unusable_productions ++ (useless_rules ++ (useless_tokens ++ (cycles ++ (repeats ++ precedences))))))
 
 -- the same findings sorted by offset; those at the same offset stay in their order
 pub record AreByOffset (reported all : List ShownFinding) : Type 0 where

@@ -2,5 +2,6 @@
 pub mod Requested
 pub mod FirstProductions
 pub mod Unproductive
+pub mod Reached
 pub mod CyclicRules
 pub mod Taking

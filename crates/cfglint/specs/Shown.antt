@@ -2,7 +2,7 @@
 use Rattle.std.specs.Prelude.{ℕ, ◌+◌, List, [], ◌∷◌, ◌++◌, drop, map, take, codes, slice_get, unwrap_or}
 use Rattle.std.specs.List.{flat_map}
 use Rattle.std.specs.Option.{option_map_or}
-use Rattle.cfgrammar.specs.Grammar.{Sym, Rule}
+use Rattle.cfgrammar.specs.Grammar.{Sym, Rule, Token}
 use Rattle.cfgrammar.specs.Step.{Step}
 use Rattle.cfgrammar.specs.Span.{Span}
 use Rattle.cfgrammar.specs.SpansKind.{SpansKind}
@@ -16,7 +16,7 @@ use Rattle.cfgrammar.specs.Numbered.{Numbered, core}
 use Rattle.cfgrammar.specs.Accessors.{production_part, rule_part, sym_name}
 use Rattle.cfgrammar.specs.Openings.{nth_production}
 use Rattle.cfglint_shell.specs.declared.finding_kind.FindingKind.{FindingKind}
-use Rattle.cfglint_shell.specs.declared.finding_kind.FindingKind.TheVariants.{IsCyclic, NoSentence, RepeatedProduction, UnusableProduction, UnusedPrecedence, UnusedRule, UnusedToken}
+use Rattle.cfglint_shell.specs.declared.finding_kind.FindingKind.TheVariants.{IsCyclic, NoSentence, RepeatedProduction, UnusableProduction, UnusedPrecedence, UnusedRule, UnusedToken, UselessSymbol}
 
 -- the kind of finding, its spans and its text
 pub record ShownFinding : Type 0 where
@@ -53,6 +53,12 @@ module _ (g : Numbered) where
   abbrev pub rule_span : ℕ → Span
   rule_span r = unwrap_or (rule_part (λ rule. rule.span) g r) nowhere
 
+  abbrev pub token_name : ℕ → List ℕ
+  token_name t = sym_name g (Token t)
+
+  abbrev pub token_span : ℕ → Span
+  token_span t = option_map_or (λ token. unwrap_or token.span nowhere) (slice_get g.tokens t) nowhere
+
   abbrev pub production_span : ℕ → Span
   production_span p = unwrap_or (production_part (λ production. production.span) g p) nowhere
 
@@ -70,6 +76,21 @@ module _ (g : Numbered) where
     kind = UnusableProduction;
     spans = production_span p ∷ [];
     text = codes "Unusable production: rule " ++ (quoted (rule_name q) ++ codes " has no sentence");
+  }
+
+  -- that the rule, or the token, is reached only through unusable productions
+  abbrev pub useless_rule : ℕ → ShownFinding
+  useless_rule r = record {
+    kind = UselessSymbol;
+    spans = rule_span r ∷ [];
+    text = codes "Rule " ++ (quoted (rule_name r) ++ codes " is reached only through unusable productions");
+  }
+
+  abbrev pub useless_token : ℕ → ShownFinding
+  useless_token t = record {
+    kind = UselessSymbol;
+    spans = token_span t ∷ [];
+    text = codes "Token " ++ (quoted (token_name t) ++ codes " is reached only through unusable productions");
   }
 
   -- ` [NAME]` for each symbol, which is nullable

@@ -8,7 +8,8 @@ use crate::cyclic_rules::push_cycles;
 use crate::finding::Finding;
 use crate::precedences::push_precedences;
 use crate::repeats::push_repeats;
-use crate::sentences::push_sentences;
+use crate::sentences::{Unproductive, push_sentences};
+use crate::useless::push_useless;
 use crate::warned::push_warnings;
 use cfgrammar::yacc::YaccGrammar;
 use cfgrammar::yacc::ast::GrammarAST;
@@ -29,7 +30,9 @@ pub fn findings(
 {
     let mut all = Vec::new(alloc);
     push_warnings(alloc, &mut all, ast)?;
-    push_sentences(alloc, &mut all, grammar)?;
+    let unproductive = Unproductive::new(alloc, grammar)?;
+    push_sentences(alloc, &mut all, &unproductive)?;
+    push_useless(alloc, &mut all, &unproductive)?;
     push_cycles(alloc, &mut all, grammar)?;
     push_repeats(alloc, &mut all, grammar)?;
     push_precedences(alloc, &mut all, ast)?;

@@ -14,6 +14,7 @@ mod reporter;
 mod requested;
 mod sentences;
 pub mod system;
+mod useless;
 mod warned;
 
 pub use cfglint_shell::laws;

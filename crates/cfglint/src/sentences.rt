@@ -1,12 +1,13 @@
 //! Unproductive rules, and productions that no sentence uses.
 
-ghost use Rattle.std.specs.Prelude.{◌≡◌, ◌++◌, ◌<◌, ℕ, false, List, All, Contains, length, map};
+ghost use Rattle.std.specs.Prelude.{◌≡◌, ◌↔◌, ◌++◌, ◌<◌, ℕ, false, true, IsTrue, List, All, Contains, length, map};
 ghost use Rattle.std.specs.Prelude.{IfOk, IfSome, MatchOption, OnOk};
 ghost use Rattle.cfgrammar.specs.Grammar.{Rule};
 ghost use Rattle.cfgrammar.specs.Numbered.{core};
 ghost use Rattle.cfgrammar.specs.Accessors.{IsSymbolWithin};
 ghost use Rattle.cfgrammar.specs.NumberedSymbols.{sym_of};
 ghost use Rattle.cfglint.specs.Findings.{IsFirstWithout, ReportsBelow, ReportsNoSentence, ReportsUnusable};
+ghost use Rattle.cfglint.specs.Inner.Reached.{IsFollowedAt};
 ghost use Rattle.cfglint.specs.Inner.Unproductive.{AreUnproductive, UnproductiveOrNot};
 ghost use Rattle.cfglint.specs.Shown.{ShownFinding};
 
@@ -25,37 +26,38 @@ use std::marker::Model;
 pub(crate) fn push_sentences(
     alloc: Global,
     all: &mut Vec<Finding>,
-    grammar: &YaccGrammar<u32>,
+    unproductive: &Unproductive<'_>,
 ) -> Result<(), AllocError>
-    ensures { OnOk result ((without useless : List ShownFinding)
-        × ReportsBelow (ReportsNoSentence grammar.now) (length grammar.now.rules) without
-        × ReportsBelow (ReportsUnusable grammar.now) grammar.now.start_production useless
-        × (all.new.items ≡ all.old.items ++ (without ++ useless))) }
+    ensures { OnOk result ((without unusable : List ShownFinding)
+        × ReportsBelow (ReportsNoSentence unproductive.now) (length unproductive.now.rules) without
+        × ReportsBelow (ReportsUnusable unproductive.now) unproductive.now.start_production unusable
+        × (all.new.items ≡ all.old.items ++ (without ++ unusable))) }
 {
-    let misses = Unproductive::new(alloc, grammar)?;
+    let grammar = unproductive.grammar();
     push_reported(
         alloc,
         all,
-        &Rules(&misses),
+        &Rules(unproductive),
         usize::from(grammar.rules_len()),
     )?;
     push_reported(
         alloc,
         all,
-        &Productions(&misses),
+        &Productions(unproductive),
         usize::from(grammar.start_prod()),
     )
 }
 
 /// A grammar, and for each of its rules whether it is unproductive.
 #[derive(Drop)]
-struct Unproductive<'a> {
+pub(crate) struct Unproductive<'a> {
     grammar: &'a YaccGrammar<u32>,
     rules: Vec<bool>,
 }
 
 impl<'a> Model for Unproductive<'a> {
     ghost use Rattle.cfgrammar.specs.Numbered.{Numbered};
+    ghost use Rattle.cfglint.specs.Inner.Reached.{IsFollowedAt};
     ghost use Rattle.cfglint.specs.Inner.Unproductive.{AreUnproductive};
 
     ghost Value = { Numbered };
@@ -67,15 +69,41 @@ impl<'a> Model for Unproductive<'a> {
 
 impl<'a> Unproductive<'a> {
     /// Finds out which rules of the grammar are unproductive.
-    fn new(alloc: Global, grammar: &'a YaccGrammar<u32>) -> Result<Self, AllocError>
+    pub(crate) fn new(alloc: Global, grammar: &'a YaccGrammar<u32>) -> Result<Self, AllocError>
         ensures { IfOk result (λ x. x ≡ grammar.now) }
     {
         let rules = rules_without(alloc, grammar)?;
         Ok(Unproductive { grammar, rules })
     }
 
+    /// The grammar.
+    pub(crate) fn grammar(&self) -> &'a YaccGrammar<u32>
+        ensures { result.now ≡ self.now }
+    {
+        self.grammar
+    }
+
+    /// Whether all rules are productive.
+    pub(crate) fn is_empty(&self) -> bool
+        ensures { IsTrue result → (r : ℕ) → r < length self.now.rules → UnproductiveOrNot self.now r false }
+    {
+        !self.rules.contains(&true)
+    }
+
+    /// Whether a sentence of its rule uses the production: if no rule in it is unproductive.
+    pub(crate) fn is_usable(&self, production: PIdx<u32>) -> bool
+        requires { production.0 < length self.now.productions }
+        ensures { IsTrue result ↔ IsFollowedAt self.now true production.0 }
+    {
+        usable_productions_hold_sentences();
+        match self.first_without(self.grammar.prod(production)) {
+            Some(_) => false,
+            None => true,
+        }
+    }
+
     /// Whether the rule is unproductive.
-    fn misses(&self, rule: RIdx<u32>) -> bool
+    pub(crate) fn misses(&self, rule: RIdx<u32>) -> bool
         requires { rule.0 < length self.now.rules }
         ensures { UnproductiveOrNot self.now rule.0 result }
     {

@@ -1,4 +1,4 @@
-use Rattle.std.proofs.Common.{◌≡◌, List, length, count_by, ◌∙◌, ap, sym, arith}
+use Rattle.std.proofs.Common.{◌≡◌, List, length, count_by, ◌∙◌, ap, arith}
 use Rattle.std.proofs.lemmas.List.Sums.{count_by-le-length}
 use Rattle.cfglint.specs.Shown.{spanskind_of}
 use Rattle.cfglint.specs.Reported.{Reported, finding_lines, finding_message, reported_by}

@@ -46,8 +46,7 @@ returns-in_default c =
     let law : UsesByRules g = c.usable_productions_hold_sentences.ensures (core g) in
     let within = inside g h view p c.start_prod-start.result.0 c.start_prod-start.ensures.value c.start_prod-start.ensures.within c.requires in
     let symbols = map (sym_of (λ (s : ℕ). s)) c.prod.result.now in
-    not_unusable g law p within c.prod_to_rule.result.0 symbols
-    (production_seen g h view p k same c.prod_to_rule.result.0 (λ production. production.rule) c.prod_to_rule.ensures.value)
+    not_unusable g law p within symbols
     (production_seen g h view p k same symbols (λ production. production.symbols) c.prod.ensures.value)
     c.in_default.ensures.first
 
@@ -69,9 +68,9 @@ returns c =
     let name = c.rule_name_str-name.result.now in
     let span = c.prod_span-span.result in
     let text : string_bytes c.in_ok-text.text ≡ codes "Unusable production: rule '" ++ (name ++ codes "' has no sentence") = c.in_ok-text.ensures.ok in (
-      is_unusable g law p within rule symbols owner held c.requires c.if-misses.ensures q c.in-Some.ensures.first,
+      is_unusable g law p within symbols held rule owner c.requires c.if-misses.ensures q c.in-Some.ensures.first,
       q,
-      first_read g law p within rule symbols owner held q c.in-Some.ensures.first,
+      first_read g law p within symbols held q c.in-Some.ensures.first,
       c.in_ok-at.ensures ∙ ap (shown_at UnusableProduction span) text
           ∙ unusable_reported g q name span
           (rule_seen g h view q q refl name (λ rule. rule.name) c.rule_name_str-name.ensures) p
