@@ -1,5 +1,5 @@
 -- The text of a value has no LF, and a line of an object without floats is one that reads back.
-use Rattle.std.proofs.Common.{◌≡◌, ◌≤◌, ℕ, zero, suc, ◌/◌, ◌%◌, ◌==◌, Bool, true, false, cond, nat_eq, nat_lt, List, [], ◌∷◌, ◌++◌, length, Some, IfOk, Result, Ok, Err, String, string_bytes, map, pos, negsuc, decimal, OnOk, is_ok, if◌then◌else◌, codes, append_assoc, refl, sym, ap, subst, ◌∙◌, ⊎_elim, arith}
+use Rattle.std.proofs.Common.{◌≡◌, ◌≤◌, ℕ, zero, suc, ◌/◌, ◌%◌, ◌==◌, Bool, true, false, cond, nat_eq, nat_lt, List, [], ◌∷◌, ◌++◌, Some, IfOk, Result, Ok, Err, String, string_bytes, map, pos, negsuc, decimal, OnOk, is_ok, if◌then◌else◌, codes, append_assoc, refl, sym, ap, subst, ◌∙◌, ⊎_elim, arith}
 use Rattle.std.specs.List.{Contains, list_any}
 use Rattle.std.specs.Char.{digit_char}
 use Rattle.std.specs.Fmt.{digits, digits_onto, digit_glyph}
