@@ -17,11 +17,13 @@ pub one_forgotten : (old now new : List (Option Found)) (rules : List ℕ) (i ru
     → new ≡ slice_set now rule None → AreForgotten old (take i rules) now → AreForgotten old (take (i + 1) rules) new
 one_forgotten old now new rules i rule lt at within is before r f h = elim (get_or-set now rule r None None) [
   | inl same ↦
-      let b = before r f (sym same ∙ here) in
-      (b.0, λ c. elim ((contains_taken rules i rule lt at r).0 c) [
-        | inl earlier ↦ b.1 earlier
-        | inr this ↦ some_is_none f (sym (get_or-set_same now rule None None within) ∙ ap (noted (slice_set now rule None)) (sym this) ∙ here)
-      ])
+      let b = before r f (sym same ∙ here) in (
+        b.0,
+        λ c. elim ((contains_taken rules i rule lt at r).0 c) [
+          | inl earlier ↦ b.1 earlier
+          | inr this ↦ some_is_none f (sym (get_or-set_same now rule None None within) ∙ ap (noted (slice_set now rule None)) (sym this) ∙ here)
+        ],
+      )
   | inr put ↦ absurd (some_is_none f (sym put.1 ∙ here))
 ]
   where

@@ -258,9 +258,11 @@ module _ (steps : List (List Step)) (known : List Known) (path : List ℕ) (grou
 
         pub less_after : left_to_search steps entered_known more_groups (pending ++ added) ≤ left_to_search steps known groups pending
         less_after =
-            let fewer : count_by is_new entered_known + 1 ≡ count_by is_new known = omega (arith,
-                sum_by-set (λ (k : Known). cond (is_new k) 1 0) known e.to (Open (length path)) New (subst (λ n. e.to < n) (sym s.entries) within),
-                ap (λ (k : Known). cond {A = ℕ} (is_new k) 1 0) new) in
+            let fewer : count_by is_new entered_known + 1 ≡ count_by is_new known = omega (
+              arith,
+              sum_by-set (λ (k : Known). cond (is_new k) 1 0) known e.to (Open (length path)) New (subst (λ n. e.to < n) (sym s.entries) within),
+              ap (λ (k : Known). cond {A = ℕ} (is_new k) 1 0) new,
+            ) in
             let all = sum_by length steps in
             let product : (all + 2) * (count_by is_new entered_known + 1) ≡ (all + 2) * count_by is_new known = ap (λ n. (all + 2) * n) fewer in
             let few = get_or-le-sum_by length steps e.to [] within in
