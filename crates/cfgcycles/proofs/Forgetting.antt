@@ -1,6 +1,5 @@
 -- Rules are forgotten one by one, until none is recorded as found.
-use Rattle.std.proofs.Common.{◌≡◌, ℕ, suc, ◌+◌, ◌<◌, inl, inr, List, [], ◌∷◌, Option, Some, None, Contains, get_or, length, replicate, slice_set, take, arith, refl, sym, ap, ◌∙◌, subst, get_or-set_same}
-use Rattle.std.proofs.lemmas.List.{length-replicate}
+use Rattle.std.proofs.Common.{◌≡◌, ℕ, suc, ◌+◌, ◌<◌, inl, inr, List, [], ◌∷◌, Option, Some, None, Contains, get_or, length, replicate, slice_set, take, refl, sym, ap, ◌∙◌, get_or-set_same}
 use Rattle.lemmas.proofs.Elements.{get_or-set}
 use Rattle.lemmas.proofs.Taken.{contains_taken}
 use Rattle.cfgcycles.specs.declared.shortest.Found.{Found}

@@ -1,5 +1,5 @@
 -- A search for components: each of its steps keeps true what is known.
-use Rattle.std.proofs.Common.{◌≡◌, ℕ, suc, ◌+◌, ◌*◌, ◌<◌, ◌≤◌, ◌⊎◌, ◌↔◌, inl, inr, Bool, true, false, cond, ltb, List, [], ◌∷◌, ◌++◌, Some, Contains, get_or, length, map, replicate, slice_get, slice_index, slice_set, sum_by, take, arith, refl, sym, ap, ◌∙◌, subst, get_or-set_same, get_or-set_other, length-append, length-set}
+use Rattle.std.proofs.Common.{◌≡◌, ℕ, suc, ◌+◌, ◌*◌, ◌<◌, ◌≤◌, ◌⊎◌, ◌↔◌, inl, inr, true, false, cond, ltb, List, [], ◌∷◌, ◌++◌, Some, Contains, get_or, length, map, replicate, slice_get, slice_index, slice_set, sum_by, take, arith, refl, sym, ap, ◌∙◌, subst, get_or-set_same, get_or-set_other, length-append, length-set}
 use Rattle.std.specs.List.{count_by}
 use Rattle.std.proofs.lemmas.Bool.{cases_lt, le-ltb, lt-ltb}
 use Rattle.std.proofs.lemmas.List.{get_or_append_left, get_or_past, get_or_push, get_or-map, get_or-take, length-map, length-replicate, length-take-le, length_push}

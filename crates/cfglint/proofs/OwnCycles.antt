@@ -192,11 +192,13 @@ module _ (law : (g : Grammar) (a b : ℕ) → LeadsTo (IsStep g) a b ↔ Derives
     pub own_cycle : (r : ℕ) → slice_get own 0 ≡ Some r → (path : List Step) × IsCycle (IsStep (core g)) r path
     own_cycle r head =
         let h = (common r (head_in r head)).1 in
-        let some = h.back.some in
-        (h.back.path ++ h.there.path, record {
-          some = omega (arith, some, length-append h.back.path h.there.path);
-          leads = through r h.back.path first h.there.path r h.back.leads h.there.leads;
-        })
+        let some = h.back.some in (
+          h.back.path ++ h.there.path,
+          record {
+            some = omega (arith, some, length-append h.back.path h.there.path);
+            leads = through r h.back.path first h.there.path r h.back.leads h.there.leads;
+          },
+        )
       where
         through : (a : ℕ) (path : List Step) (b : ℕ) (more : List Step) (c : ℕ) → Leads (IsStep (core g)) a path b → Leads (IsStep (core g)) b more c
             → Leads (IsStep (core g)) a (path ++ more) c

@@ -1,4 +1,4 @@
-use Rattle.std.proofs.Common.{◌<◌, ◌≡◌, ℕ, None, [], get_or, length, slice_index, replicate, arith, sym, ap, ◌∙◌, subst}
+use Rattle.std.proofs.Common.{◌<◌, ℕ, None, length, slice_index, replicate, arith, sym, ap, ◌∙◌, subst}
 use Rattle.std.proofs.lemmas.List.{length_push}
 use Rattle.cfgcycles.specs.CyclicGroups.{IsGroupOf}
 use Rattle.cfgcycles.specs.StepLists.{HasStep}
