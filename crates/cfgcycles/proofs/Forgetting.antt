@@ -1,6 +1,5 @@
 -- Rules are forgotten one by one, until none is recorded as found.
-use Rattle.std.proofs.Common.{◌≡◌, ℕ, suc, ◌+◌, ◌<◌, inl, inr, List, [], ◌∷◌, Option, Some, None, Contains, get_or, length, replicate, slice_set, take, arith, refl, sym, ap, ◌∙◌, subst, get_or-set_same}
-use Rattle.std.proofs.lemmas.List.{length-replicate}
+use Rattle.std.proofs.Common.{◌≡◌, ℕ, suc, ◌+◌, ◌<◌, inl, inr, List, [], ◌∷◌, Option, Some, None, Contains, get_or, length, replicate, slice_set, take, refl, sym, ap, ◌∙◌, get_or-set_same}
 use Rattle.lemmas.proofs.Elements.{get_or-set}
 use Rattle.lemmas.proofs.Taken.{contains_taken}
 use Rattle.cfgcycles.specs.declared.shortest.Found.{Found}
@@ -17,11 +16,13 @@ pub one_forgotten : (old now new : List (Option Found)) (rules : List ℕ) (i ru
     → new ≡ slice_set now rule None → AreForgotten old (take i rules) now → AreForgotten old (take (i + 1) rules) new
 one_forgotten old now new rules i rule lt at within is before r f h = elim (get_or-set now rule r None None) [
   | inl same ↦
-      let b = before r f (sym same ∙ here) in
-      (b.0, λ c. elim ((contains_taken rules i rule lt at r).0 c) [
-        | inl earlier ↦ b.1 earlier
-        | inr this ↦ some_is_none f (sym (get_or-set_same now rule None None within) ∙ ap (noted (slice_set now rule None)) (sym this) ∙ here)
-      ])
+      let b = before r f (sym same ∙ here) in (
+        b.0,
+        λ c. elim ((contains_taken rules i rule lt at r).0 c) [
+          | inl earlier ↦ b.1 earlier
+          | inr this ↦ some_is_none f (sym (get_or-set_same now rule None None within) ∙ ap (noted (slice_set now rule None)) (sym this) ∙ here)
+        ],
+      )
   | inr put ↦ absurd (some_is_none f (sym put.1 ∙ here))
 ]
   where

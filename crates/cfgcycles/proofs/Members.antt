@@ -1,5 +1,5 @@
 -- The rules of components, the steps between them, and the groups of cyclic rules that these give.
-use Rattle.std.proofs.Common.{◌≡◌, ℕ, zero, suc, ◌+◌, ◌<◌, ◌≤◌, ◌↔◌, inl, inr, List, [], ◌∷◌, ◌++◌, Option, Some, None, Contains, get_or, length, replicate, slice_get, slice_index, slice_set, take, arith, refl, sym, ap, ◌∙◌, subst, get_or-set_same, get_or-set_other, length-append}
+use Rattle.std.proofs.Common.{◌≡◌, ℕ, zero, suc, ◌+◌, ◌<◌, ◌≤◌, inl, inr, List, [], ◌∷◌, ◌++◌, Option, Some, None, Contains, get_or, length, replicate, slice_get, slice_index, slice_set, take, arith, refl, sym, ap, ◌∙◌, subst, get_or-set_same, get_or-set_other, length-append}
 use Rattle.std.specs.List.Sorted.{IsStrictlyIncreasing}
 use Rattle.std.proofs.lemmas.Bool.{cases_eq, cases_lt}
 use Rattle.std.proofs.lemmas.List.{get_or_append_left, get_or_default, get_or_past, get_or_push, length_push}
@@ -10,9 +10,9 @@ use Rattle.lemmas.proofs.Elements.{get_or-replicate_default}
 use Rattle.lemmas.proofs.Taken.{contains_taken}
 use Rattle.cfgcycles.specs.declared.groups.CyclicGroup.{CyclicGroup}
 use Rattle.cfgcycles.specs.declared.step_paths.Step.{Step}
-use Rattle.cfgcycles.specs.CyclicGroups.{IsFirst, IsGroup, IsGroupOf, LeadsTo, OnCommonCycle}
+use Rattle.cfgcycles.specs.CyclicGroups.{IsGroup, IsGroupOf, LeadsTo, OnCommonCycle}
 use Rattle.cfgcycles.specs.StepLists.{AreWithin, HasStep}
-use Rattle.cfgcycles.specs.StepPaths.{IsCycle, IsShortestCycle, Leads}
+use Rattle.cfgcycles.specs.StepPaths.{Leads}
 use Rattle.cfgcycles.specs.Inner.Components.{AreComponents, Reaches}
 use Rattle.cfgcycles.specs.Inner.Members.{AreInner, AreMembers, IsGroupAmong}
 use Rattle.cfgcycles.specs.Inner.Putting.{ArePut}

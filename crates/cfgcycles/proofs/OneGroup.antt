@@ -5,7 +5,7 @@ use Rattle.std.proofs.lemmas.Option.{get_or_from_slice_get, slice_get-get_or, sl
 use Rattle.lemmas.proofs.Contained.{contains_cases, contains_first, contains_later, contains_none}
 use Rattle.cfgcycles.specs.declared.groups.CyclicGroup.{CyclicGroup}
 use Rattle.cfgcycles.specs.declared.step_paths.Step.{Step}
-use Rattle.cfgcycles.specs.CyclicGroups.{AreGroups, IsFirst, IsGroup, IsGroupOf, IsInGroup, IsInOneGroup, LeadsTo, OnCommonCycle}
+use Rattle.cfgcycles.specs.CyclicGroups.{AreGroups, IsGroup, IsGroupOf, IsInGroup, IsInOneGroup, LeadsTo, OnCommonCycle}
 use Rattle.cfgcycles.specs.StepLists.{HasStep}
 use Rattle.cfgcycles.specs.StepPaths.{Leads}
 use Rattle.cfgcycles.proofs.Members.{has_list}

@@ -1,7 +1,6 @@
 -- Groups on a path, each of which begins after those before it.
 use Rattle.std.proofs.Common.{◌≡◌, ℕ, zero, suc, ◌-◌, ◌<◌, ◌≤◌, ◌⊎◌, ◌↔◌, inl, inr, List, [], ◌∷◌, ◌++◌, Option, Some, Contains, get_or, length, slice_get, arith, refl, sym, ap, subst, ◌∙◌}
 use Rattle.std.specs.Option.{option_to_list}
-use Rattle.std.proofs.lemmas.Bool.{cases_lt}
 use Rattle.std.proofs.lemmas.List.{get_or_push, length_push}
 use Rattle.std.proofs.lemmas.List.Elements.{Contains-append_cases, Contains-append_left, Contains-push_cases}
 use Rattle.std.proofs.lemmas.Option.{get_or_from_slice_get, slice_get-get_or, slice_get_within}
@@ -112,13 +111,16 @@ module _ (index : ℕ) (old now : List Group) (d : Dropped index old now) (risin
 
   pub dropped_groups : ((last : Group) → IsLast now last → last.start ≤ index) → (g : Group) → Contains now g ↔ (Contains old g × (g.start ≤ index))
   dropped_groups end g = (
-    (λ c. (subst (λ l. Contains l g) (sym d.1) (Contains-append_left now d.0 g c), elim (last_of now) [
-      | inl none ↦ absurd (contains_none g (subst (λ l. Contains l g) none c))
-      | inr some ↦
-          let b = up_to_last now some.1.rest some.0 some.1.is dropped_rising g c in
-          let le = end some.0 some.1 in
-          omega (arith, b.0, le)
-    ])),
+    (λ c. (
+      subst (λ l. Contains l g) (sym d.1) (Contains-append_left now d.0 g c),
+      elim (last_of now) [
+        | inl none ↦ absurd (contains_none g (subst (λ l. Contains l g) none c))
+        | inr some ↦
+            let b = up_to_last now some.1.rest some.0 some.1.is dropped_rising g c in
+            let le = end some.0 some.1 in
+            omega (arith, b.0, le)
+      ],
+    )),
     (λ h. elim (Contains-append_cases now d.0 g (subst (λ l. Contains l g) d.1 h.0)) [
       | inl c ↦ c
       | inr c ↦ let past = d.2 g c in absurd (omega (arith, past, h.1))

@@ -1,5 +1,5 @@
 -- Paths of zero or more steps.
-use Rattle.std.proofs.Common.{◌≡◌, ℕ, List, [], ◌∷◌, ◌++◌, refl, sym, subst}
+use Rattle.std.proofs.Common.{ℕ, List, [], ◌∷◌, ◌++◌, refl, sym, subst}
 use Rattle.cfgcycles.specs.declared.step_paths.Step.{Step}
 use Rattle.cfgcycles.specs.StepPaths.{Leads}
 use Rattle.cfgcycles.specs.Inner.Components.{Reaches}

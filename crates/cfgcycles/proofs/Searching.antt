@@ -1,5 +1,5 @@
 -- A search for components: each of its steps keeps true what is known.
-use Rattle.std.proofs.Common.{◌≡◌, ℕ, suc, ◌+◌, ◌*◌, ◌<◌, ◌≤◌, ◌⊎◌, ◌↔◌, inl, inr, Bool, true, false, cond, ltb, List, [], ◌∷◌, ◌++◌, Some, Contains, get_or, length, map, replicate, slice_get, slice_index, slice_set, sum_by, take, arith, refl, sym, ap, ◌∙◌, subst, get_or-set_same, get_or-set_other, length-append, length-set}
+use Rattle.std.proofs.Common.{◌≡◌, ℕ, suc, ◌+◌, ◌*◌, ◌<◌, ◌≤◌, ◌⊎◌, ◌↔◌, inl, inr, true, false, cond, ltb, List, [], ◌∷◌, ◌++◌, Some, Contains, get_or, length, map, replicate, slice_get, slice_index, slice_set, sum_by, take, arith, refl, sym, ap, ◌∙◌, subst, get_or-set_same, get_or-set_other, length-append, length-set}
 use Rattle.std.specs.List.{count_by}
 use Rattle.std.proofs.lemmas.Bool.{cases_lt, le-ltb, lt-ltb}
 use Rattle.std.proofs.lemmas.List.{get_or_append_left, get_or_past, get_or_push, get_or-map, get_or-take, length-map, length-replicate, length-take-le, length_push}
@@ -258,9 +258,11 @@ module _ (steps : List (List Step)) (known : List Known) (path : List ℕ) (grou
 
         pub less_after : left_to_search steps entered_known more_groups (pending ++ added) ≤ left_to_search steps known groups pending
         less_after =
-            let fewer : count_by is_new entered_known + 1 ≡ count_by is_new known = omega (arith,
-                sum_by-set (λ (k : Known). cond (is_new k) 1 0) known e.to (Open (length path)) New (subst (λ n. e.to < n) (sym s.entries) within),
-                ap (λ (k : Known). cond {A = ℕ} (is_new k) 1 0) new) in
+            let fewer : count_by is_new entered_known + 1 ≡ count_by is_new known = omega (
+              arith,
+              sum_by-set (λ (k : Known). cond (is_new k) 1 0) known e.to (Open (length path)) New (subst (λ n. e.to < n) (sym s.entries) within),
+              ap (λ (k : Known). cond {A = ℕ} (is_new k) 1 0) new,
+            ) in
             let all = sum_by length steps in
             let product : (all + 2) * (count_by is_new entered_known + 1) ≡ (all + 2) * count_by is_new known = ap (λ n. (all + 2) * n) fewer in
             let few = get_or-le-sum_by length steps e.to [] within in

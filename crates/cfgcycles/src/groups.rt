@@ -31,10 +31,7 @@ pub struct CyclicGroup {
 /// # Errors
 ///
 /// Out of memory.
-pub fn cyclic_groups(
-    alloc: Global,
-    steps: &Steps,
-) -> Result<Vec<Option<CyclicGroup>>, AllocError>
+pub fn cyclic_groups(alloc: Global, steps: &Steps) -> Result<Vec<Option<CyclicGroup>>, AllocError>
     requires { AreWithin steps.now }
     ensures { IfOk result (λ groups. AreGroups (HasStep steps.now) (length steps.now) groups.items) }
 {

@@ -1,12 +1,13 @@
 -- Groups of cyclic rules of a grammar, and their cycles.
-use Rattle.std.proofs.Common.{◌≡◌, ℕ, ◌<◌, ◌≤◌, ◌↔◌, inl, inr, Bool, true, false, cond, leb, List, [], ◌∷◌, ◌++◌, All, Contains, Option, None, Some, get_or, length, arith, refl, sym, ap, subst, ◌∙◌, length-append}
+use Rattle.std.proofs.Common.{◌≡◌, ℕ, ◌<◌, ◌≤◌, ◌↔◌, inl, inr, Bool, true, false, cond, leb, List, [], ◌∷◌, ◌++◌, All, Contains, Option, None, Some, get_or, length, slice_get, arith, refl, sym, ap, subst, ◌∙◌, length-append}
 use Rattle.std.specs.List.{filter}
 use Rattle.std.specs.List.Sorted.{IsStrictlyIncreasing}
 use Rattle.std.proofs.lemmas.Bool.{le-leb, leb-true}
 use Rattle.std.proofs.lemmas.List.{get_or_default}
 use Rattle.std.proofs.lemmas.List.Elements.{All-cons, All-nil}
 use Rattle.std.proofs.lemmas.List.Kept.{IsStrictlyIncreasing-filter}
-use Rattle.lemmas.proofs.Contained.{contains_cases, contains_first, contains_later, contains_none}
+use Rattle.std.proofs.lemmas.Option.{get_or_from_slice_get, same_Some, slice_get_within}
+use Rattle.cfgrammar.proofs.Contained.{contains_cases, contains_first, contains_later, contains_none}
 use Rattle.cfgrammar.specs.Grammar.{Grammar, HasProduction}
 use Rattle.cfgrammar.specs.Numbered.{Numbered, core}
 use Rattle.cfgrammar.specs.UnitPaths.{DerivesRule, IsCyclic}
@@ -162,26 +163,42 @@ module _ (law : (g : Grammar) (a b : ℕ) → LeadsTo (IsStep g) a b ↔ Derives
         inside a (step ∷ next ∷ path) b some l = inside step.rule (next ∷ path) b (omega arith) l.1
 
     -- it has no rules of the file
-    pub reports_no_own : own ≡ [] → ReportsGroup g first None
-    reports_no_own none = λ r others h.
-        let w = (h.all r).0 (contains_first r others) in
-        contains_none r (subst (λ l. Contains l r) none (held r w.0 w.1))
+    pub reports_no_own : slice_get own 0 ≡ None → ReportsGroup g first None
+    reports_no_own none = λ r others h. let w = (h.all r).0 (contains_first r others) in no_first own r none (held r w.0 w.1)
+      where
+        no_first : (xs : List ℕ) (x : ℕ) → slice_get xs 0 ≡ None → Contains xs x → ⊥
+        no_first [] x e c = contains_none x c
+        no_first (y ∷ xs) x e c = let same : Some y ≡ None = e in absurd (cc)
 
     -- it has rules of the file, the first of which has this cycle
-    pub reports_own : (r : ℕ) (others : List ℕ) → own ≡ r ∷ others → (path : List Step) → IsShortestCycle (IsStep (core g)) r path → (finding : ShownFinding)
+    pub reports_own : (r : ℕ) → slice_get own 0 ≡ Some r → (path : List Step) → IsShortestCycle (IsStep (core g)) r path → (finding : ShownFinding)
         → finding ≡ cyclic_finding g r own path → ReportsGroup g first (Some finding)
-    reports_own r others at path shortest finding shown =
-        (r, others, path, subst (IsCyclicGroup g first) at own_group, shortest, shown ∙ ap (λ l. cyclic_finding g r l path) at)
+    reports_own r head path shortest finding shown = go own own_group head shown
+      where
+        go : (xs : List ℕ) → IsCyclicGroup g first xs → slice_get xs 0 ≡ Some r → finding ≡ cyclic_finding g r xs path → ReportsGroup g first (Some finding)
+        go [] is e shown = let same : None ≡ Some r = e in absurd (cc)
+        go (x ∷ xs) is e shown =
+            let same : x ≡ r = same_Some x r e in
+            (r, xs, path, subst (λ n. IsCyclicGroup g first (n ∷ xs)) same is, shortest, subst (λ n. finding ≡ cyclic_finding g r (n ∷ xs) path) same shown)
 
-    -- each of them has a cycle
-    pub own_cycle : (r : ℕ) → Contains own r → (path : List Step) × IsCycle (IsStep (core g)) r path
-    own_cycle r c =
-        let h = (common r c).1 in
-        let some = h.back.some in
-        (h.back.path ++ h.there.path, record {
-          some = omega (arith, some, length-append h.back.path h.there.path);
-          leads = through r h.back.path first h.there.path r h.back.leads h.there.leads;
-        })
+    -- the first of them is one of them
+    pub head_in : (r : ℕ) → slice_get own 0 ≡ Some r → Contains own r
+    head_in r head = (0, slice_get_within own 0 r head, get_or_from_slice_get own 0 r r head)
+
+    pub head_within : (r : ℕ) → slice_get own 0 ≡ Some r → r < length g.rules
+    head_within r head = subst (λ n. n < length g.rules) (get_or_from_slice_get own 0 r r head) (own_within 0 r (slice_get_within own 0 r head))
+
+    -- so it has a cycle
+    pub own_cycle : (r : ℕ) → slice_get own 0 ≡ Some r → (path : List Step) × IsCycle (IsStep (core g)) r path
+    own_cycle r head =
+        let h = (common r (head_in r head)).1 in
+        let some = h.back.some in (
+          h.back.path ++ h.there.path,
+          record {
+            some = omega (arith, some, length-append h.back.path h.there.path);
+            leads = through r h.back.path first h.there.path r h.back.leads h.there.leads;
+          },
+        )
       where
         through : (a : ℕ) (path : List Step) (b : ℕ) (more : List Step) (c : ℕ) → Leads (IsStep (core g)) a path b → Leads (IsStep (core g)) b more c
             → Leads (IsStep (core g)) a (path ++ more) c

@@ -110,13 +110,7 @@ fn group_finding(
         return Ok(None);
     };
     if first == number {
-        return Ok(Some(cyclic_group(
-            alloc,
-            grammar,
-            first,
-            &rules,
-            &group.cycle,
-        )?));
+        return Ok(Some(cyclic_group(alloc, grammar, first, &rules, &group.cycle)?));
     }
     match shortest_cycle(alloc, steps, first)? {
         Some(path) => Ok(Some(cyclic_group(alloc, grammar, first, &rules, &path)?)),

@@ -1,5 +1,5 @@
 -- Components: sets of rules of which each leads to each other one, and what a search for them knows.
-use Rattle.std.specs.Prelude.{◌≡◌, ℕ, suc, ◌+◌, ◌*◌, ◌++◌, ◌<◌, ◌≤◌, ◌⊎◌, ◌↔◌, Bool, true, false, List, [], ◌∷◌, Some, Contains, cond, get_or, length, map, nat_lt, slice_get, slice_index, sum_by}
+use Rattle.std.specs.Prelude.{◌≡◌, ℕ, ◌+◌, ◌*◌, ◌++◌, ◌<◌, ◌≤◌, ◌↔◌, Bool, true, false, List, [], ◌∷◌, Some, Contains, cond, get_or, length, nat_lt, slice_get, slice_index, sum_by}
 use Rattle.std.specs.List.{count_by}
 use Rattle.cfgcycles.specs.declared.components.Group.{Group}
 use Rattle.cfgcycles.specs.declared.components.Known.{Known}

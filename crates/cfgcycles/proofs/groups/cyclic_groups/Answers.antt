@@ -1,4 +1,4 @@
-use Rattle.std.proofs.Common.{◌<◌, ◌≡◌, ℕ, None, [], get_or, length, slice_index, replicate, arith, sym, ap, ◌∙◌, subst}
+use Rattle.std.proofs.Common.{◌<◌, ℕ, None, length, slice_index, replicate, arith, sym, ap, ◌∙◌, subst}
 use Rattle.std.proofs.lemmas.List.{length_push}
 use Rattle.cfgcycles.specs.CyclicGroups.{IsGroupOf}
 use Rattle.cfgcycles.specs.StepLists.{HasStep}
@@ -33,21 +33,19 @@ group_of-requires-clause-all c =
     let roots = c.in_ok-roots.roots.items in
     let are = c.in_ok-roots.ensures in
     let lt : c.loop-rule.rule < length c.args.steps.now = omega (arith, c.loop-rule-test.true, c.len-rule-end.ensures) in
-    let list : c.of.result.now ≡ get_or c.in_ok-members.members c.index.result.now [] = cc (c.of.ensures, c.members.view_is) in
     reached_member c.args.steps.now roots c.loop-rule.layers.steps.now c.requires are c.loop-rule.invariant.inner c.loop-rule.rule lt c.of.result.now
     (members_at roots c.deref.result.now (length c.args.steps.now) c.loop-rule.rule c.index.result.now c.in_ok-members.members c.of.result.now c.deref.ensures.value are.entries
-    (subst (λ n. c.loop-rule.rule < n) (sym are.entries) lt) c.index.ensures list c.in_ok-members.ensures.members)
+    (subst (λ n. c.loop-rule.rule < n) (sym are.entries) lt) c.index.ensures c.of.ensures c.in_ok-members.ensures.members)
 
 pub group_of-requires-clause-inside : goal.group_of-requires-clause-inside
 group_of-requires-clause-inside c = λ other h.
     let roots = c.in_ok-roots.roots.items in
     let are = c.in_ok-roots.ensures in
     let lt : c.loop-rule.rule < length c.args.steps.now = omega (arith, c.loop-rule-test.true, c.len-rule-end.ensures) in
-    let list : c.of.result.now ≡ get_or c.in_ok-members.members c.index.result.now [] = cc (c.of.ensures, c.members.view_is) in
     subst (λ n. other < n) (sym c.loop-rule.invariant.lists)
     (member_within c.args.steps.now roots c.loop-rule.layers.steps.now c.requires are c.loop-rule.invariant.inner c.loop-rule.rule lt c.of.result.now
     (members_at roots c.deref.result.now (length c.args.steps.now) c.loop-rule.rule c.index.result.now c.in_ok-members.members c.of.result.now c.deref.ensures.value are.entries
-    (subst (λ n. c.loop-rule.rule < n) (sym are.entries) lt) c.index.ensures list c.in_ok-members.ensures.members) other h)
+    (subst (λ n. c.loop-rule.rule < n) (sym are.entries) lt) c.index.ensures c.of.ensures c.in_ok-members.ensures.members) other h)
 
 pub loop-rule-preserved : goal.loop-rule-preserved
 loop-rule-preserved c =
@@ -58,7 +56,6 @@ loop-rule-preserved c =
     let same = c.in_ok-group.ensures.steps in
     let long = ap length c.in_ok-push.ensures.items ∙ length_push c.loop-rule.groups.items c.in_ok-group.group in
     let lt : c.loop-rule.rule < length steps = omega (arith, c.loop-rule-test.true, c.len-rule-end.ensures) in
-    let list : c.of.result.now ≡ get_or c.in_ok-members.members c.index.result.now [] = cc (c.of.ensures, c.members.view_is) in
     record {
       lists = ap length same ∙ before.lists;
       inner = subst (AreInner steps roots) (sym same) before.inner;
@@ -68,7 +65,7 @@ loop-rule-preserved c =
           c.in_ok-push.ensures.items before.entries before.each
           (group_is steps roots c.loop-rule.layers.steps.now c.requires are before.inner c.loop-rule.rule lt c.of.result.now
           (members_at roots c.deref.result.now (length steps) c.loop-rule.rule c.index.result.now c.in_ok-members.members c.of.result.now c.deref.ensures.value are.entries
-          (subst (λ n. c.loop-rule.rule < n) (sym are.entries) lt) c.index.ensures list c.in_ok-members.ensures.members)
+          (subst (λ n. c.loop-rule.rule < n) (sym are.entries) lt) c.index.ensures c.of.ensures c.in_ok-members.ensures.members)
           c.in_ok-group.group c.in_ok-group.ensures.group);
     }
 
