@@ -99,7 +99,7 @@ module _ (g : Numbered) (only_usable : Bool) where
   pub held_unless_followed : (p : ℕ) → (IsFollowedAt g only_usable p → ⊥) → (x : SearchState) → Reaches (HeldAt g only_usable p) x x
   held_unless_followed p unfollowed x = reaches_known _ x (λ n h. absurd (unfollowed h.followed))
 
-  -- the productions of a rule have the nodes that its node leads to, and a token's node leads to none
+  -- the productions of a rule have the nodes that its node leads to
   pub edges_of_rule : (rule : ℕ) → rule < length g.rules → (positions : List ℕ) → ArePositionsOf (core g) rule positions → (old new : SearchState)
       → Reaches (FoundBy (HeldAt g only_usable) positions) old new → Reaches (IsEdge g only_usable rule) old new
   edges_of_rule rule within positions are old new w = reaches_as _ _ old new to from w
@@ -130,9 +130,6 @@ module _ (g : Numbered) (only_usable : Bool) where
               holds = record { thing = h.to; among = subst (λ (x : Production). Contains x.symbols h.to) (sym production) held; finds = h.is };
             };
           }
-
-  pub no_edges : (node : ℕ) → length g.rules ≤ node → (x : SearchState) → Reaches (IsEdge g only_usable node) x x
-  no_edges node past x = reaches_known _ x (λ n h. absurd (omega (arith, past, h.within)))
 
 -- what both searches say of a symbol's node
 module _ (g : Numbered) (by_any by_usable : SearchState) (are : AreReached g by_any by_usable) (symbol : Sym) (is : IsSymbolOf (core g) symbol)

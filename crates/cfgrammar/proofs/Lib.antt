@@ -9,6 +9,7 @@ pub use Rattle.lemmas.proofs.Zips
 pub use Rattle.cfgchoices.proofs.SentenceTokens
 pub use Rattle.cfgcosts.proofs.Joins
 pub use Rattle.cfgtree.proofs.Found
+pub use Rattle.cfgnumbers.proofs.ListedPositions
 pub use Rattle.cfgnumbers.proofs.Turns
 pub use Rattle.cfgyacc.proofs.OfItself
 pub use Rattle.cfgyacc.proofs.Shows

@@ -5,7 +5,7 @@ use Rattle.search.proofs.Each.{each_all, each_more, each_none, found_mapped}
 use Rattle.cfgrammar.specs.Numbered.{Numbered, core}
 use Rattle.cfgrammar.specs.Openings.{ArePositionsOf}
 use Rattle.cfgrammar.specs.PIdx.{PIdx}
-use Rattle.cfgnumbers.proofs.ListedPositions.{listed_positions}
+use Rattle.cfgrammar.proofs.ListedPositions.{listed_positions}
 use Rattle.cfglint.specs.Inner.Reached.{HeldAt}
 use Rattle.cfglint.proofs.Reached.{edges_of_rule}
 use Rattle.cfglint.proofs.useless.FollowedEdgesBits.reach_from.Goals as goal
