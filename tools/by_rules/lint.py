@@ -27,16 +27,17 @@ usage: cfglint [OPTION..] [--] FILE..
   --                 What follows are files.
   FILE               A path, or - for standard input.
 
-FINDING is unused-rule, unused-token, no-sentence, unusable-production, cyclic-rule, repeated-production or
-unused-precedence; of several --allow and --deny with the same one the last counts. --kind=KIND is --kind KIND, and
-so on.
+FINDING is unused-rule, unused-token, shadowed-rule, start-without-sentence, no-sentence, unusable-production,
+useless-symbol, cyclic-rule, repeated-production or unused-precedence. Without these options start-without-sentence
+is an error, and the others are warnings; of several --allow and --deny with the same one the last counts.
+--kind=KIND is --kind KIND, and so on.
 
 status: 0 without errors or denied warnings; 1 with either; 2 if the arguments are wrong, a file can't be read or
 the output can't be written; 3 if there is no memory left
 '''
 KINDS = ('original-noaction', 'original-useraction', 'original-genericparsetree', 'grmtools', 'eco', 'section')
-FINDINGS = ('unused-rule', 'unused-token', 'no-sentence', 'unusable-production', 'cyclic-rule', 'repeated-production',
-            'unused-precedence')
+FINDINGS = ('unused-rule', 'unused-token', 'shadowed-rule', 'start-without-sentence', 'no-sentence', 'unusable-production',
+            'useless-symbol', 'cyclic-rule', 'repeated-production', 'unused-precedence')
 GREATEST = 4294967295
 NO_MEMORY = object()                               # in place of the bytes of a file
 
@@ -57,7 +58,7 @@ class Wrong(Exception):
 class Options:
     def __init__(self):
         self.kind, self.denies, self.is_quiet, self.stdin_name, self.files = None, False, False, '-', []
-        self.levels = dict.fromkeys(FINDINGS, 'warning')
+        self.levels = dict.fromkeys(FINDINGS, 'warning') | {'start-without-sentence': 'error'}
 
     def set(self, option, value):
         if option == '--stdin-name':

@@ -4,7 +4,7 @@ use Rattle.std.specs.Prelude.{◌↔◌}
 use Rattle.std.specs.Str.{bytes_eq}
 use Rattle.std.proofs.lemmas.Slice.Eq.{bytes_eq-Decides}
 use Rattle.cfglint_shell.specs.declared.finding_kind.FindingKind.{FindingKind}
-use Rattle.cfglint_shell.specs.declared.finding_kind.FindingKind.TheVariants.{UnusedRule, UnusedToken, NoSentence, UnusableProduction, IsCyclic, RepeatedProduction, UnusedPrecedence}
+use Rattle.cfglint_shell.specs.declared.finding_kind.FindingKind.TheVariants.{UnusedRule, UnusedToken, ShadowedRule, StartWithoutSentence, NoSentence, UnusableProduction, UselessSymbol, IsCyclic, RepeatedProduction, UnusedPrecedence}
 use Rattle.cfglint_shell.specs.declared.levels.Level.{Level}
 use Rattle.cfglint_shell.specs.declared.levels.Levels.{Levels}
 use Rattle.cfglint_shell.specs.FindingKinds.{finding_named, level_of, with_level, word_of}
@@ -12,8 +12,11 @@ use Rattle.cfglint_shell.specs.FindingKinds.{finding_named, level_of, with_level
 pub word_names : (kind : FindingKind) → finding_named (word_of kind) ≡ Some kind
 word_names UnusedRule = refl
 word_names UnusedToken = refl
+word_names ShadowedRule = refl
+word_names StartWithoutSentence = refl
 word_names NoSentence = refl
 word_names UnusableProduction = refl
+word_names UselessSymbol = refl
 word_names IsCyclic = refl
 word_names RepeatedProduction = refl
 word_names UnusedPrecedence = refl
@@ -29,8 +32,9 @@ module _ (word : List ℕ) (kind : FindingKind) where
       go false _ is = rest is
 
   pub named_by_word : finding_named word ≡ Some kind → word ≡ word_of kind
-  named_by_word = by_test UnusedRule _ (by_test UnusedToken _ (by_test NoSentence _ (by_test UnusableProduction _
-      (by_test IsCyclic _ (by_test RepeatedProduction _ (by_test UnusedPrecedence None (λ is. let no : None ≡ Some kind = is in cc)))))))
+  named_by_word = by_test UnusedRule _ (by_test UnusedToken _ (by_test ShadowedRule _ (by_test StartWithoutSentence _ (by_test NoSentence _
+      (by_test UnusableProduction _ (by_test UselessSymbol _ (by_test IsCyclic _ (by_test RepeatedProduction _
+      (by_test UnusedPrecedence None (λ is. let no : None ≡ Some kind = is in cc))))))))))
 
 pub words_name_kinds : (word : List ℕ) (kind : FindingKind) → (finding_named word ≡ Some kind) ↔ (word ≡ word_of kind)
 words_name_kinds word kind = (named_by_word word kind, λ is. ap finding_named is ∙ word_names kind)
@@ -38,8 +42,11 @@ words_name_kinds word kind = (named_by_word word kind, λ is. ap finding_named i
 pub given_level : (levels : Levels) (kind : FindingKind) (level : Level) → level_of (with_level levels kind level) kind ≡ level
 given_level levels UnusedRule level = refl
 given_level levels UnusedToken level = refl
+given_level levels ShadowedRule level = refl
+given_level levels StartWithoutSentence level = refl
 given_level levels NoSentence level = refl
 given_level levels UnusableProduction level = refl
+given_level levels UselessSymbol level = refl
 given_level levels IsCyclic level = refl
 given_level levels RepeatedProduction level = refl
 given_level levels UnusedPrecedence level = refl
@@ -48,8 +55,11 @@ pub other_level : (levels : Levels) (kind other : FindingKind) (level : Level) �
     → level_of (with_level levels kind level) other ≡ level_of levels other
 other_level levels UnusedRule UnusedRule level differ = absurd (differ refl)
 other_level levels UnusedToken UnusedToken level differ = absurd (differ refl)
+other_level levels ShadowedRule ShadowedRule level differ = absurd (differ refl)
+other_level levels StartWithoutSentence StartWithoutSentence level differ = absurd (differ refl)
 other_level levels NoSentence NoSentence level differ = absurd (differ refl)
 other_level levels UnusableProduction UnusableProduction level differ = absurd (differ refl)
+other_level levels UselessSymbol UselessSymbol level differ = absurd (differ refl)
 other_level levels IsCyclic IsCyclic level differ = absurd (differ refl)
 other_level levels RepeatedProduction RepeatedProduction level differ = absurd (differ refl)
 other_level levels UnusedPrecedence UnusedPrecedence level differ = absurd (differ refl)

@@ -11,7 +11,7 @@ use Rattle.cfglint_shell.specs.declared.levels.Level.TheVariants as level
 use Rattle.cfglint_shell.specs.declared.linter.LintOptions.{LintOptions}
 use Rattle.cfglint_shell.specs.declared.usage.ValueOption.{ValueOption}
 use Rattle.cfglint_shell.specs.declared.usage.ValueOption.TheVariants.{Kind, Allow, Deny, StdinName}
-use Rattle.cfglint_shell.specs.FindingKinds.{finding_named, warns_all, with_level}
+use Rattle.cfglint_shell.specs.FindingKinds.{default_levels, finding_named, with_level}
 
 -- that these files are linted, in order; the name under which standard input is reported; whether warnings are denied, and whether the
 -- summary is left out
@@ -25,7 +25,7 @@ pub record Options : Type 0 where
 -- before the first argument
 abbrev pub no_options : Options
 no_options = record {
-  lint = record { kind = None; levels = warns_all };
+  lint = record { kind = None; levels = default_levels };
   stdin_name = codes "-";
   denies = false;
   is_quiet = false;
@@ -160,7 +160,7 @@ usage = codes "usage: cfglint [OPTION..] [--] FILE..\n"
 abbrev pub usage_error_text : UsageError → List ℕ
 usage_error_text (UnknownOption option) = codes "cfglint: unknown option '" ++ (option ++ codes "'\n")
 usage_error_text (UnknownKind kind) = codes "cfglint: unknown kind '" ++ (kind ++ codes "': the kinds are original-noaction, original-useraction, original-genericparsetree, grmtools, eco, section\n")
-usage_error_text (UnknownFinding finding) = codes "cfglint: unknown finding '" ++ (finding ++ codes "': the findings are unused-rule, unused-token, no-sentence, unusable-production, cyclic-rule, repeated-production, unused-precedence\n")
+usage_error_text (UnknownFinding finding) = codes "cfglint: unknown finding '" ++ (finding ++ codes "': the findings are unused-rule, unused-token, shadowed-rule, start-without-sentence, no-sentence, unusable-production, useless-symbol, cyclic-rule, repeated-production, unused-precedence\n")
 usage_error_text (MissingValue option) = codes "cfglint: option '" ++ (option_name option ++ codes "' needs a value\n")
 usage_error_text NoFile = codes "cfglint: no file is given\n"
 
@@ -168,4 +168,4 @@ abbrev pub version : List ℕ
 version = codes "cfglint 0.15.0\n"
 
 abbrev pub help : List ℕ
-help = codes "cfglint reports errors in Yacc grammar files, and warnings about their grammars.\n\nusage: cfglint [OPTION..] [--] FILE..\n\n  --kind KIND        original-noaction, original-useraction, original-genericparsetree, grmtools, eco or section\n                     (the kind that the file's section names). Without it the section names the kind; a file that\n                     names none is read as original-noaction.\n  --allow FINDING    Findings of this kind aren't reported.\n  --deny FINDING     Findings of this kind are errors.\n  --deny-warnings    Warnings end with status 1 too.\n  --quiet            Writes no summary.\n  --stdin-name NAME  Standard input is reported under this name.\n  -h, --help         Writes this.\n  --version          Writes the version.\n  --                 What follows are files.\n  FILE               A path, or - for standard input.\n\nFINDING is unused-rule, unused-token, no-sentence, unusable-production, cyclic-rule, repeated-production or\nunused-precedence; of several --allow and --deny with the same one the last counts. --kind=KIND is --kind KIND, and\nso on.\n\nstatus: 0 without errors or denied warnings; 1 with either; 2 if the arguments are wrong, a file can't be read or\nthe output can't be written; 3 if there is no memory left\n"
+help = codes "cfglint reports errors in Yacc grammar files, and warnings about their grammars.\n\nusage: cfglint [OPTION..] [--] FILE..\n\n  --kind KIND        original-noaction, original-useraction, original-genericparsetree, grmtools, eco or section\n                     (the kind that the file's section names). Without it the section names the kind; a file that\n                     names none is read as original-noaction.\n  --allow FINDING    Findings of this kind aren't reported.\n  --deny FINDING     Findings of this kind are errors.\n  --deny-warnings    Warnings end with status 1 too.\n  --quiet            Writes no summary.\n  --stdin-name NAME  Standard input is reported under this name.\n  -h, --help         Writes this.\n  --version          Writes the version.\n  --                 What follows are files.\n  FILE               A path, or - for standard input.\n\nFINDING is unused-rule, unused-token, shadowed-rule, start-without-sentence, no-sentence, unusable-production,\nuseless-symbol, cyclic-rule, repeated-production or unused-precedence. Without these options start-without-sentence\nis an error, and the others are warnings; of several --allow and --deny with the same one the last counts.\n--kind=KIND is --kind KIND, and so on.\n\nstatus: 0 without errors or denied warnings; 1 with either; 2 if the arguments are wrong, a file can't be read or\nthe output can't be written; 3 if there is no memory left\n"

@@ -101,7 +101,7 @@ impl<'a> Options<'a> {
         Options {
             lint: LintOptions {
                 kind: None,
-                levels: Levels::warn(),
+                levels: Levels::new(),
             },
             stdin_name: "-",
             denies: false,

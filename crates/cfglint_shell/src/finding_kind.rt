@@ -10,10 +10,16 @@ pub enum FindingKind {
     UnusedRule,
     /// The token isn't reachable from the start rule, and no production's `%prec` names it.
     UnusedToken,
-    /// The rule derives no list of tokens.
+    /// No production contains the rule, since its name there is that of a token.
+    ShadowedRule,
+    /// The start rule derives no list of tokens.
+    StartWithoutSentence,
+    /// The rule, which isn't the start rule, derives no list of tokens.
     NoSentence,
     /// No sentence of the production's rule uses it, since it contains an unproductive rule.
     UnusableProduction,
+    /// No sentence of the start rule uses the symbol, although productions connect it to the start rule.
+    UselessSymbol,
     /// The rule is cyclic, so each of its sentences has infinitely many parse trees.
     IsCyclic,
     /// The rule has an earlier production with the same symbols, so each sentence by one of the two has two parse
@@ -31,8 +37,11 @@ impl FindingKind {
         match self {
             FindingKind::UnusedRule => "unused-rule",
             FindingKind::UnusedToken => "unused-token",
+            FindingKind::ShadowedRule => "shadowed-rule",
+            FindingKind::StartWithoutSentence => "start-without-sentence",
             FindingKind::NoSentence => "no-sentence",
             FindingKind::UnusableProduction => "unusable-production",
+            FindingKind::UselessSymbol => "useless-symbol",
             FindingKind::IsCyclic => "cyclic-rule",
             FindingKind::RepeatedProduction => "repeated-production",
             FindingKind::UnusedPrecedence => "unused-precedence",
@@ -46,8 +55,11 @@ impl FindingKind {
         let kind = match word {
             "unused-rule" => FindingKind::UnusedRule,
             "unused-token" => FindingKind::UnusedToken,
+            "shadowed-rule" => FindingKind::ShadowedRule,
+            "start-without-sentence" => FindingKind::StartWithoutSentence,
             "no-sentence" => FindingKind::NoSentence,
             "unusable-production" => FindingKind::UnusableProduction,
+            "useless-symbol" => FindingKind::UselessSymbol,
             "cyclic-rule" => FindingKind::IsCyclic,
             "repeated-production" => FindingKind::RepeatedProduction,
             "unused-precedence" => FindingKind::UnusedPrecedence,

@@ -1,7 +1,7 @@
 //! What becomes of findings, kind by kind.
 
 ghost use Rattle.std.specs.Prelude.{◌≡◌};
-ghost use Rattle.cfglint_shell.specs.FindingKinds.{level_of, warns_all, with_level};
+ghost use Rattle.cfglint_shell.specs.FindingKinds.{default_levels, level_of, with_level};
 
 use crate::finding_kind::FindingKind;
 
@@ -21,23 +21,29 @@ pub enum Level {
 pub struct Levels {
     unused_rule: Level,
     unused_token: Level,
+    shadowed_rule: Level,
+    start_without_sentence: Level,
     no_sentence: Level,
     unusable_production: Level,
+    useless_symbol: Level,
     cyclic_rule: Level,
     repeated_production: Level,
     unused_precedence: Level,
 }
 
 impl Levels {
-    /// Every finding is a warning.
-    pub fn warn() -> Self
-        ensures { result ≡ warns_all }
+    /// A start rule without a sentence is an error, and every other finding is a warning.
+    pub fn new() -> Self
+        ensures { result ≡ default_levels }
     {
         Levels {
             unused_rule: Level::Warn,
             unused_token: Level::Warn,
+            shadowed_rule: Level::Warn,
+            start_without_sentence: Level::Deny,
             no_sentence: Level::Warn,
             unusable_production: Level::Warn,
+            useless_symbol: Level::Warn,
             cyclic_rule: Level::Warn,
             repeated_production: Level::Warn,
             unused_precedence: Level::Warn,
@@ -51,8 +57,11 @@ impl Levels {
         match kind {
             FindingKind::UnusedRule => self.unused_rule,
             FindingKind::UnusedToken => self.unused_token,
+            FindingKind::ShadowedRule => self.shadowed_rule,
+            FindingKind::StartWithoutSentence => self.start_without_sentence,
             FindingKind::NoSentence => self.no_sentence,
             FindingKind::UnusableProduction => self.unusable_production,
+            FindingKind::UselessSymbol => self.useless_symbol,
             FindingKind::IsCyclic => self.cyclic_rule,
             FindingKind::RepeatedProduction => self.repeated_production,
             FindingKind::UnusedPrecedence => self.unused_precedence,
@@ -66,8 +75,11 @@ impl Levels {
         match kind {
             FindingKind::UnusedRule => self.unused_rule = level,
             FindingKind::UnusedToken => self.unused_token = level,
+            FindingKind::ShadowedRule => self.shadowed_rule = level,
+            FindingKind::StartWithoutSentence => self.start_without_sentence = level,
             FindingKind::NoSentence => self.no_sentence = level,
             FindingKind::UnusableProduction => self.unusable_production = level,
+            FindingKind::UselessSymbol => self.useless_symbol = level,
             FindingKind::IsCyclic => self.cyclic_rule = level,
             FindingKind::RepeatedProduction => self.repeated_production = level,
             FindingKind::UnusedPrecedence => self.unused_precedence = level,

@@ -35,9 +35,10 @@ usage: cfglint [OPTION..] [--] FILE..
   --                 What follows are files.
   FILE               A path, or - for standard input.
 
-FINDING is unused-rule, unused-token, no-sentence, unusable-production, cyclic-rule, repeated-production or
-unused-precedence; of several --allow and --deny with the same one the last counts. --kind=KIND is --kind KIND, and
-so on.
+FINDING is unused-rule, unused-token, shadowed-rule, start-without-sentence, no-sentence, unusable-production,
+useless-symbol, cyclic-rule, repeated-production or unused-precedence. Without these options start-without-sentence
+is an error, and the others are warnings; of several --allow and --deny with the same one the last counts.
+--kind=KIND is --kind KIND, and so on.
 
 status: 0 without errors or denied warnings; 1 with either; 2 if the arguments are wrong, a file can't be read or
 the output can't be written; 3 if there is no memory left
@@ -126,5 +127,6 @@ const KINDS: &str =
     "original-noaction, original-useraction, original-genericparsetree, grmtools, eco, section";
 
 /// The values of `--allow` and `--deny`.
-const FINDINGS: &str = "unused-rule, unused-token, no-sentence, unusable-production, cyclic-rule, \
-    repeated-production, unused-precedence";
+const FINDINGS: &str =
+    "unused-rule, unused-token, shadowed-rule, start-without-sentence, no-sentence, \
+    unusable-production, useless-symbol, cyclic-rule, repeated-production, unused-precedence";
