@@ -1,4 +1,3 @@
-pub mod RequestedPositions
 pub mod FirstAlike
 pub mod TargetTexts
 pub mod Lacking
@@ -7,5 +6,7 @@ pub mod OwnCycles
 pub mod Read
 pub mod Rendered
 pub mod Reporting
+pub mod Shadowing
 pub mod Texts
 pub mod Unusable
+pub mod UsedRules

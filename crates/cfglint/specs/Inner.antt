@@ -1,6 +1,6 @@
 -- Definitions for clauses inside the crate. No public contract depends on them.
-pub mod Requested
+pub mod Marks
+pub mod Shadowing
 pub mod FirstProductions
 pub mod Unproductive
 pub mod CyclicRules
-pub mod Taking

@@ -116,7 +116,9 @@ impl Spanned for Finding {
 
     fn spanskind(&self) -> SpansKind {
         match self.kind {
-            FindingKind::RepeatedProduction => SpansKind::DuplicationError,
+            FindingKind::ShadowedRule | FindingKind::RepeatedProduction => {
+                SpansKind::DuplicationError
+            }
             _ => SpansKind::Error,
         }
     }

@@ -9,7 +9,7 @@ use crate::finding::Finding;
 use crate::precedences::push_precedences;
 use crate::repeats::push_repeats;
 use crate::sentences::push_sentences;
-use crate::warned::push_warnings;
+use crate::unused::push_unused;
 use cfgrammar::yacc::YaccGrammar;
 use cfgrammar::yacc::ast::GrammarAST;
 use std::alloc::{AllocError, Global};
@@ -28,8 +28,8 @@ pub fn findings(
     ensures { IfOk result (λ all. AreFindings (syntax ast.now) grammar.now all.items) }
 {
     let mut all = Vec::new(alloc);
-    push_warnings(alloc, &mut all, ast)?;
-    push_sentences(alloc, &mut all, grammar)?;
+    push_unused(alloc, &mut all, ast)?;
+    push_sentences(alloc, &mut all, ast, grammar)?;
     push_cycles(alloc, &mut all, grammar)?;
     push_repeats(alloc, &mut all, grammar)?;
     push_precedences(alloc, &mut all, ast)?;

@@ -6,15 +6,16 @@ mod cyclic_rules;
 pub mod finding;
 mod found;
 pub mod linter;
+mod marks;
+mod names;
 mod precedences;
 pub mod program;
 mod repeats;
 mod reported;
 mod reporter;
-mod requested;
 mod sentences;
 pub mod system;
-mod warned;
+mod unused;
 
 pub use cfglint_shell::laws;
 pub use cfgprogram::{Ended, Input, KindArg, ReadError, Source};
