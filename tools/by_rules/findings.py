@@ -1,9 +1,7 @@
 """The issues of a file without errors: "Findings"."""
 from .costs import Costs
 from .cycles import Cycles
-from .unused import warnings_of
-
-WARNINGS = {'UnusedRule': 'Unused rule', 'UnusedToken': 'Unused token'}
+from .unused import TEXTS, unused_of
 
 
 class Finding:
@@ -13,22 +11,34 @@ class Finding:
         self.kind, self.spans, self.text = kind, spans, text
 
     def spans_kind(self):
-        return 'DuplicationError' if self.kind in ('CyclicRule', 'RepeatedProduction') else 'Error'
+        return 'DuplicationError' if self.kind in ('ShadowedRule', 'CyclicRule', 'RepeatedProduction') else 'Error'
 
 
 def findings_of(tree, grammar, is_printed):
     """The findings of a tree and its numbered grammar. Of several shortest cycles of a rule the first that is printed is taken, and
     any if none is."""
-    found = (unused(tree) + unproductive(grammar) + useless(grammar) + cycles(grammar, is_printed) + repeats(grammar)
+    found = (unused(tree) + shadowed(tree) + unproductive(tree, grammar) + useless(grammar) + cycles(grammar, is_printed) + repeats(grammar)
              + idle(tree))
     return sorted(found, key=lambda finding: finding.spans[0][0])
 
 
 def unused(tree):
-    """The warnings, but for the tokens that a production's `%prec` names."""
-    named = {tree.tokens[p.precedence] for p in tree.productions if p.precedence in tree.tokens}
-    return [Finding(kind, [span], WARNINGS[kind]) for kind, span in warnings_of(tree)
-            if kind == 'UnusedRule' or span not in named]
+    """The warnings, but for shadowed rules, and for the tokens that a production's `%prec` names."""
+    others = {'UnusedRule': shadowing(tree), 'UnusedToken': {p.precedence for p in tree.productions}}
+    return [Finding(kind, [span], "%s '%s'" % (TEXTS[kind], n)) for kind, n, span in unused_of(tree) if n not in others[kind]]
+
+
+def shadowing(tree):
+    """For each shadowed rule, by its name, where the token first occurs."""
+    contained = {n for p in tree.productions for is_token, n, _ in p.symbols if not is_token}
+    is_used = lambda n: n in contained or n == tree.start[0] and n not in tree.declared
+    return {n: tree.tokens[n] for n in tree.rules if n in tree.tokens and not is_used(n)}
+
+
+def shadowed(tree):
+    """Rules that are never used, since a token has their name."""
+    text = "Rule '%s' is never used: its name is that of a token"
+    return [Finding('ShadowedRule', [tree.rules[n].span, span], text % n) for n, span in shadowing(tree).items()]
 
 
 def rules_of_file(grammar):
@@ -41,12 +51,19 @@ def least_costs(grammar):
     return Costs(grammar, [1] * (len(grammar.tokens) + 1)).least
 
 
-def unproductive(grammar):
+def without_sentence(tree, rule):
+    """The finding that a rule is unproductive: the start rule has one of its own."""
+    if rule.name == tree.start[0]:
+        text = "No sentence can be derived from the start rule '%s'"
+        return Finding('StartWithoutSentence', [rule.span], text % rule.name)
+    return Finding('NoSentence', [rule.span], "Rule '%s' has no sentence" % rule.name)
+
+
+def unproductive(tree, grammar):
     """Unproductive rules, and then unusable productions of productive rules."""
     least = least_costs(grammar)
     name = lambda rule: grammar.rules[rule].name
-    found = [Finding('NoSentence', [grammar.rules[rule].span], "Rule '%s' has no sentence" % name(rule))
-             for rule in rules_of_file(grammar) if least[rule] is None]
+    found = [without_sentence(tree, grammar.rules[rule]) for rule in rules_of_file(grammar) if least[rule] is None]
     for p in grammar.productions[:grammar.start_production]:
         inside = [index for what, index in p.symbols if what == 'rule' and least[index] is None]
         if inside and least[p.rule] is not None:

@@ -1,4 +1,3 @@
-pub mod RequestedPositions
 pub mod FirstAlike
 pub mod TargetTexts
 pub mod Lacking
@@ -8,5 +7,7 @@ pub mod Reached
 pub mod Read
 pub mod Rendered
 pub mod Reporting
+pub mod Shadowing
 pub mod Texts
 pub mod Unusable
+pub mod UsedRules

@@ -6,12 +6,12 @@ use Rattle.cfgrammar.specs.Check.{nowhere}
 use Rattle.cfgrammar.specs.Numbered.{Numbered, NumberedToken}
 use Rattle.cfgrammar.specs.Accessors.{production_part, rule_part, token_part}
 use Rattle.cfgrammar.proofs.Shows.{rule_named, token_named}
-use Rattle.cfglint.specs.Shown.{ShownFinding, no_sentence, production_span, quoted, rule_name, rule_span, token_name, token_span, unusable, useless_rule, useless_token}
+use Rattle.cfglint.specs.Shown.{ShownFinding, no_sentence, production_span, quoted, rule_name, rule_span, start_without_sentence, token_name, token_span, unusable, useless_rule, useless_token}
 use Rattle.cfglint_shell.specs.declared.finding_kind.FindingKind.{FindingKind}
-use Rattle.cfglint_shell.specs.declared.finding_kind.FindingKind.TheVariants.{NoSentence, UnusableProduction, UselessSymbol}
+use Rattle.cfglint_shell.specs.declared.finding_kind.FindingKind.TheVariants.{NoSentence, StartWithoutSentence, UnusableProduction, UselessSymbol}
 
 -- what comes after a name in quotes
-after_quoted : (name prefix back : List ℕ) → prefix ++ (codes "'" ++ (name ++ (codes "'" ++ back))) ≡ prefix ++ (quoted name ++ back)
+pub after_quoted : (name prefix back : List ℕ) → prefix ++ (codes "'" ++ (name ++ (codes "'" ++ back))) ≡ prefix ++ (quoted name ++ back)
 after_quoted name prefix back = ap (λ t. prefix ++ (codes "'" ++ t)) (sym (append_assoc name (codes "'") back))
 
 -- a finding at one span
@@ -28,6 +28,15 @@ module _ (g : Numbered) where
         after_quoted name (codes "Rule ") (codes " has no sentence")
         ∙ ap (λ n. codes "Rule " ++ (quoted n ++ codes " has no sentence")) (sym (rule_named g r name named)) in
         λ i. shown_at NoSentence (index i) (text i)
+
+    pub start_reported : rule_part (λ rule. rule.span) g r ≡ Some span
+        → shown_at StartWithoutSentence span (codes "No sentence can be derived from the start rule '" ++ (name ++ codes "'")) ≡ start_without_sentence g r
+    start_reported located =
+        let index : span ≡ rule_span g r = ap (λ o. unwrap_or o nowhere) (sym located) in
+        let text : codes "No sentence can be derived from the start rule '" ++ (name ++ codes "'")
+        ≡ codes "No sentence can be derived from the start rule " ++ quoted (rule_name g r) =
+        ap (λ n. codes "No sentence can be derived from the start rule " ++ quoted n) (sym (rule_named g r name named)) in
+        λ i. shown_at StartWithoutSentence (index i) (text i)
 
     pub unusable_reported : (p : ℕ) → production_part (λ production. production.span) g p ≡ Some span
         → shown_at UnusableProduction span (codes "Unusable production: rule '" ++ (name ++ codes "' has no sentence")) ≡ unusable g p r

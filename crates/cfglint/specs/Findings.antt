@@ -1,6 +1,6 @@
 -- The findings about a grammar without errors, given its syntax and its numbers. None are about rules and productions that the file doesn't
 -- have.
-use Rattle.std.specs.Prelude.{◌≡◌, ◌↔◌, ℕ, ◌+◌, ◌<◌, ◌≤◌, List, [], ◌∷◌, ◌++◌, Contains, Option, Some, None, if◌then◌else◌, is_some, length, map, slice_get}
+use Rattle.std.specs.Prelude.{◌≡◌, ◌↔◌, ◌⊎◌, ℕ, ◌+◌, ◌<◌, ◌≤◌, List, [], ◌∷◌, ◌++◌, Contains, Option, Some, None, if◌then◌else◌, is_some, length, map, slice_get}
 use Rattle.std.specs.List.Sorted.{IsPermutation, IsSortedByKey, IsStableByKey, IsStrictlyIncreasing}
 use Rattle.std.specs.Ordering.{nat_cmp}
 use Rattle.cfgrammar.specs.Grammar.{Sym, Rule, Token, HasProduction}
@@ -12,14 +12,12 @@ use Rattle.cfgrammar.specs.Uses.{IsUsable}
 use Rattle.cfgrammar.specs.Step.{Step}
 use Rattle.cfgrammar.specs.Span.{Span}
 use Rattle.cfgrammar.specs.Generator.{HasNone}
-use Rattle.cfgrammar.specs.Syntax.{Production, Syntax}
+use Rattle.cfgrammar.specs.Syntax.{Production, Rule as SyntaxRule, Syntax}
 use Rattle.cfgrammar.specs.Precedence.{Precedence}
-use Rattle.cfgrammar.specs.Unused.{AreWarnings, TokenName, entry_token, name_of}
-use Rattle.cfgrammar.specs.Warnings.{GrammarWarning}
-use Rattle.cfgrammar.specs.YaccGrammarWarningKind.TheVariants.{UnusedToken}
+use Rattle.cfgrammar.specs.Unused.{IsStart, IsUnused, RuleName, TokenName, entry_token, name_of}
 use Rattle.cfgrammar.specs.Openings.{nth_production}
 use Rattle.cfgrammar.specs.Numbered.{Numbered, core}
-use Rattle.cfglint.specs.Shown.{ShownFinding, cyclic_finding, no_sentence, offset_of, repeated, unusable, unused_precedence, useless_rule, useless_token, warned}
+use Rattle.cfglint.specs.Shown.{ShownFinding, cyclic_finding, no_sentence, offset_of, repeated, rule_name, shadowed_rule, start_without_sentence, unusable, unused_precedence, unused_rule, unused_token, useless_rule, useless_token}
 use Rattle.cfglint.specs.Useless.{IsUseless}
 
 -- The findings for the numbers below this one, in order: `Reports n (Some finding)` says that this is the finding for n, and `Reports n None`
@@ -40,10 +38,6 @@ module _ (g : Numbered) where
   pub record IsUnproductiveRule (r : ℕ) : Type 0 where
     pub ours : rules_added ≤ r
     pub none : HasNone (HasProduction (core g)) r
-
-  abbrev pub ReportsNoSentence : ℕ → Option ShownFinding → Type 0
-  ReportsNoSentence r (Some finding) = IsUnproductiveRule r × (finding ≡ no_sentence g r)
-  ReportsNoSentence r None = IsUnproductiveRule r → ⊥
 
   -- a production of the file that no sentence of its rule uses, although the rule has one
   pub record IsUnusable (p : ℕ) : Type 0 where
@@ -115,12 +109,73 @@ module _ (g : Numbered) where
   ReportsRepeated p (Some finding) = (earlier : ℕ) × IsTwin p earlier × ((other : ℕ) → IsTwin p other → earlier ≤ other) × (finding ≡ repeated g p earlier)
   ReportsRepeated p None = (earlier : ℕ) → IsTwin p earlier → ⊥
 
+-- the rule with this number has the name of the file's start rule
+abbrev pub IsStartRule : Syntax → Numbered → ℕ → Type 0
+IsStartRule s g r = IsStart s (RuleName (rule_name g r))
+
+-- unproductive rules, of which the start rule has a finding of its own
+abbrev pub ReportsNoSentence : Syntax → Numbered → ℕ → Option ShownFinding → Type 0
+ReportsNoSentence s g r (Some finding) = IsUnproductiveRule g r
+    × ((IsStartRule s g r × (finding ≡ start_without_sentence g r)) ⊎ ((IsStartRule s g r → ⊥) × (finding ≡ no_sentence g r)))
+ReportsNoSentence s g r None = IsUnproductiveRule g r → ⊥
+
 module _ (s : Syntax) where
-  -- A token with this name is used: a production contains it, or a production's `%prec` names it, or it is an implicit token. If a
-  -- production has several `%prec`s, the last one counts.
+  -- a production contains the rule with this name
+  pub record IsContained (name : List ℕ) : Type 0 where
+    pub production : Production
+    pub listed : Contains s.productions production
+    pub holds : Contains (map name_of production.symbols) (RuleName name)
+
+  -- A rule's name is that of the token that first occurs at this span, and no production contains the rule: where its name is meant to be
+  -- the rule, it is the token. The start rule is used all the same, unless a `%token` declares the token.
+  pub record IsShadowed (name : List ℕ) (span : Span) : Type 0 where
+    pub index : ℕ
+    pub token : slice_get s.tokens index ≡ Some name
+    pub there : slice_get s.spans index ≡ Some span
+    pub unused : IsContained name → ⊥
+    pub declared : IsStart s (RuleName name) → Contains s.token_directives index
+
+  -- the n-th rule is shadowed by the token that first occurs at this span
+  pub record IsShadowedRule (n : ℕ) (rule : List ℕ × SyntaxRule) (token : Span) : Type 0 where
+    pub given : slice_get s.rules n ≡ Some rule
+    pub shadowed : IsShadowed rule.0 token
+
+  abbrev pub ReportsShadowedRule : ℕ → Option ShownFinding → Type 0
+  ReportsShadowedRule n (Some finding) =
+      (rule : List ℕ × SyntaxRule) × (token : Span) × IsShadowedRule n rule token × (finding ≡ shadowed_rule rule.0 rule.1.name.span token)
+  ReportsShadowedRule n None = (rule : List ℕ × SyntaxRule) (token : Span) → IsShadowedRule n rule token → ⊥
+
+  -- the n-th rule is unused, and not shadowed
+  pub record IsUnusedRule (n : ℕ) (rule : List ℕ × SyntaxRule) : Type 0 where
+    pub given : slice_get s.rules n ≡ Some rule
+    pub unused : IsUnused s (RuleName rule.0)
+    pub own : (token : Span) → IsShadowed rule.0 token → ⊥
+
+  abbrev pub ReportsUnusedRule : ℕ → Option ShownFinding → Type 0
+  ReportsUnusedRule n (Some finding) = (rule : List ℕ × SyntaxRule) × IsUnusedRule n rule × (finding ≡ unused_rule rule.0 rule.1.name.span)
+  ReportsUnusedRule n None = (rule : List ℕ × SyntaxRule) → IsUnusedRule n rule → ⊥
+
+  -- A production's `%prec` names the token, which then exists for its precedence. If a production has several `%prec`s, the last one counts.
+  pub record IsRequested (name : List ℕ) : Type 0 where
+    pub production : Production
+    pub listed : Contains s.productions production
+    pub requested : production.precedence ≡ Some name
+
+  -- the n-th token, which first occurs at this span, is unused, and no production's `%prec` names it
+  pub record IsUnusedToken (n : ℕ) (name : List ℕ) (span : Span) : Type 0 where
+    pub token : slice_get s.tokens n ≡ Some name
+    pub there : slice_get s.spans n ≡ Some span
+    pub unused : IsUnused s (TokenName name)
+    pub free : IsRequested name → ⊥
+
+  abbrev pub ReportsUnusedToken : ℕ → Option ShownFinding → Type 0
+  ReportsUnusedToken n (Some finding) = (name : List ℕ) × (span : Span) × IsUnusedToken n name span × (finding ≡ unused_token name span)
+  ReportsUnusedToken n None = (name : List ℕ) (span : Span) → IsUnusedToken n name span → ⊥
+
+  -- A token with this name is used: a production contains it, or a production's `%prec` names it, or it is an implicit token.
   pub data TakesPart (name : List ℕ) : Type 0 where
     held : {production : Production} → Contains s.productions production → Contains (map name_of production.symbols) (TokenName name) → TakesPart name
-    requested : {production : Production} → Contains s.productions production → production.precedence ≡ Some name → TakesPart name
+    requested : IsRequested name → TakesPart name
     implicit : {table : List (List ℕ × Span)} → s.tables.implicit_tokens ≡ Some table → Contains (map entry_token table) (TokenName name) → TakesPart name
 
   -- the n-th token that is given a precedence isn't used; most often its name is misspelled
@@ -133,32 +188,11 @@ module _ (s : Syntax) where
   ReportsPrecedence n (Some finding) = (name : List ℕ) × (span : Span) × IsIdle n name span × (finding ≡ unused_precedence name span)
   ReportsPrecedence n None = (name : List ℕ) (span : Span) → IsIdle n name span → ⊥
 
-  -- a token first occurs at this span, and a production's `%prec` names it: it exists for its precedence
-  pub record IsPrecToken (span : Span) : Type 0 where
-    pub index : ℕ
-    pub name : List ℕ
-    pub token : slice_get s.tokens index ≡ Some name
-    pub there : slice_get s.spans index ≡ Some span
-    pub production : Production
-    pub listed : Contains s.productions production
-    pub requested : production.precedence ≡ Some name
-
-  -- an unused token that a production's `%prec` names
-  pub record IsRequestedFor (warning : GrammarWarning) : Type 0 where
-    pub kind : warning.kind ≡ UnusedToken
-    pub span : Span
-    pub first : slice_get warning.spans 0 ≡ Some span
-    pub token : IsPrecToken span
-
-  -- the findings for these warnings of the tree: for all except those about tokens that a production's `%prec` names
-  abbrev pub ReportsWarning : List GrammarWarning → ℕ → Option ShownFinding → Type 0
-  ReportsWarning warnings n (Some finding) = (warning : GrammarWarning) × (slice_get warnings n ≡ Some warning) × (IsRequestedFor warning → ⊥) × (finding ≡ warned warning)
-  ReportsWarning warnings n None = (warning : GrammarWarning) → slice_get warnings n ≡ Some warning → IsRequestedFor warning
-
--- the findings for warnings of the syntax, then those for rules, productions and precedences, one list after the other
+-- the findings for rules and tokens of the syntax, then those for rules, productions and precedences, one list after the other
 pub record AreReportedInTurn (s : Syntax) (g : Numbered) (reported : List ShownFinding) : Type 0 where
-  pub warnings : List GrammarWarning
-  pub unused : List ShownFinding
+  pub unused_rules : List ShownFinding
+  pub unused_tokens : List ShownFinding
+  pub shadowed : List ShownFinding
   pub without : List ShownFinding
   pub unusable_productions : List ShownFinding
   pub useless_rules : List ShownFinding
@@ -166,16 +200,18 @@ pub record AreReportedInTurn (s : Syntax) (g : Numbered) (reported : List ShownF
   pub cycles : List ShownFinding
   pub repeats : List ShownFinding
   pub precedences : List ShownFinding
-  pub are_warnings : AreWarnings s warnings
-  pub are_unused : ReportsBelow (ReportsWarning s warnings) (length warnings) unused
-  pub are_without : ReportsBelow (ReportsNoSentence g) (length g.rules) without
+  pub are_unused_rules : ReportsBelow (ReportsUnusedRule s) (length s.rules) unused_rules
+  pub are_unused_tokens : ReportsBelow (ReportsUnusedToken s) (length s.tokens) unused_tokens
+  pub are_shadowed : ReportsBelow (ReportsShadowedRule s) (length s.rules) shadowed
+  pub are_without : ReportsBelow (ReportsNoSentence s g) (length g.rules) without
   pub are_unusable_productions : ReportsBelow (ReportsUnusable g) g.start_production unusable_productions
   pub are_useless_rules : ReportsBelow (ReportsUselessRule g) (length g.rules) useless_rules
   pub are_useless_tokens : ReportsBelow (ReportsUselessToken g) (length g.tokens) useless_tokens
   pub are_cycles : ReportsBelow (ReportsGroup g) (length g.rules) cycles
   pub are_repeats : ReportsBelow (ReportsRepeated g) g.start_production repeats
   pub are_precedences : ReportsBelow (ReportsPrecedence s) (length s.tables.precedences) precedences
-  pub is : reported ≡ unused ++ (without ++ (unusable_productions ++ (useless_rules ++ (useless_tokens ++ (cycles ++ (repeats ++ precedences))))))
+  pub is : reported ≡ unused_rules ++ (unused_tokens ++ (shadowed
+      ++ (without ++ (unusable_productions ++ (useless_rules ++ (useless_tokens ++ (cycles ++ (repeats ++ precedences))))))))
 
 -- the same findings sorted by offset; those at the same offset stay in their order
 pub record AreByOffset (reported all : List ShownFinding) : Type 0 where

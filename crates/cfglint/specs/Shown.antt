@@ -8,15 +8,11 @@ use Rattle.cfgrammar.specs.Span.{Span}
 use Rattle.cfgrammar.specs.SpansKind.{SpansKind}
 use Rattle.cfgrammar.specs.SpansKind.TheVariants.{DuplicationError, Error}
 use Rattle.cfgrammar.specs.Check.{nowhere}
-use Rattle.cfgrammar.specs.WarningTexts.{warning_text}
-use Rattle.cfgrammar.specs.Warnings.{GrammarWarning}
-use Rattle.cfgrammar.specs.YaccGrammarWarningKind.{YaccGrammarWarningKind}
-use Rattle.cfgrammar.specs.YaccGrammarWarningKind.TheVariants as warnings
 use Rattle.cfgrammar.specs.Numbered.{Numbered, core}
 use Rattle.cfgrammar.specs.Accessors.{production_part, rule_part, sym_name}
 use Rattle.cfgrammar.specs.Openings.{nth_production}
 use Rattle.cfglint_shell.specs.declared.finding_kind.FindingKind.{FindingKind}
-use Rattle.cfglint_shell.specs.declared.finding_kind.FindingKind.TheVariants.{IsCyclic, NoSentence, RepeatedProduction, UnusableProduction, UnusedPrecedence, UnusedRule, UnusedToken, UselessSymbol}
+use Rattle.cfglint_shell.specs.declared.finding_kind.FindingKind.TheVariants.{IsCyclic, NoSentence, RepeatedProduction, ShadowedRule, StartWithoutSentence, UnusableProduction, UnusedPrecedence, UnusedRule, UnusedToken, UselessSymbol}
 
 -- the kind of finding, its spans and its text
 pub record ShownFinding : Type 0 where
@@ -24,8 +20,9 @@ pub record ShownFinding : Type 0 where
   pub spans : List Span
   pub text : List ℕ
 
--- what the spans mean: for cyclic rules and for a repeated production, all are shown
+-- what the spans mean: for a shadowed rule, for cyclic rules and for a repeated production, all are shown
 abbrev pub spanskind_of : FindingKind → SpansKind
+spanskind_of ShadowedRule = DuplicationError
 spanskind_of IsCyclic = DuplicationError
 spanskind_of RepeatedProduction = DuplicationError
 spanskind_of _ = Error
@@ -34,17 +31,24 @@ spanskind_of _ = Error
 abbrev pub offset_of : ShownFinding → ℕ
 offset_of finding = option_map_or (λ (span : Span). span.start) (slice_get finding.spans 0) 0
 
-abbrev pub kind_of_warning : YaccGrammarWarningKind → FindingKind
-kind_of_warning warnings.UnusedRule = UnusedRule
-kind_of_warning warnings.UnusedToken = UnusedToken
-
--- a warning, as a finding
-abbrev pub warned : GrammarWarning → ShownFinding
-warned warning = record { kind = kind_of_warning warning.kind; spans = warning.spans; text = warning_text warning.kind }
-
 -- the name in quotes
 abbrev pub quoted : List ℕ → List ℕ
 quoted name = codes "'" ++ (name ++ codes "'")
+
+-- that the rule, or the token, with this name is unused
+abbrev pub unused_rule : List ℕ → Span → ShownFinding
+unused_rule name span = record { kind = UnusedRule; spans = span ∷ []; text = codes "Unused rule " ++ quoted name }
+
+abbrev pub unused_token : List ℕ → Span → ShownFinding
+unused_token name span = record { kind = UnusedToken; spans = span ∷ []; text = codes "Unused token " ++ quoted name }
+
+-- that the rule with this name is never used, since the token that first occurs at the second span has the same name
+abbrev pub shadowed_rule : List ℕ → Span → Span → ShownFinding
+shadowed_rule name span token = record {
+  kind = ShadowedRule;
+  spans = span ∷ (token ∷ []);
+  text = codes "Rule " ++ (quoted name ++ codes " is never used: its name is that of a token");
+}
 
 module _ (g : Numbered) where
   abbrev pub rule_name : ℕ → List ℕ
@@ -61,6 +65,14 @@ module _ (g : Numbered) where
 
   abbrev pub production_span : ℕ → Span
   production_span p = unwrap_or (production_part (λ production. production.span) g p) nowhere
+
+  -- that the rule, which is the start rule, has no sentence
+  abbrev pub start_without_sentence : ℕ → ShownFinding
+  start_without_sentence r = record {
+    kind = StartWithoutSentence;
+    spans = rule_span r ∷ [];
+    text = codes "No sentence can be derived from the start rule " ++ quoted (rule_name r);
+  }
 
   -- that the rule has no sentence
   abbrev pub no_sentence : ℕ → ShownFinding

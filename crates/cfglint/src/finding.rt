@@ -116,7 +116,9 @@ impl Spanned for Finding {
 
     fn spanskind(&self) -> SpansKind {
         match self.kind {
-            FindingKind::IsCyclic | FindingKind::RepeatedProduction => {
+            FindingKind::ShadowedRule
+            | FindingKind::IsCyclic
+            | FindingKind::RepeatedProduction => {
                 SpansKind::DuplicationError
             }
             _ => SpansKind::Error,

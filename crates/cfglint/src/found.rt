@@ -9,8 +9,8 @@ use crate::finding::Finding;
 use crate::precedences::push_precedences;
 use crate::repeats::push_repeats;
 use crate::sentences::{Unproductive, push_sentences};
+use crate::unused::push_unused;
 use crate::useless::push_useless;
-use crate::warned::push_warnings;
 use cfgrammar::yacc::YaccGrammar;
 use cfgrammar::yacc::ast::GrammarAST;
 use std::alloc::{AllocError, Global};
@@ -29,9 +29,9 @@ pub fn findings(
     ensures { IfOk result (λ all. AreFindings (syntax ast.now) grammar.now all.items) }
 {
     let mut all = Vec::new(alloc);
-    push_warnings(alloc, &mut all, ast)?;
+    push_unused(alloc, &mut all, ast)?;
     let unproductive = Unproductive::new(alloc, grammar)?;
-    push_sentences(alloc, &mut all, &unproductive)?;
+    push_sentences(alloc, &mut all, ast, &unproductive)?;
     push_useless(alloc, &mut all, &unproductive)?;
     push_cycles(alloc, &mut all, grammar)?;
     push_repeats(alloc, &mut all, grammar)?;

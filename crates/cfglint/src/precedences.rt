@@ -5,8 +5,8 @@ ghost use Rattle.std.specs.List.{flat_map};
 ghost use Rattle.cfgrammar.specs.Syntax.{entry_name};
 ghost use Rattle.cfgrammar.specs.SyntaxView.{production_view, span_entry, symbol_view};
 ghost use Rattle.cfgrammar.specs.TreeView.{syntax};
-ghost use Rattle.cfglint.specs.Findings.{ReportsBelow, ReportsPrecedence};
-ghost use Rattle.cfglint.specs.Inner.Taking.{AreMarked, Marks, production_names, symbol_names};
+ghost use Rattle.cfglint.specs.Findings.{ReportsBelow, ReportsPrecedence, TakesPart};
+ghost use Rattle.cfglint.specs.Inner.Marks.{AreMarked, Marks, precedence_keys, production_names, token_names};
 ghost use Rattle.cfglint.specs.Shown.{unused_precedence};
 
 use crate::finding::{Finding, FindingKind};
@@ -45,12 +45,12 @@ struct Idle<'a> {
 impl Reporter for Idle<'_> {
     ghost use Rattle.std.specs.Prelude.{length};
     ghost use Rattle.cfgrammar.specs.TreeView.{syntax};
-    ghost use Rattle.cfglint.specs.Findings.{ReportsPrecedence};
-    ghost use Rattle.cfglint.specs.Inner.Taking.{AreMarked};
+    ghost use Rattle.cfglint.specs.Findings.{ReportsPrecedence, TakesPart};
+    ghost use Rattle.cfglint.specs.Inner.Marks.{AreMarked, precedence_keys};
 
     ghost count = { λ x. length (syntax x.ast.now).tables.precedences };
 
-    ghost reports = { λ x n reported. AreMarked (syntax x.ast.now) x.taking
+    ghost reports = { λ x n reported. AreMarked (precedence_keys (syntax x.ast.now)) (TakesPart (syntax x.ast.now)) x.taking
         → ReportsPrecedence (syntax x.ast.now) n reported };
 
     fn report(&self, alloc: Global, number: usize) -> Result<Option<Finding>, AllocError> {
@@ -77,7 +77,7 @@ fn unused_precedence(alloc: Global, name: &str, span: Span) -> Result<Finding, A
 
 /// For each token that is given a precedence, in order, whether it is used.
 fn taking_part(alloc: Global, ast: &GrammarAST) -> Result<Vob, AllocError>
-    ensures { IfOk result (AreMarked (syntax ast.now)) }
+    ensures { IfOk result (AreMarked (precedence_keys (syntax ast.now)) (TakesPart (syntax ast.now))) }
 {
     let mut taking = Vob::from_elem(alloc, false, ast.precs().len())?;
     mark_productions(ast, &mut taking, ast.prods());
@@ -90,7 +90,7 @@ fn taking_part(alloc: Global, ast: &GrammarAST) -> Result<Vob, AllocError>
 /// Marks what productions contain and what their `%prec` names.
 fn mark_productions(ast: &GrammarAST, taking: &mut Vob, productions: &[Production])
     requires { length taking.old ≡ length (syntax ast.now).tables.precedences }
-    ensures { Marks (syntax ast.now) (flat_map production_names (map production_view productions.now))
+    ensures { Marks (precedence_keys (syntax ast.now)) (flat_map production_names (map production_view productions.now))
         taking.old taking.new }
 {
     for production in productions {
@@ -101,7 +101,7 @@ fn mark_productions(ast: &GrammarAST, taking: &mut Vob, productions: &[Productio
 /// Marks what a production contains and what its `%prec` names.
 fn mark_production(ast: &GrammarAST, taking: &mut Vob, production: &Production)
     requires { length taking.old ≡ length (syntax ast.now).tables.precedences }
-    ensures { Marks (syntax ast.now) (production_names (production_view production.now)) taking.old taking.new }
+    ensures { Marks (precedence_keys (syntax ast.now)) (production_names (production_view production.now)) taking.old taking.new }
 {
     mark_symbols(ast, taking, &production.symbols);
     if let Some(name) = &production.precedence {
@@ -112,7 +112,7 @@ fn mark_production(ast: &GrammarAST, taking: &mut Vob, production: &Production)
 /// Marks the tokens among symbols.
 fn mark_symbols(ast: &GrammarAST, taking: &mut Vob, symbols: &[Symbol])
     requires { length taking.old ≡ length (syntax ast.now).tables.precedences }
-    ensures { Marks (syntax ast.now) (flat_map symbol_names (map symbol_view symbols.now)) taking.old taking.new }
+    ensures { Marks (precedence_keys (syntax ast.now)) (flat_map token_names (map symbol_view symbols.now)) taking.old taking.new }
 {
     for symbol in symbols {
         mark_symbol(ast, taking, symbol);
@@ -122,7 +122,7 @@ fn mark_symbols(ast: &GrammarAST, taking: &mut Vob, symbols: &[Symbol])
 /// Marks a token; does nothing for a rule.
 fn mark_symbol(ast: &GrammarAST, taking: &mut Vob, symbol: &Symbol)
     requires { length taking.old ≡ length (syntax ast.now).tables.precedences }
-    ensures { Marks (syntax ast.now) (symbol_names (symbol_view symbol.now)) taking.old taking.new }
+    ensures { Marks (precedence_keys (syntax ast.now)) (token_names (symbol_view symbol.now)) taking.old taking.new }
 {
     if let Symbol::Token(name, _) = symbol {
         mark(ast, taking, name);
@@ -132,7 +132,7 @@ fn mark_symbol(ast: &GrammarAST, taking: &mut Vob, symbol: &Symbol)
 /// Marks the tokens of a table.
 fn mark_table(ast: &GrammarAST, taking: &mut Vob, table: &IndexMap<String, Span>)
     requires { length taking.old ≡ length (syntax ast.now).tables.precedences }
-    ensures { Marks (syntax ast.now) (map entry_name (map span_entry table.now.entries)) taking.old taking.new }
+    ensures { Marks (precedence_keys (syntax ast.now)) (map entry_name (map span_entry table.now.entries)) taking.old taking.new }
 {
     for index in 0..table.len() {
         if let Some((name, _)) = table.get_index(index) {
@@ -144,7 +144,7 @@ fn mark_table(ast: &GrammarAST, taking: &mut Vob, table: &IndexMap<String, Span>
 /// Marks the token with this name, if it is given a precedence.
 fn mark(ast: &GrammarAST, taking: &mut Vob, name: &str)
     requires { length taking.old ≡ length (syntax ast.now).tables.precedences }
-    ensures { Marks (syntax ast.now) (name.now ∷ []) taking.old taking.new }
+    ensures { Marks (precedence_keys (syntax ast.now)) (name.now ∷ []) taking.old taking.new }
 {
     if let Some(index) = ast.precs().get_index_of(name) {
         taking.set(index, true);

@@ -6,6 +6,7 @@ ghost use Rattle.cfgrammar.specs.Grammar.{Rule};
 ghost use Rattle.cfgrammar.specs.Numbered.{core};
 ghost use Rattle.cfgrammar.specs.Accessors.{IsSymbolWithin};
 ghost use Rattle.cfgrammar.specs.NumberedSymbols.{sym_of};
+ghost use Rattle.cfgrammar.specs.TreeView.{syntax};
 ghost use Rattle.cfglint.specs.Findings.{IsFirstWithout, ReportsBelow, ReportsNoSentence, ReportsUnusable};
 ghost use Rattle.cfglint.specs.Inner.Reached.{IsFollowedAt};
 ghost use Rattle.cfglint.specs.Inner.Unproductive.{AreUnproductive, UnproductiveOrNot};
@@ -13,10 +14,12 @@ ghost use Rattle.cfglint.specs.Shown.{ShownFinding};
 
 use crate::added::rules_added;
 use crate::finding::{Finding, FindingKind};
+use crate::names::is_start;
 use crate::reporter::{Reporter, push_reported};
 use cfgrammar::laws::usable_productions_hold_sentences;
 use cfgrammar::storage::to_storage;
 use cfgrammar::yacc::YaccGrammar;
+use cfgrammar::yacc::ast::GrammarAST;
 use cfgrammar::yacc::sentences::{CostError, SentenceGenerator};
 use cfgrammar::{PIdx, RIdx, Symbol};
 use std::alloc::{AllocError, Global};
@@ -26,10 +29,11 @@ use std::marker::Model;
 pub(crate) fn push_sentences(
     alloc: Global,
     all: &mut Vec<Finding>,
+    ast: &GrammarAST,
     unproductive: &Unproductive<'_>,
 ) -> Result<(), AllocError>
     ensures { OnOk result ((without unusable : List ShownFinding)
-        × ReportsBelow (ReportsNoSentence unproductive.now) (length unproductive.now.rules) without
+        × ReportsBelow (ReportsNoSentence (syntax ast.now) unproductive.now) (length unproductive.now.rules) without
         × ReportsBelow (ReportsUnusable unproductive.now) unproductive.now.start_production unusable
         × (all.new.items ≡ all.old.items ++ (without ++ unusable))) }
 {
@@ -37,7 +41,10 @@ pub(crate) fn push_sentences(
     push_reported(
         alloc,
         all,
-        &Rules(unproductive),
+        &Rules {
+            ast,
+            misses: unproductive,
+        },
         usize::from(grammar.rules_len()),
     )?;
     push_reported(
@@ -128,10 +135,15 @@ impl<'a> Unproductive<'a> {
         None
     }
 
-    /// The finding that a rule is unproductive, if it is one of the file.
-    fn report_rule(&self, alloc: Global, number: usize) -> Result<Option<Finding>, AllocError>
+    /// The finding that a rule is unproductive, if it is one of the file, whose tree is `ast`.
+    fn report_rule(
+        &self,
+        alloc: Global,
+        ast: &GrammarAST,
+        number: usize,
+    ) -> Result<Option<Finding>, AllocError>
         requires { number < length self.now.rules }
-        ensures { IfOk result (ReportsNoSentence self.now number) }
+        ensures { IfOk result (ReportsNoSentence (syntax ast.now) self.now number) }
     {
         let grammar = self.grammar;
         grammar.invariant_holds();
@@ -140,8 +152,15 @@ impl<'a> Unproductive<'a> {
             return Ok(None);
         }
         let name = grammar.rule_name_str(rule);
-        let text = format!(in alloc; "Rule '{name}' has no sentence")?;
         let span = grammar.rule_name_span(rule);
+        if is_start(ast, name) {
+            let text = format!(in alloc;
+                "No sentence can be derived from the start rule '{name}'"
+            )?;
+            let kind = FindingKind::StartWithoutSentence;
+            return Ok(Some(Finding::at(alloc, kind, span, text)?));
+        }
+        let text = format!(in alloc; "Rule '{name}' has no sentence")?;
         Ok(Some(Finding::at(alloc, FindingKind::NoSentence, span, text)?))
     }
 
@@ -210,18 +229,22 @@ fn has_none(
 
 /// Reports the unproductive rules of a grammar.
 #[derive(Drop)]
-struct Rules<'a>(&'a Unproductive<'a>);
+struct Rules<'a> {
+    ast: &'a GrammarAST,
+    misses: &'a Unproductive<'a>,
+}
 
 impl<'a> Reporter for Rules<'a> {
     ghost use Rattle.std.specs.Prelude.{length};
+    ghost use Rattle.cfgrammar.specs.TreeView.{syntax};
     ghost use Rattle.cfglint.specs.Findings.{ReportsNoSentence};
 
-    ghost count = { λ x. length x.0.now.rules };
+    ghost count = { λ x. length x.misses.now.rules };
 
-    ghost reports = { λ x. ReportsNoSentence x.0.now };
+    ghost reports = { λ x. ReportsNoSentence (syntax x.ast.now) x.misses.now };
 
     fn report(&self, alloc: Global, number: usize) -> Result<Option<Finding>, AllocError> {
-        self.0.report_rule(alloc, number)
+        self.misses.report_rule(alloc, self.ast, number)
     }
 }
 

@@ -1,4 +1,4 @@
-use Rattle.std.proofs.Common.{◌≡◌, ◌<◌, List, [], ◌∷◌, ℕ, map, ap, sym, subst, ◌∙◌, position, bytes_eq, Some, length, arith}
+use Rattle.std.proofs.Common.{◌≡◌, ◌<◌, refl, List, [], ◌∷◌, ℕ, map, ap, sym, subst, ◌∙◌, position, bytes_eq, Some, length, arith}
 use Rattle.std.specs.List.{IsDistinct}
 use Rattle.std.proofs.lemmas.List.{length-map}
 use Rattle.cfgrammar.specs.Span.{Span}
@@ -6,8 +6,8 @@ use Rattle.cfgrammar.specs.Precedence.{Precedence}
 use Rattle.cfgrammar.specs.Syntax.{entry_name}
 use Rattle.cfgrammar.specs.SyntaxView.{precedence_entry}
 use Rattle.cfgrammar.specs.TreeView.{syntax}
-use Rattle.cfglint.specs.Inner.Taking.{Marks}
-use Rattle.cfglint.proofs.Marking.{marks_nothing, marks_one, precedence_position, precedences_differ}
+use Rattle.cfglint.specs.Inner.Marks.{Marks, precedence_keys}
+use Rattle.cfglint.proofs.Marking.{entries_differ, entry_position, marks_nothing, marks_one}
 use Rattle.cfglint.proofs.precedences.mark.Goals as goal
 
 pub returns-in-Some : goal.returns-in-Some
@@ -16,11 +16,11 @@ returns-in-Some c =
     let name = c.args.name.now in
     let entries = c.precs.result.now.entries in
     let Entries = List (List ℕ × (Precedence × Span)) in
-    let distinct : IsDistinct bytes_eq (map entry_name s.tables.precedences) = subst (λ (es : Entries). IsDistinct bytes_eq (map entry_name es)) c.precs.ensures (precedences_differ entries c.in-Some.ensures.unique) in
+    let distinct : IsDistinct bytes_eq (map entry_name s.tables.precedences) = subst (λ (es : Entries). IsDistinct bytes_eq (map entry_name es)) c.precs.ensures (entries_differ precedence_entry (λ e. refl) entries c.in-Some.ensures.unique) in
     let found : position (bytes_eq name) (map entry_name s.tables.precedences) ≡ Some c.in-Some.index =
-    ap (λ (es : Entries). position (bytes_eq name) (map entry_name es)) (sym c.precs.ensures) ∙ precedence_position name entries ∙ sym c.in-Some.ensures.index in
+    ap (λ (es : Entries). position (bytes_eq name) (map entry_name es)) (sym c.precs.ensures) ∙ entry_position precedence_entry (λ e. refl) name entries ∙ sym c.in-Some.ensures.index in
     let within : c.in-Some.index < length c.args.taking.now = omega (arith, c.requires, c.in-Some.ensures.within, length-map entries precedence_entry, ap length c.precs.ensures) in
-    subst (Marks s (name ∷ []) c.args.taking.now) (sym c.set.ensures.bits) (marks_one s distinct name c.args.taking.now c.in-Some.index within found)
+    subst (Marks (precedence_keys s) (name ∷ []) c.args.taking.now) (sym c.set.ensures.bits) (marks_one (precedence_keys s) distinct name c.args.taking.now c.in-Some.index within found)
 
 pub returns-in_default : goal.returns-in_default
 returns-in_default c =
@@ -28,6 +28,6 @@ returns-in_default c =
     let name = c.args.name.now in
     let entries = c.precs.result.now.entries in
     let Entries = List (List ℕ × (Precedence × Span)) in
-    let distinct : IsDistinct bytes_eq (map entry_name s.tables.precedences) = subst (λ (es : Entries). IsDistinct bytes_eq (map entry_name es)) c.precs.ensures (precedences_differ entries c.in_default.ensures.unique) in
-    marks_nothing s distinct name c.args.taking.now
-    (ap (λ (es : Entries). position (bytes_eq name) (map entry_name es)) (sym c.precs.ensures) ∙ precedence_position name entries ∙ sym c.in_default.ensures.index)
+    let distinct : IsDistinct bytes_eq (map entry_name s.tables.precedences) = subst (λ (es : Entries). IsDistinct bytes_eq (map entry_name es)) c.precs.ensures (entries_differ precedence_entry (λ e. refl) entries c.in_default.ensures.unique) in
+    marks_nothing (precedence_keys s) distinct name c.args.taking.now
+    (ap (λ (es : Entries). position (bytes_eq name) (map entry_name es)) (sym c.precs.ensures) ∙ entry_position precedence_entry (λ e. refl) name entries ∙ sym c.in_default.ensures.index)

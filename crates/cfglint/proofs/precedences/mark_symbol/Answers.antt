@@ -2,7 +2,7 @@ use Rattle.std.proofs.Common.{sym, subst}
 use Rattle.cfgrammar.specs.SyntaxView.{symbol_view}
 use Rattle.cfgrammar.specs.AstSymbol.{Symbol}
 use Rattle.cfgrammar.specs.TreeView.{syntax}
-use Rattle.cfglint.specs.Inner.Taking.{Marks, symbol_names}
+use Rattle.cfglint.specs.Inner.Marks.{Marks, precedence_keys, token_names}
 use Rattle.cfglint.proofs.Marking.{marks_none}
 use Rattle.cfglint.proofs.precedences.mark_symbol.Goals as goal
 
@@ -10,4 +10,4 @@ pub returns-in_default : goal.returns-in_default
 returns-in_default c =
     let s = syntax c.args.ast.now in
     let taking = c.args.taking.now in
-    subst (λ (symbol : Symbol). Marks s (symbol_names (symbol_view symbol)) taking taking) (sym c.in_default.is) (marks_none s taking)
+    subst (λ (symbol : Symbol). Marks (precedence_keys s) (token_names (symbol_view symbol)) taking taking) (sym c.in_default.is) (marks_none (precedence_keys s) taking)

@@ -3,7 +3,7 @@ use Rattle.std.proofs.lemmas.List.Folds.{flat_map-map}
 use Rattle.cfgrammar.specs.SyntaxView.{symbol_view}
 use Rattle.cfgrammar.specs.AstSymbol.{Symbol}
 use Rattle.cfgrammar.specs.TreeView.{syntax}
-use Rattle.cfglint.specs.Inner.Taking.{Marks, symbol_names}
+use Rattle.cfglint.specs.Inner.Marks.{Marks, precedence_keys, token_names}
 use Rattle.cfglint.proofs.Marking.{marks_all, marks_more, marks_none}
 use Rattle.cfglint.proofs.precedences.mark_symbols.Goals as goal
 
@@ -17,7 +17,7 @@ pub loop-symbol-preserved : goal.loop-symbol-preserved
 loop-symbol-preserved c =
     let symbols = c.args.symbols.now in
     let within : c.loop-symbol.symbol-index < length symbols = omega (arith, c.loop-symbol-test.true) in
-    marks_more (syntax c.args.ast.now) (λ (symbol : Symbol). symbol_names (symbol_view symbol)) symbols c.loop-symbol.symbol-index _ _ _ _ within c.symbol-item.is
+    marks_more (precedence_keys (syntax c.args.ast.now)) (λ (symbol : Symbol). token_names (symbol_view symbol)) symbols c.loop-symbol.symbol-index _ _ _ _ within c.symbol-item.is
     c.loop-symbol.invariant c.mark_symbol.ensures
 
 pub returns : goal.returns
@@ -25,5 +25,5 @@ returns c =
     let s = syntax c.args.ast.now in
     let symbols = c.args.symbols.now in
     let past : length symbols ≤ c.loop-symbol.symbol-index = omega (arith, c.loop-symbol-test.false, c.loop-symbol.auto.symbol-index-end) in
-    subst (λ names. Marks s names c.args.taking.now c.loop-symbol.taking) (sym (flat_map-map symbol_names symbol_view symbols))
-    (marks_all s (λ (symbol : Symbol). symbol_names (symbol_view symbol)) symbols _ _ _ past c.loop-symbol.invariant)
+    subst (λ names. Marks (precedence_keys s) names c.args.taking.now c.loop-symbol.taking) (sym (flat_map-map token_names symbol_view symbols))
+    (marks_all (precedence_keys s) (λ (symbol : Symbol). token_names (symbol_view symbol)) symbols _ _ _ past c.loop-symbol.invariant)

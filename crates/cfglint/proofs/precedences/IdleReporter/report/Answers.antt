@@ -6,6 +6,7 @@ use Rattle.cfgrammar.specs.Precedence.{Precedence}
 use Rattle.cfgrammar.specs.TreeView.{syntax}
 use Rattle.cfglint.specs.Findings.{TakesPart}
 use Rattle.cfglint.specs.Shown.{unused_precedence}
+use Rattle.cfglint.proofs.Marking.{key_at}
 use Rattle.cfglint.proofs.precedences.IdleReporter.report.Goals as goal
 
 pub returns-then-takes_part : goal.returns-then-takes_part
@@ -13,7 +14,7 @@ returns-then-takes_part c = λ marked name span idle.
     let s = syntax c.args.self.now.ast.now in
     let on : get_or c.args.self.now.taking c.args.number false ≡ true =
     sym (unwrap_or-slice_get c.args.self.now.taking c.args.number false) ∙ ap (λ o. unwrap_or o false) (sym c.get.ensures) ∙ sym c.unwrap_or-takes_part.ensures ∙ c.if-takes_part.true in
-    idle.idle (subst (λ b. MatchBool b (TakesPart s name) (TakesPart s name → ⊥)) on (marked c.args.number (name, (idle.precedence, span)) idle.given))
+    idle.idle (subst (λ b. MatchBool b (TakesPart s name) (TakesPart s name → ⊥)) on (marked c.args.number name (key_at s.tables.precedences c.args.number (name, (idle.precedence, span)) idle.given)))
 
 pub returns-in_ok-unused_precedence-in-Some : goal.returns-in_ok-unused_precedence-in-Some
 returns-in_ok-unused_precedence-in-Some c = λ marked.
@@ -31,7 +32,7 @@ returns-in_ok-unused_precedence-in-Some c = λ marked.
       record {
         precedence = said.0;
         given = there;
-        idle = subst (λ b. MatchBool b (TakesPart s name) (TakesPart s name → ⊥)) off (marked c.args.number (name, said) there);
+        idle = subst (λ b. MatchBool b (TakesPart s name) (TakesPart s name → ⊥)) off (marked c.args.number name (key_at s.tables.precedences c.args.number (name, said) there));
       },
       c.in_ok-unused_precedence-in-Some.ensures ∙ ap (λ name. unused_precedence name said.1) c.deref.ensures,
     )

@@ -1,11 +1,15 @@
-use Rattle.std.proofs.Common.{◌≡◌, ℕ, ◌<◌, ◌++◌, codes, length, string_bytes, refl, sym, subst, ap, ◌∙◌, arith}
+use Rattle.std.proofs.Common.{◌≡◌, ℕ, ◌<◌, ◌≤◌, ◌++◌, true, MatchBool, inl, inr, codes, length, string_bytes, refl, sym, subst, ap, ◌∙◌, arith}
 use Rattle.cfgrammar.specs.Grammar.{HasProduction}
 use Rattle.cfgrammar.specs.Generator.{HasNone}
 use Rattle.cfgrammar.specs.Numbered.{Numbered, core}
-use Rattle.cfglint.specs.Findings.{rules_added}
-use Rattle.cfglint_shell.specs.declared.finding_kind.FindingKind.TheVariants.{NoSentence}
+use Rattle.cfgrammar.specs.TreeView.{syntax}
+use Rattle.cfgrammar.specs.Unused.{IsStart, RuleName}
+use Rattle.cfgrammar.proofs.Shows.{rule_named}
+use Rattle.cfglint.specs.Findings.{IsUnproductiveRule, rules_added}
+use Rattle.cfglint.specs.Inner.Unproductive.{UnproductiveOrNot}
+use Rattle.cfglint_shell.specs.declared.finding_kind.FindingKind.TheVariants.{NoSentence, StartWithoutSentence}
 use Rattle.cfglint.proofs.Read.{rule_fits, rule_seen}
-use Rattle.cfglint.proofs.Texts.{no_sentence_reported, shown_at}
+use Rattle.cfglint.proofs.Texts.{no_sentence_reported, shown_at, start_reported}
 use Rattle.cfglint.proofs.sentences.Unproductive.report_rule.Goals as goal
 
 -- a rule of a grammar that is seen as this one
@@ -26,24 +30,48 @@ rule_name_str-name-requires c = there c.args.self.now c.self.inside.grammar.now 
 pub rule_name_span-span-requires : goal.rule_name_span-span-requires
 rule_name_span-span-requires c = there c.args.self.now c.self.inside.grammar.now c.self.view_is c.args.number c.to_storage.result c.to_storage.ensures c.requires
 
-pub returns : goal.returns
-returns c =
+-- what is known of an unproductive rule of the file
+unproductive : (g h : Numbered) → h ≡ g → (r k : ℕ) → k ≡ r → (added : ℕ) → added ≡ rules_added h → added ≤ r → UnproductiveOrNot g k true → IsUnproductiveRule g r
+unproductive g h view r k same added is enough none =
+    let known : rules_added g ≡ added = ap rules_added (sym view) ∙ sym is in
+    record { ours = omega (arith, known, enough); none = subst (HasNone (HasProduction (core g))) same none }
+
+pub returns-then-is_start : goal.returns-then-is_start
+returns-then-is_start c =
+    let s = syntax c.args.ast.now in
     let g = c.args.self.now in
     let h = c.self.inside.grammar.now in
-    let view : h ≡ g = c.self.view_is in
     let r = c.args.number in
     let k = c.to_storage.result in
-    let same : k ≡ r = c.to_storage.ensures in
     let name = c.rule_name_str-name.result.now in
     let span = c.rule_name_span-span.result in
-    let added : rules_added g ≡ c.rules_added.result = ap rules_added (sym view) ∙ sym c.rules_added.ensures in
-    let text : string_bytes c.in_ok-text.text ≡ codes "Rule '" ++ (name ++ codes "' has no sentence") = c.in_ok-text.ensures.ok in (
-      record {
-        ours = omega (arith, added, c.if-number-rules_added.false);
-        none = subst (HasNone (HasProduction (core g))) same c.if-not-misses.ensures;
-      },
-      c.in_ok-at.ensures ∙ ap (shown_at NoSentence span) text
-          ∙ no_sentence_reported g r name span
-          (rule_seen g h view r k same name (λ rule. rule.name) c.rule_name_str-name.ensures)
-          (rule_seen g h view r k same span (λ rule. rule.span) c.rule_name_span-span.ensures),
+    let named = rule_seen g h c.self.view_is r k c.to_storage.ensures name (λ rule. rule.name) c.rule_name_str-name.ensures in
+    let starts : IsStart s (RuleName name) = subst (λ b. MatchBool b (IsStart s (RuleName name)) (IsStart s (RuleName name) → ⊥)) c.if-is_start.true c.is_start.ensures in
+    let text : string_bytes c.in_ok-text.text ≡ codes "No sentence can be derived from the start rule '" ++ (name ++ codes "'") = c.in_ok-text.ensures.ok in (
+      unproductive g h c.self.view_is r k c.to_storage.ensures c.rules_added.result c.rules_added.ensures c.if-number-rules_added.false c.if-not-misses.ensures,
+      inl (
+        subst (λ n. IsStart s (RuleName n)) (sym (rule_named g r name named)) starts,
+        c.in_ok-at.ensures ∙ ap (shown_at StartWithoutSentence span) text
+            ∙ start_reported g r name span named (rule_seen g h c.self.view_is r k c.to_storage.ensures span (λ rule. rule.span) c.rule_name_span-span.ensures),
+      ),
+    )
+
+pub returns : goal.returns
+returns c =
+    let s = syntax c.args.ast.now in
+    let g = c.args.self.now in
+    let h = c.self.inside.grammar.now in
+    let r = c.args.number in
+    let k = c.to_storage.result in
+    let name = c.rule_name_str-name.result.now in
+    let span = c.rule_name_span-span.result in
+    let named = rule_seen g h c.self.view_is r k c.to_storage.ensures name (λ rule. rule.name) c.rule_name_str-name.ensures in
+    let other : IsStart s (RuleName name) → ⊥ = subst (λ b. MatchBool b (IsStart s (RuleName name)) (IsStart s (RuleName name) → ⊥)) c.if-is_start.false c.is_start.ensures in
+    let text : string_bytes c.in_ok-text-2.text ≡ codes "Rule '" ++ (name ++ codes "' has no sentence") = c.in_ok-text-2.ensures.ok in (
+      unproductive g h c.self.view_is r k c.to_storage.ensures c.rules_added.result c.rules_added.ensures c.if-number-rules_added.false c.if-not-misses.ensures,
+      inr (
+        (λ start. other (subst (λ n. IsStart s (RuleName n)) (rule_named g r name named) start)),
+        c.in_ok-at-2.ensures ∙ ap (shown_at NoSentence span) text
+            ∙ no_sentence_reported g r name span named (rule_seen g h c.self.view_is r k c.to_storage.ensures span (λ rule. rule.span) c.rule_name_span-span.ensures),
+      ),
     )
