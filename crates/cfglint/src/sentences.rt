@@ -64,7 +64,6 @@ pub(crate) struct Unproductive<'a> {
 
 impl<'a> Model for Unproductive<'a> {
     ghost use Rattle.cfgrammar.specs.Numbered.{Numbered};
-    ghost use Rattle.cfglint.specs.Inner.Reached.{IsFollowedAt};
     ghost use Rattle.cfglint.specs.Inner.Unproductive.{AreUnproductive};
 
     ghost Value = { Numbered };

@@ -55,7 +55,8 @@ pub(crate) fn push_useless(
     )
 }
 
-/// Whether no symbol is useless: if all rules are productive, or the start rule isn't. If some may be, it is productive.
+/// Whether no symbol can be useless, since all rules are productive or the start rule isn't. Otherwise the start rule
+/// is productive.
 fn has_no_useless(unproductive: &Unproductive<'_>) -> bool
     ensures { MatchBool result ((symbol : Sym) → IsUseless (core unproductive.now) symbol → ⊥)
         (UnproductiveOrNot unproductive.now 0 false) }
