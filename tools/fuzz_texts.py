@@ -37,10 +37,10 @@ class Texts:
         self.random, self.found, self.names = random, found, 'A'
 
     def make(self):
-        """The type of a row, its kind, and its text. Some texts are for cfglint, for which no kind is needed."""
+        """The type of a row, its kind, and its text. Some texts are for cfglint, with its arguments in place of the kind."""
         ty, kind, text = self.made()
         if ty == 'row' and self.random.random() < 0.25:
-            return 'lint', self.random.choice((kind, '')), text
+            return 'lint', self.random.choice((f'--kind {kind} ', '')) + self.random.choice(('--format=json ', '')) + '-', text
         return ty, kind, text
 
     def made(self):

@@ -1,6 +1,7 @@
 """The output of the program `cfglint`, and its status: "The program cfglint"."""
 import re
 
+from .as_json import line_of
 from .faults import Fault
 from .findings import findings_of
 from .grammar import Grammar
@@ -17,6 +18,7 @@ usage: cfglint [OPTION..] [--] FILE..
   --kind KIND        original-noaction, original-useraction, original-genericparsetree, grmtools, eco or section
                      (the kind that the file's section names). Without it the section names the kind; a file that
                      names none is read as original-noaction.
+  --format FORMAT    text, the default, or json: a line with a JSON object for each error and warning, and no summary.
   --allow FINDING    Findings of this kind aren't reported.
   --deny FINDING     Findings of this kind are errors.
   --deny-warnings    Warnings end with status 1 too.
@@ -37,6 +39,7 @@ the output can't be written; 3 if there is no memory left
 KINDS = ('original-noaction', 'original-useraction', 'original-genericparsetree', 'grmtools', 'eco', 'section')
 FINDINGS = ('unused-rule', 'unused-token', 'no-sentence', 'unusable-production', 'cyclic-rule', 'repeated-production',
             'unused-precedence')
+FORMATS = ('text', 'json')
 GREATEST = 4294967295
 NO_MEMORY = object()                               # in place of the bytes of a file
 
@@ -57,13 +60,15 @@ class Wrong(Exception):
 class Options:
     def __init__(self):
         self.kind, self.denies, self.is_quiet, self.stdin_name, self.files = None, False, False, '-', []
-        self.levels = dict.fromkeys(FINDINGS, 'warning')
+        self.levels, self.format = dict.fromkeys(FINDINGS, 'warning'), 'text'
 
     def set(self, option, value):
         if option == '--stdin-name':
             self.stdin_name = value
         elif option == '--kind':
             self.kind = named(value, 'kind', 'kinds', KINDS)
+        elif option == '--format':
+            self.format = named(value, 'format', 'formats', FORMATS)
         else:
             self.levels[named(value, 'finding', 'findings', FINDINGS)] = 'error' if option == '--deny' else None
 
@@ -90,7 +95,7 @@ def options_of(arguments):
             options.denies = True
         elif argument == '--quiet':
             options.is_quiet = True
-        elif option in ('--kind', '--allow', '--deny', '--stdin-name'):
+        elif option in ('--kind', '--format', '--allow', '--deny', '--stdin-name'):
             if not equals and not left:
                 raise Wrong("option '%s' needs a value" % option)
             options.set(option, value if equals else left.pop(0))
@@ -117,27 +122,32 @@ class Tally:
         self.defaults += is_default
         kind, refused = read_kind('original-noaction' if is_default else kind or 'section', t)
         if kind is None:
-            return self.add_errors(name, t, refused)
+            return self.add_errors(options, name, t, refused)
         tree, errors = errors_of(kind, t)
         if errors:
-            return self.add_errors(name, t, errors)
+            return self.add_errors(options, name, t, errors)
         grammar = Grammar(tree)
         if not grammar.fits(GREATEST):
-            return self.add_errors(name, t, [Fault('StorageTooSmall', (0, 0))])
+            return self.add_errors(options, name, t, [Fault('StorageTooSmall', (0, 0))])
         for finding in findings_of(tree, grammar, is_printed):
-            self.add_finding(name, t, finding, options.levels)
+            self.add_finding(options, name, t, finding)
 
-    def add_errors(self, name, t, errors):
+    def add_errors(self, options, name, t, errors):
         self.errors += len(errors)
         for error in errors:
-            self.add_lines(rendered(name, t, 'error: ' + error.display(), error.spans, error.spans_kind()))
+            if options.format == 'json':
+                self.add_lines([line_of(name, t, 'error', 'error', error.display(), error.spans)])
+            else:
+                self.add_lines(rendered(name, t, 'error: ' + error.display(), error.spans, error.spans_kind()))
 
-    def add_finding(self, name, t, finding, levels):
+    def add_finding(self, options, name, t, finding):
         word = re.sub('(?<=.)[A-Z]', lambda capital: '-' + capital.group(), finding.kind).lower()
-        level = levels[word]
+        level = options.levels[word]
         self.errors += level == 'error'
         self.warnings += level == 'warning'
-        if level:
+        if level and options.format == 'json':
+            self.add_lines([line_of(name, t, level, word, finding.text, finding.spans)])
+        elif level:
             text = '%s: %s [%s]' % (level, finding.text, word)
             self.add_lines(rendered(name, t, text, finding.spans, finding.spans_kind()))
 
@@ -187,7 +197,8 @@ def result(arguments, fetch, is_printed):
             tally.faults += 'cfglint: %s is not UTF-8\n' % name
         else:
             tally.add_text(options, name, t, is_printed)
-    return tally.lines + ('' if options.is_quiet else tally.summary()), tally.faults, tally.status(options.denies)
+    summary = '' if options.is_quiet or options.format == 'json' else tally.summary()
+    return tally.lines + summary, tally.faults, tally.status(options.denies)
 
 
 def is_utf8(t):

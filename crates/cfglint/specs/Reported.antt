@@ -1,5 +1,5 @@
 -- What is reported for a text: its errors, or the findings about its grammar.
-use Rattle.std.specs.Prelude.{◌≡◌, ℕ, ◌+◌, Bool, true, false, if◌then◌else◌, List, [], ◌∷◌, ◌++◌, codes, length}
+use Rattle.std.specs.Prelude.{◌≡◌, ℕ, ◌+◌, Bool, true, false, if◌then◌else◌, List, [], ◌∷◌, ◌++◌, codes, length, map}
 use Rattle.std.specs.List.{count_by, flat_map}
 use Rattle.cfgrammar.specs.YaccKind.TheVariants.{Original}
 use Rattle.cfgrammar.specs.YaccOriginalActionKind.TheVariants.{NoAction}
@@ -12,6 +12,9 @@ use Rattle.cfgrammar.specs.Numbered.{Numbered}
 use Rattle.cfgrammar.specs.Syntax.{Syntax}
 use Rattle.cfgprogram.specs.declared.kinds.KindArg.{KindArg}
 use Rattle.cfgdriver.specs.ReadText.{IsFound, IsMadeOf, IsReadAs}
+use Rattle.cfgjson.specs.Objects.{AreJsonLines, ShownDiagnostic, diagnostic_object}
+use Rattle.cfglint_shell.specs.declared.format.Format.{Format}
+use Rattle.cfglint_shell.specs.declared.format.Format.TheVariants.{Text, Json}
 use Rattle.cfglint_shell.specs.declared.levels.Level.{Level}
 use Rattle.cfglint_shell.specs.declared.levels.Level.TheVariants.{Allow, Warn, Deny}
 use Rattle.cfglint_shell.specs.declared.levels.Levels.{Levels}
@@ -51,16 +54,42 @@ abbrev pub finding_lines : List ℕ → List ℕ → List Reported → List ℕ
 finding_lines name text all =
     flat_map (λ (reported : Reported). rendered name text (finding_message reported) reported.finding.spans (spanskind_of reported.finding.kind)) all
 
--- what is reported for a text in a file with this name
-module _ (name text : List ℕ) where
+-- an error and a finding, as JSON shows them
+abbrev pub shown_error : GrammarError → ShownDiagnostic
+shown_error error = record { is_error = true; kind = codes "error"; text = error_text error.kind; spans = error.spans }
+
+abbrev pub shown_finding : Reported → ShownDiagnostic
+shown_finding reported = record {
+  is_error = reported.is_error;
+  kind = word_of reported.finding.kind;
+  text = reported.finding.text;
+  spans = reported.finding.spans;
+}
+
+-- one of the two, by the format
+abbrev pub InFormat : Format → Type 0 → Type 0 → Type 0
+InFormat Text AsText AsJson = AsText
+InFormat Json AsText AsJson = AsJson
+
+-- what is reported, in this format, for a text in a file with this name
+module _ (format : Format) (name text : List ℕ) where
+  -- the lines for errors and for findings in the format
+  abbrev pub AreErrorLines : List GrammarError → List ℕ → Type 0
+  AreErrorLines all lines = InFormat format (lines ≡ error_lines name text all)
+      (AreJsonLines (map (λ error. diagnostic_object name text (shown_error error)) all) lines)
+
+  abbrev pub AreFindingLines : List Reported → List ℕ → Type 0
+  AreFindingLines all lines = InFormat format (lines ≡ finding_lines name text all)
+      (AreJsonLines (map (λ finding. diagnostic_object name text (shown_finding finding)) all) lines)
+
   -- that it has these errors
   abbrev pub ReportsErrors : List GrammarError → Printed → Type 0
-  ReportsErrors all reported = (reported.lines ≡ error_lines name text all) × (reported.errors ≡ length all) × (reported.warnings ≡ 0)
+  ReportsErrors all reported = AreErrorLines all reported.lines × (reported.errors ≡ length all) × (reported.warnings ≡ 0)
 
   -- the findings about its grammar, given its syntax and its numbers, with these levels; those that are no errors are warnings
   abbrev pub ReportsFindings : Levels → Syntax → Numbered → Printed → Type 0
   ReportsFindings levels s g reported = (all : List ShownFinding) × AreFindings s g all
-      × (reported.lines ≡ finding_lines name text (reported_by levels all))
+      × AreFindingLines (reported_by levels all) reported.lines
       × (reported.errors ≡ count_by (λ (finding : Reported). finding.is_error) (reported_by levels all))
       × (reported.errors + reported.warnings ≡ length (reported_by levels all))
 
@@ -71,4 +100,4 @@ pub record ReportsText (options : LintOptions) (name text : List ℕ) (reported 
   pub found : Found
   pub read_as : IsReadAs (Original NoAction) text options.kind read_kind reported.is_taken
   pub is_found : IsFound read_kind text found
-  pub reports : IsMadeOf (ReportsErrors name text) (ReportsFindings name text options.levels) found reported
+  pub reports : IsMadeOf (ReportsErrors options.format name text) (ReportsFindings options.format name text options.levels) found reported

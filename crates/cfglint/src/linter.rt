@@ -1,16 +1,22 @@
 //! What is reported for a text.
 
+ghost use Rattle.std.specs.Prelude.{◌≡◌, IfOk, IfSome, map, string_bytes};
+ghost use Rattle.cfgrammar.specs.Render.{RendersEach};
+ghost use Rattle.cfgjson.specs.Objects.{AreJsonLines, diagnostic_object};
+ghost use Rattle.cfglint.specs.Reported.{InFormat};
+
 use crate::found::findings;
 use crate::reported::{error_count, reported_errors, reported_findings};
 use cfgdriver::{TextReader, read_text_or};
-use cfglint_shell::{Levels, LintOptions, Linter, Report};
-use cfgrammar::render_all;
+use cfgjson::{JsonLine, json_lines};
+use cfglint_shell::{Format, Levels, LintOptions, Linter, Report};
 use cfgrammar::yacc::ast::GrammarAST;
 use cfgrammar::yacc::{YaccGrammar, YaccGrammarError, YaccKind, YaccOriginalActionKind};
+use cfgrammar::{Spanned, render_all};
 use std::alloc::{AllocError, Global};
 
-/// Reports a text's errors, or the findings about its grammar that the options don't allow, each with its line of the
-/// text and carets. If no kind is requested, a text is read as the kind that its section names or, if it names none, as
+/// Reports a text's errors, or the findings about its grammar that the options don't allow, in the format that the
+/// options name: each with its line of the text and carets, or as a line of JSON. If no kind is requested, a text is read as the kind that its section names or, if it names none, as
 /// the kind without actions.
 #[derive(Clone, Copy, Debug)]
 pub struct Lints;
@@ -28,8 +34,11 @@ impl Linter for Lints {
         text: &str,
     ) -> Result<Report, AllocError> {
         let default = YaccKind::Original(YaccOriginalActionKind::NoAction);
-        let levels = options.levels;
-        let reporter = FileReporter { name, levels };
+        let reporter = FileReporter {
+            name,
+            levels: options.levels,
+            format: options.format,
+        };
         let (report, is_taken) = read_text_or(alloc, options.kind, default, text, &reporter)?;
         Ok(Report { is_taken, ..report })
     }
@@ -40,14 +49,15 @@ impl Linter for Lints {
 struct FileReporter<'a> {
     name: &'a str,
     levels: Levels,
+    format: Format,
 }
 
 impl TextReader<Report> for FileReporter<'_> {
     ghost use Rattle.cfglint.specs.Reported.{ReportsErrors, ReportsFindings};
 
-    ghost of_errors = { λ x. ReportsErrors x.name.now };
+    ghost of_errors = { λ x. ReportsErrors x.format x.name.now };
 
-    ghost of_grammar = { λ x text. ReportsFindings x.name.now text x.levels };
+    ghost of_grammar = { λ x text. ReportsFindings x.format x.name.now text x.levels };
 
     fn errors(
         &self,
@@ -56,7 +66,7 @@ impl TextReader<Report> for FileReporter<'_> {
         errors: &[YaccGrammarError],
     ) -> Result<Report, AllocError> {
         let reported = reported_errors(alloc, errors)?;
-        let lines = render_all(alloc, self.name, text, &reported)?;
+        let lines = lines_of(alloc, self.format, self.name, text, &reported)?;
         Ok(Report {
             lines,
             is_taken: false,
@@ -74,7 +84,7 @@ impl TextReader<Report> for FileReporter<'_> {
     ) -> Result<Report, AllocError> {
         let all = findings(alloc, ast, grammar)?;
         let reported = reported_findings(alloc, &all, &self.levels)?;
-        let lines = render_all(alloc, self.name, text, &reported)?;
+        let lines = lines_of(alloc, self.format, self.name, text, &reported)?;
         let errors = error_count(&reported);
         Ok(Report {
             lines,
@@ -82,5 +92,24 @@ impl TextReader<Report> for FileReporter<'_> {
             errors,
             warnings: reported.len() - errors,
         })
+    }
+}
+
+/// The lines for errors or findings for the text of a file of this name, in this format.
+fn lines_of<E: Spanned + JsonLine>(
+    alloc: Global,
+    format: Format,
+    name: &str,
+    text: &str,
+    all: &[E],
+) -> Result<String, AllocError>
+    ensures { IfOk result (λ lines. InFormat format
+        (RendersEach (λ one message. IfSome (E.output one) (λ printed. message ≡ printed))
+        E.spans E.spanskind name.now text.now all.now (string_bytes lines))
+        (AreJsonLines (map (λ one. diagnostic_object name.now text.now (E.shown one)) all.now) (string_bytes lines))) }
+{
+    match format {
+        Format::Text => render_all(alloc, name, text, all),
+        Format::Json => json_lines(alloc, name, text, all),
     }
 }

@@ -5,9 +5,10 @@ ghost use Rattle.std.specs.List.{count_by};
 ghost use Rattle.cfglint.specs.Reported.{reported_by};
 
 use crate::finding::Finding;
+use cfgjson::{Diagnostic, JsonLine, push_line};
 use cfglint_shell::{Level, Levels};
 use cfgrammar::yacc::YaccGrammarError;
-use cfgrammar::{Span, Spanned, SpansKind};
+use cfgrammar::{Positions, Span, Spanned, SpansKind};
 use std::alloc::{AllocError, Global};
 use std::fmt;
 use std::marker::Model;
@@ -53,6 +54,29 @@ impl Spanned for ReportedError<'_> {
     }
 }
 
+impl JsonLine for ReportedError<'_> {
+    ghost use Rattle.cfglint.specs.Reported.{shown_error};
+
+    ghost shown = { shown_error };
+
+    fn push_json(
+        &self,
+        alloc: Global,
+        out: &mut String,
+        name: &str,
+        positions: &Positions<'_>,
+    ) -> Result<(), AllocError> {
+        let text = self.error.to_string(alloc)?;
+        let shown = Diagnostic {
+            is_error: true,
+            kind: "error",
+            text: text.as_str(),
+            spans: self.error.spans(),
+        };
+        push_line(alloc, out, name, positions, &shown)
+    }
+}
+
 /// A finding, as it is reported.
 #[derive(Debug, Drop)]
 pub(crate) struct ReportedFinding<'a> {
@@ -94,6 +118,28 @@ impl Spanned for ReportedFinding<'_> {
 
     fn spanskind(&self) -> SpansKind {
         self.finding.spanskind()
+    }
+}
+
+impl JsonLine for ReportedFinding<'_> {
+    ghost use Rattle.cfglint.specs.Reported.{shown_finding};
+
+    ghost shown = { shown_finding };
+
+    fn push_json(
+        &self,
+        alloc: Global,
+        out: &mut String,
+        name: &str,
+        positions: &Positions<'_>,
+    ) -> Result<(), AllocError> {
+        let shown = Diagnostic {
+            is_error: self.is_error,
+            kind: self.finding.kind().word(),
+            text: self.finding.text(),
+            spans: self.finding.spans(),
+        };
+        push_line(alloc, out, name, positions, &shown)
     }
 }
 

@@ -1,4 +1,5 @@
 pub mod FindingKinds
+pub mod Formats
 pub mod Requests
 pub mod Tally
 pub mod Files

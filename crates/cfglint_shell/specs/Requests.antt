@@ -10,7 +10,9 @@ use Rattle.cfglint_shell.specs.declared.levels.Level.{Level}
 use Rattle.cfglint_shell.specs.declared.levels.Level.TheVariants as level
 use Rattle.cfglint_shell.specs.declared.linter.LintOptions.{LintOptions}
 use Rattle.cfglint_shell.specs.declared.usage.ValueOption.{ValueOption}
-use Rattle.cfglint_shell.specs.declared.usage.ValueOption.TheVariants.{Kind, Allow, Deny, StdinName}
+use Rattle.cfglint_shell.specs.declared.usage.ValueOption.TheVariants.{Kind, Format, Allow, Deny, StdinName}
+use Rattle.cfglint_shell.specs.declared.format.Format.TheVariants.{Text}
+use Rattle.cfglint_shell.specs.Formats.{format_named, is_text}
 use Rattle.cfglint_shell.specs.FindingKinds.{finding_named, warns_all, with_level}
 
 -- that these files are linted, in order; the name under which standard input is reported; whether warnings are denied, and whether the
@@ -25,7 +27,7 @@ pub record Options : Type 0 where
 -- before the first argument
 abbrev pub no_options : Options
 no_options = record {
-  lint = record { kind = None; levels = warns_all };
+  lint = record { kind = None; levels = warns_all; format = Text };
   stdin_name = codes "-";
   denies = false;
   is_quiet = false;
@@ -36,11 +38,16 @@ no_options = record {
 abbrev pub name_of : Options → List ℕ → List ℕ
 name_of options file = if bytes_eq file (codes "-") then options.stdin_name else file
 
--- what is wrong with arguments: there is no such option; this value of an option names no kind, or no kind of finding; an option's value is
+-- whether the summary is written: only for people
+abbrev pub has_summary : Options → Bool
+has_summary options = is_text options.lint.format && not options.is_quiet
+
+-- what is wrong with arguments: there is no such option; this value of an option names no kind, format or kind of finding; an option's value is
 -- missing; no file is given
 pub data UsageError : Type 0 where
   UnknownOption : List ℕ → UsageError
   UnknownKind : List ℕ → UsageError
+  UnknownFormat : List ℕ → UsageError
   UnknownFinding : List ℕ → UsageError
   MissingValue : ValueOption → UsageError
   NoFile : UsageError
@@ -60,6 +67,7 @@ pub data Step : Type 0 where
 abbrev pub option_named : List ℕ → Option ValueOption
 option_named name =
     if bytes_eq name (codes "--kind") then Some Kind
+    else if bytes_eq name (codes "--format") then Some Format
     else if bytes_eq name (codes "--allow") then Some Allow
     else if bytes_eq name (codes "--deny") then Some Deny
     else if bytes_eq name (codes "--stdin-name") then Some StdinName
@@ -67,6 +75,7 @@ option_named name =
 
 abbrev pub option_name : ValueOption → List ℕ
 option_name Kind = codes "--kind"
+option_name Format = codes "--format"
 option_name Allow = codes "--allow"
 option_name Deny = codes "--deny"
 option_name StdinName = codes "--stdin-name"
@@ -83,6 +92,9 @@ module _ (options : Options) where
   with_value Kind value = option_map_or
       (λ kind. Goes Argument (record options { lint = record options.lint { kind = Some kind } }))
       (kind_named value) (Stops (Wrong (UnknownKind value)))
+  with_value Format value = option_map_or
+      (λ format. Goes Argument (record options { lint = record options.lint { format = format } }))
+      (format_named value) (Stops (Wrong (UnknownFormat value)))
   with_value Allow value = with_finding level.Allow value
   with_value Deny value = with_finding level.Deny value
   with_value StdinName value = Goes Argument (record options { stdin_name = value })
@@ -160,6 +172,7 @@ usage = codes "usage: cfglint [OPTION..] [--] FILE..\n"
 abbrev pub usage_error_text : UsageError → List ℕ
 usage_error_text (UnknownOption option) = codes "cfglint: unknown option '" ++ (option ++ codes "'\n")
 usage_error_text (UnknownKind kind) = codes "cfglint: unknown kind '" ++ (kind ++ codes "': the kinds are original-noaction, original-useraction, original-genericparsetree, grmtools, eco, section\n")
+usage_error_text (UnknownFormat format) = codes "cfglint: unknown format '" ++ (format ++ codes "': the formats are text, json\n")
 usage_error_text (UnknownFinding finding) = codes "cfglint: unknown finding '" ++ (finding ++ codes "': the findings are unused-rule, unused-token, no-sentence, unusable-production, cyclic-rule, repeated-production, unused-precedence\n")
 usage_error_text (MissingValue option) = codes "cfglint: option '" ++ (option_name option ++ codes "' needs a value\n")
 usage_error_text NoFile = codes "cfglint: no file is given\n"
@@ -168,4 +181,4 @@ abbrev pub version : List ℕ
 version = codes "cfglint 0.15.0\n"
 
 abbrev pub help : List ℕ
-help = codes "cfglint reports errors in Yacc grammar files, and warnings about their grammars.\n\nusage: cfglint [OPTION..] [--] FILE..\n\n  --kind KIND        original-noaction, original-useraction, original-genericparsetree, grmtools, eco or section\n                     (the kind that the file's section names). Without it the section names the kind; a file that\n                     names none is read as original-noaction.\n  --allow FINDING    Findings of this kind aren't reported.\n  --deny FINDING     Findings of this kind are errors.\n  --deny-warnings    Warnings end with status 1 too.\n  --quiet            Writes no summary.\n  --stdin-name NAME  Standard input is reported under this name.\n  -h, --help         Writes this.\n  --version          Writes the version.\n  --                 What follows are files.\n  FILE               A path, or - for standard input.\n\nFINDING is unused-rule, unused-token, no-sentence, unusable-production, cyclic-rule, repeated-production or\nunused-precedence; of several --allow and --deny with the same one the last counts. --kind=KIND is --kind KIND, and\nso on.\n\nstatus: 0 without errors or denied warnings; 1 with either; 2 if the arguments are wrong, a file can't be read or\nthe output can't be written; 3 if there is no memory left\n"
+help = codes "cfglint reports errors in Yacc grammar files, and warnings about their grammars.\n\nusage: cfglint [OPTION..] [--] FILE..\n\n  --kind KIND        original-noaction, original-useraction, original-genericparsetree, grmtools, eco or section\n                     (the kind that the file's section names). Without it the section names the kind; a file that\n                     names none is read as original-noaction.\n  --format FORMAT    text, the default, or json: a line with a JSON object for each error and warning, and no summary.\n  --allow FINDING    Findings of this kind aren't reported.\n  --deny FINDING     Findings of this kind are errors.\n  --deny-warnings    Warnings end with status 1 too.\n  --quiet            Writes no summary.\n  --stdin-name NAME  Standard input is reported under this name.\n  -h, --help         Writes this.\n  --version          Writes the version.\n  --                 What follows are files.\n  FILE               A path, or - for standard input.\n\nFINDING is unused-rule, unused-token, no-sentence, unusable-production, cyclic-rule, repeated-production or\nunused-precedence; of several --allow and --deny with the same one the last counts. --kind=KIND is --kind KIND, and\nso on.\n\nstatus: 0 without errors or denied warnings; 1 with either; 2 if the arguments are wrong, a file can't be read or\nthe output can't be written; 3 if there is no memory left\n"

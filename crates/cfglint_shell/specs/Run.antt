@@ -8,7 +8,7 @@ use Rattle.cfgprogram.specs.declared.source.Input.{Input}
 use Rattle.cfglint_shell.specs.declared.linter.LintOptions.{LintOptions}
 use Rattle.cfglint_shell.specs.Files.{AsksFirst, Lints}
 use Rattle.cfglint_shell.specs.Tally.{Tally, Printed, no_files, status_of, summary}
-use Rattle.cfglint_shell.specs.Requests.{Options, Requested, Help, Lint, Version, Wrong, requested, files_requested, help, usage, usage_error_text, version}
+use Rattle.cfglint_shell.specs.Requests.{Options, Requested, Help, has_summary, Lint, Version, Wrong, requested, files_requested, help, usage, usage_error_text, version}
 
 -- what a run has to write to its output and to its errors, and the status that it then ends with
 pub record Answer : Type 0 where
@@ -42,7 +42,7 @@ ending_faults NoMemory = 0
 -- the result of a run through files
 abbrev pub answer_of : Options → Tally → Answer
 answer_of options tally = record {
-  output = tally.lines ++ (if options.is_quiet then [] else summary tally);
+  output = tally.lines ++ (if has_summary options then summary tally else []);
   errors = tally.faults;
   status = status_of options.denies tally;
 }

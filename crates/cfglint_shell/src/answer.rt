@@ -70,10 +70,10 @@ impl Answer {
         ensures { IfOk result (λ answer. answer ≡ answer_of (options_view options.now) tally) }
     {
         let status = tally.status(options.denies);
-        let last = if options.is_quiet {
-            String::new(alloc)
-        } else {
+        let last = if options.has_summary() {
             summary(alloc, &tally)?
+        } else {
+            String::new(alloc)
         };
         let Tally {
             lines: mut output,

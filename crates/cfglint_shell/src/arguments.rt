@@ -4,11 +4,12 @@ ghost use Rattle.std.specs.Prelude.{◌≡◌, IfOk, map};
 ghost use Rattle.std.specs.Option.{option_map_or};
 ghost use Rattle.cfglint_shell.specs.declared.usage.ValueOption.TheVariants as value_option;
 ghost use Rattle.cfglint_shell.specs.Inner.{options_view, requested_view, step_view, usage_error_view};
-ghost use Rattle.cfglint_shell.specs.Requests.{at_end, is_option, name_of, no_options, requested};
+ghost use Rattle.cfglint_shell.specs.Requests.{at_end, has_summary, is_option, name_of, no_options, requested};
 ghost use Rattle.cfglint_shell.specs.Requests.{with_argument, with_expected, with_finding, with_option, with_value};
 ghost use Rattle.cfglint_shell.specs.Requests as requests;
 
 use crate::finding_kind::FindingKind;
+use crate::format::Format;
 use crate::levels::{Level, Levels};
 use crate::linter::LintOptions;
 use crate::usage::{UsageError, ValueOption};
@@ -102,6 +103,7 @@ impl<'a> Options<'a> {
             lint: LintOptions {
                 kind: None,
                 levels: Levels::warn(),
+                format: Format::Text,
             },
             stdin_name: "-",
             denies: false,
@@ -115,6 +117,16 @@ impl<'a> Options<'a> {
         ensures { result.now ≡ name_of (options_view self.now) file.now }
     {
         if file == "-" { self.stdin_name } else { file }
+    }
+
+    /// Whether the summary is written.
+    pub(crate) fn has_summary(&self) -> bool
+        ensures { result ≡ has_summary (options_view self.now) }
+    {
+        match self.lint.format {
+            Format::Text => !self.is_quiet,
+            Format::Json => false,
+        }
     }
 
     /// What is missing at the end of the arguments, if anything is.
@@ -184,6 +196,7 @@ impl<'a> Options<'a> {
     {
         match option {
             ValueOption::Kind => self.take_kind(value),
+            ValueOption::Format => self.take_format(value),
             ValueOption::Allow => self.take_level(value, Level::Allow),
             ValueOption::Deny => self.take_level(value, Level::Deny),
             ValueOption::StdinName => {
@@ -202,6 +215,18 @@ impl<'a> Options<'a> {
             return Step::Stops(Stop::Wrong(UsageError::UnknownKind(value)));
         };
         self.lint.kind = Some(kind);
+        Step::Goes(Expected::Argument)
+    }
+
+    /// Takes the format of what is reported.
+    fn take_format(&mut self, value: &'a str) -> Step<'a>
+        ensures { step_view (options_view self.new) result
+            ≡ with_value (options_view self.old) value_option.Format value.now }
+    {
+        let Some(format) = Format::of_word(value) else {
+            return Step::Stops(Stop::Wrong(UsageError::UnknownFormat(value)));
+        };
+        self.lint.format = format;
         Step::Goes(Expected::Argument)
     }
 

@@ -5,6 +5,7 @@ mod answer;
 mod arguments;
 mod files;
 mod finding_kind;
+mod format;
 pub mod laws;
 mod levels;
 mod linter;
@@ -15,6 +16,7 @@ mod tally;
 mod usage;
 
 pub use finding_kind::FindingKind;
+pub use format::Format;
 pub use levels::{Level, Levels};
 pub use linter::{LintOptions, Linter, Report};
 pub use program::lint;

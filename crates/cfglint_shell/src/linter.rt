@@ -2,6 +2,7 @@
 
 ghost use Rattle.std.specs.Prelude.{IfOk};
 
+use crate::format::Format;
 use crate::levels::Levels;
 use cfgprogram::KindArg;
 use std::alloc::{AllocError, Global};
@@ -14,12 +15,14 @@ pub struct LintOptions {
     pub kind: Option<KindArg>,
     /// What becomes of findings.
     pub levels: Levels,
+    /// How what is reported is written.
+    pub format: Format,
 }
 
 /// What is reported about a text.
 #[derive(Debug, Drop)]
 pub struct Report {
-    /// Its errors, or the findings about its grammar, as people read them.
+    /// Its errors, or the findings about its grammar, in the format that the options name.
     pub lines: String,
     /// Whether the text names no kind, so that one was assumed.
     pub is_taken: bool,

@@ -25,6 +25,7 @@ usage: cfglint [OPTION..] [--] FILE..
   --kind KIND        original-noaction, original-useraction, original-genericparsetree, grmtools, eco or section
                      (the kind that the file's section names). Without it the section names the kind; a file that
                      names none is read as original-noaction.
+  --format FORMAT    text, the default, or json: a line with a JSON object for each error and warning, and no summary.
   --allow FINDING    Findings of this kind aren't reported.
   --deny FINDING     Findings of this kind are errors.
   --deny-warnings    Warnings end with status 1 too.
@@ -47,6 +48,7 @@ the output can't be written; 3 if there is no memory left
 #[derive(Clone, Copy, Debug, PartialEq, Eq)]
 pub(crate) enum ValueOption {
     Kind,
+    Format,
     Allow,
     Deny,
     StdinName,
@@ -59,6 +61,7 @@ impl ValueOption {
     {
         let option = match name {
             "--kind" => ValueOption::Kind,
+            "--format" => ValueOption::Format,
             "--allow" => ValueOption::Allow,
             "--deny" => ValueOption::Deny,
             "--stdin-name" => ValueOption::StdinName,
@@ -73,6 +76,7 @@ impl ValueOption {
     {
         match self {
             ValueOption::Kind => "--kind",
+            ValueOption::Format => "--format",
             ValueOption::Allow => "--allow",
             ValueOption::Deny => "--deny",
             ValueOption::StdinName => "--stdin-name",
@@ -87,6 +91,8 @@ pub(crate) enum UsageError<'a> {
     UnknownOption(&'a str),
     /// This value of `--kind` names no kind.
     UnknownKind(&'a str),
+    /// This value of `--format` names no format.
+    UnknownFormat(&'a str),
     /// This value of `--allow` or `--deny` names no kind of finding.
     UnknownFinding(&'a str),
     /// No value follows the option.
@@ -106,6 +112,11 @@ impl UsageError<'_> {
             }
             UsageError::UnknownKind(kind) => {
                 format!(in alloc; "cfglint: unknown kind '{kind}': the kinds are {KINDS}\n{USAGE}")
+            }
+            UsageError::UnknownFormat(format) => {
+                format!(in alloc;
+                    "cfglint: unknown format '{format}': the formats are text, json\n{USAGE}"
+                )
             }
             UsageError::UnknownFinding(finding) => {
                 format!(in alloc;

@@ -1,0 +1,23 @@
+"""Errors and findings as programs read them: "Errors as JSON"."""
+import json
+
+from .faults import position
+from .rendered import begins_character
+
+
+def numbers(t, offset):
+    """The line and the column of an offset, or nothing of an offset that is no character boundary of the text."""
+    if offset > len(t) or offset < len(t) and not begins_character(t[offset]):
+        return None, None
+    return position(t, offset)
+
+
+def place(t, span):
+    (line, column), (end_line, end_column) = (numbers(t, offset) for offset in span)
+    return {'line': line, 'column': column, 'end_line': end_line, 'end_column': end_column, 'start': span[0], 'end': span[1]}
+
+
+def line_of(name, t, severity, kind, text, spans):
+    """The line of an error or a finding in a text of this name: an object without spaces, sorted by the names of its members."""
+    found = {'file': name, 'severity': severity, 'kind': kind, 'text': text, 'places': [place(t, span) for span in spans]}
+    return json.dumps(found, ensure_ascii=False, separators=(',', ':'), sort_keys=True)
