@@ -39,8 +39,9 @@ begins_keyword text = option_map_or (λ rest. starts (holds bytes.Letter) rest) 
 
 -- what follows the name of a declaration that isn't read
 abbrev pub unread : List ℕ
-unread = codes " isn't read here: the declarations are %token, %start, %left, %right, %nonassoc, %epp, %expect, %expect-rr, "
-    ++ codes "%expect-unused, %avoid_insert, %parse-param and %parse-generics; %actiontype in the original kinds and %implicit_tokens in Eco"
+unread = codes " isn't read here: the declarations are %token, %start, %left, %right, %nonassoc, %epp, "
+    ++ (codes "%expect, %expect-rr, %expect-unused, %avoid_insert, %parse-param and %parse-generics; "
+    ++ codes "%actiontype in the original kinds and %implicit_tokens in Eco")
 
 -- the note where neither a declaration nor `%%` was found, at this offset
 unfoldable pub declaration_note : ℕ → List ℕ → List ℕ

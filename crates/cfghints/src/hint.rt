@@ -120,8 +120,9 @@ fn declaration_note<'a>(start: usize, text: &'a str) -> Hint<'a>
         Hint::new(
             "",
             text,
-            " isn't read here: the declarations are %token, %start, %left, %right, %nonassoc, %epp, %expect, %expect-rr, \
-             %expect-unused, %avoid_insert, %parse-param and %parse-generics; %actiontype in the original kinds and %implicit_tokens in Eco",
+            " isn't read here: the declarations are %token, %start, %left, %right, %nonassoc, %epp, \
+             %expect, %expect-rr, %expect-unused, %avoid_insert, %parse-param and %parse-generics; \
+             %actiontype in the original kinds and %implicit_tokens in Eco",
         )
     } else {
         Hint::found(text, ", expected a declaration or '%%'")

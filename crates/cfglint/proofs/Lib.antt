@@ -3,6 +3,7 @@ pub mod FirstAlike
 pub mod TargetTexts
 pub mod Lacking
 pub mod Marking
+pub mod Noted
 pub mod OwnCycles
 pub mod Read
 pub mod Rendered

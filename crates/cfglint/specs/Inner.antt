@@ -4,3 +4,4 @@ pub mod FirstProductions
 pub mod Unproductive
 pub mod CyclicRules
 pub mod Taking
+pub mod NotedErrors
