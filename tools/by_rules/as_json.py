@@ -17,7 +17,8 @@ def place(t, span):
     return {'line': line, 'column': column, 'end_line': end_line, 'end_column': end_column, 'start': span[0], 'end': span[1]}
 
 
-def line_of(name, t, severity, kind, text, spans):
+def line_of(name, t, severity, kind, text, spans, note=None):
     """The line of an error or a finding in a text of this name: an object without spaces, sorted by the names of its members."""
     found = {'file': name, 'severity': severity, 'kind': kind, 'text': text, 'places': [place(t, span) for span in spans]}
+    found.update({} if note is None else {'hint': note})
     return json.dumps(found, ensure_ascii=False, separators=(',', ':'), sort_keys=True)

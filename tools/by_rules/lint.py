@@ -2,10 +2,11 @@
 import re
 
 from .as_json import line_of
-from .faults import Fault
+from .faults import Fault, HeaderFault
 from .findings import findings_of
 from .grammar import Grammar
-from .rendered import rendered
+from .hints import hint
+from .rendered import note, rendered
 from .section import named_kind, section
 from .validation import errors_of
 
@@ -40,6 +41,7 @@ the output can't be written; 3 if there is no memory left
 KINDS = ('original-noaction', 'original-useraction', 'original-genericparsetree', 'grmtools', 'eco', 'section')
 FINDINGS = ('unused-rule', 'unused-token', 'shadowed-rule', 'start-without-sentence', 'no-sentence', 'unusable-production',
             'useless-symbol', 'cyclic-rule', 'repeated-production', 'unused-precedence')
+VALIDATION = ('NoStartRule', 'InvalidStartRule', 'UnknownRuleRef', 'UnknownToken', 'NoPrecForToken', 'UnknownEPP')
 FORMATS = ('text', 'json')
 GREATEST = 4294967295
 NO_MEMORY = object()                               # in place of the bytes of a file
@@ -135,12 +137,18 @@ class Tally:
             self.add_finding(options, name, t, finding)
 
     def add_errors(self, options, name, t, errors):
-        self.errors += len(errors)
+        is_stopped = any(map(stops_reading, errors))
         for error in errors:
-            if options.format == 'json':
-                self.add_lines([line_of(name, t, 'error', 'error', error.display(), error.spans)])
-            else:
-                self.add_lines(rendered(name, t, 'error: ' + error.display(), error.spans, error.spans_kind()))
+            if not (is_stopped and error.kind in VALIDATION):
+                self.add_error(options, name, t, error, hint(t, error))
+
+    def add_error(self, options, name, t, error, words):
+        self.errors += 1
+        if options.format == 'json':
+            self.add_lines([line_of(name, t, 'error', 'error', error.display(), error.spans, words)])
+        else:
+            self.add_lines(rendered(name, t, 'error: ' + error.display(), error.spans, error.spans_kind()))
+            self.add_lines([] if words is None else [note(name, t, words, error.spans[0][0])])
 
     def add_finding(self, options, name, t, finding):
         word = re.sub('(?<=.)[A-Z]', lambda capital: '-' + capital.group(), finding.kind).lower()
@@ -165,6 +173,11 @@ class Tally:
         if self.faults:
             return 2
         return 1 if self.errors or denies and self.warnings else 0
+
+
+def stops_reading(error):
+    repeats = error.kind.startswith('Duplicate') and not isinstance(error, HeaderFault)
+    return not repeats and error.kind not in VALIDATION and error.kind != 'StorageTooSmall'
 
 
 def read_kind(kind, t):

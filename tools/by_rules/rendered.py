@@ -28,6 +28,13 @@ def shown(name, t, message, span):
     return [head, cut + line[first:last] + is_long, under + '^' * carets]
 
 
+def note(name, t, words, offset):
+    """The line of a note at an offset of the text."""
+    if offset > len(t) or offset < len(t) and not begins_character(t[offset]):
+        return '%s: note: %s' % (name, words)
+    return '%s:%d:%d: note: %s' % (name, *position(t, offset), words)
+
+
 def rendered(name, t, message, spans, spans_kind):
     """The lines that show an error, a warning or a finding in a text of this name."""
     also = spans[1:] if spans_kind == 'DuplicationError' else []

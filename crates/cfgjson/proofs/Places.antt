@@ -1,14 +1,14 @@
 -- Where a span is, and how deep its object nests.
-use Rattle.std.proofs.Common.{◌≡◌, ◌≤◌, ℕ, Bool, true, false, if◌then◌else◌, List, [], ◌∷◌, map, refl, arith}
+use Rattle.std.proofs.Common.{◌≡◌, ◌≤◌, ℕ, Bool, true, false, if◌then◌else◌, List, [], ◌∷◌, map, refl, arith, Option, Some, None}
 use Rattle.std.proofs.lemmas.Bool.Decides.{nat_tests}
 use Rattle.std.proofs.lemmas.List.{get_or_past}
 use Rattle.std.specs.Str.{IsCharBoundary}
 use Rattle.cfgbase.specs.declared.span.Span.{Span}
 use Rattle.cfglines.specs.Lines.{line_number, column}
-use Rattle.serde_json.specs.Data.{Data, null, depth, items_depth}
+use Rattle.serde_json.specs.Data.{Data, null, depth, items_depth, Members, members_depth}
 use Rattle.serde_json.specs.View.{items_of}
-use Rattle.serde_json.specs.Written.{has_float, items_have_float}
-use Rattle.cfgjson.specs.Objects.{ShownDiagnostic, count, is_boundary, position_of, place_of, diagnostic_object}
+use Rattle.serde_json.specs.Written.{has_float, items_have_float, members_have_float}
+use Rattle.cfgjson.specs.Objects.{ShownDiagnostic, count, is_boundary, position_of, place_of, diagnostic_object, with_hint}
 
 boundary : (text : List ℕ) (b : ℕ) → IsCharBoundary text b → is_boundary text b ≡ true
 boundary text b at = let past = get_or_past text b 0 in grind (arith, nat_tests)
@@ -52,10 +52,18 @@ places_flat text (span ∷ spans) =
     let others = places_flat text spans in
     (omega (arith, one.0, others.0), rw (one.1, others.1) refl)
 
+hint_shallow : (hint : Option (List ℕ)) (members : Members) → members_depth (with_hint hint members) ≤ members_depth members
+hint_shallow None members = omega arith
+hint_shallow (Some hint) members = omega arith
+
+hint_whole : (hint : Option (List ℕ)) (members : Members) → members_have_float (with_hint hint members) ≡ members_have_float members
+hint_whole None members = refl
+hint_whole (Some hint) members = refl
+
 pub object_shallow : (name text : List ℕ) (shown : ShownDiagnostic) → depth (diagnostic_object name text shown) ≤ 127
 unfolding diagnostic_object
-object_shallow name text shown = omega (arith, (places_flat text shown.spans).0)
+object_shallow name text shown = omega (arith, (places_flat text shown.spans).0, hint_shallow shown.hint _)
 
 pub object_whole : (name text : List ℕ) (shown : ShownDiagnostic) → has_float (diagnostic_object name text shown) ≡ false
 unfolding diagnostic_object
-object_whole name text shown = rw (places_flat text shown.spans).1 refl
+object_whole name text shown = rw (hint_whole shown.hint, (places_flat text shown.spans).1) refl

@@ -1,9 +1,9 @@
 -- An error or a warning as a JSON object, with the places of its spans in the text; and lines of such objects.
-use Rattle.std.specs.Prelude.{◌≡◌, ℕ, Bool, ◌&&◌, nat_le, if◌then◌else◌, List, [], ◌∷◌, ◌++◌, codes, length, map, slice_index, Contains, Some}
+use Rattle.std.specs.Prelude.{◌≡◌, ℕ, Bool, ◌&&◌, nat_le, if◌then◌else◌, List, [], ◌∷◌, ◌++◌, codes, length, map, slice_index, Contains, Option, Some, None}
 use Rattle.cfgbase.specs.declared.span.Span.{Span}
 use Rattle.cfglines.specs.Characters.{begins_character}
 use Rattle.cfglines.specs.Lines.{line_number, column}
-use Rattle.serde_json.specs.Data.{Data, null, number, unsigned, string, array, object, member, no_members}
+use Rattle.serde_json.specs.Data.{Data, Members, null, number, unsigned, string, array, object, member, no_members}
 use Rattle.serde_json.specs.Read.{read}
 use Rattle.serde_json.specs.View.{items_of}
 use Rattle.serde_json.specs.Written.{compact_text}
@@ -29,21 +29,28 @@ place_of text span = object
     (member (codes "line") (position_of text span.start).0
     (member (codes "start") (count span.start) no_members))))))
 
--- what is shown of an error or a warning: the word of its kind, what it says, and its spans
+-- what is shown of an error or a warning: the word of its kind, what it says, a note on it, and its spans
 pub record ShownDiagnostic : Type 0 where
   pub is_error : Bool
   pub kind : List ℕ
   pub text : List ℕ
+  pub hint : Option (List ℕ)
   pub spans : List Span
+
+-- these members, and before them the note if there is one
+abbrev pub with_hint : Option (List ℕ) → Members → Members
+with_hint None members = members
+with_hint (Some hint) members = member (codes "hint") (string hint) members
 
 -- an error or a warning about the text of a file of this name
 unfoldable pub diagnostic_object : List ℕ → List ℕ → ShownDiagnostic → Data
 diagnostic_object name text shown = object
     (member (codes "file") (string name)
+    (with_hint shown.hint
     (member (codes "kind") (string shown.kind)
     (member (codes "places") (array (items_of (map (place_of text) shown.spans)))
     (member (codes "severity") (string (if shown.is_error then codes "error" else codes "warning"))
-    (member (codes "text") (string shown.text) no_members)))))
+    (member (codes "text") (string shown.text) no_members))))))
 
 -- the object's text without spaces, which reads back as the object, and is one line
 pub record IsJsonLine (shown : Data) (line : List ℕ) : Type 0 where

@@ -19,10 +19,13 @@ pub struct Diagnostic<'a> {
     pub kind: &'a str,
     /// What it says.
     pub text: &'a str,
+    /// A note on it, if there is one.
+    pub hint: Option<&'a str>,
     pub spans: &'a [Span],
 }
 
 impl<'a> Model for Diagnostic<'a> {
+    ghost use Rattle.std.specs.Option.{option_map};
     ghost use Rattle.cfgjson.specs.Objects.{ShownDiagnostic};
 
     ghost Value = { ShownDiagnostic };
@@ -31,6 +34,7 @@ impl<'a> Model for Diagnostic<'a> {
       is_error = x.is_error;
       kind = x.kind.now;
       text = x.text.now;
+      hint = option_map (λ words. words.now) x.hint;
       spans = x.spans.now;
     } };
 }
@@ -84,11 +88,21 @@ fn object_of(
     } else {
         "warning"
     };
-    json!(in alloc; {
-        "file": name,
-        "severity": severity,
-        "kind": diagnostic.kind,
-        "text": diagnostic.text,
-        "places": places
-    })
+    match diagnostic.hint {
+        Some(hint) => json!(in alloc; {
+            "file": name,
+            "severity": severity,
+            "kind": diagnostic.kind,
+            "text": diagnostic.text,
+            "hint": hint,
+            "places": places
+        }),
+        None => json!(in alloc; {
+            "file": name,
+            "severity": severity,
+            "kind": diagnostic.kind,
+            "text": diagnostic.text,
+            "places": places
+        }),
+    }
 }

@@ -2,6 +2,7 @@ pub mod FirstAlike
 pub mod TargetTexts
 pub mod Lacking
 pub mod Marking
+pub mod Noted
 pub mod OwnCycles
 pub mod Reached
 pub mod Read

@@ -1,12 +1,15 @@
 -- What is reported for a text: its errors, or the findings about its grammar.
-use Rattle.std.specs.Prelude.{◌≡◌, ℕ, ◌+◌, Bool, true, false, if◌then◌else◌, List, [], ◌∷◌, ◌++◌, codes, length, map}
-use Rattle.std.specs.List.{count_by, flat_map}
+use Rattle.std.specs.Prelude.{◌≡◌, ℕ, ◌+◌, Bool, true, false, not, ◌&&◌, if◌then◌else◌, List, [], ◌∷◌, ◌++◌, codes, length, map, slice_get, Option, None}
+use Rattle.std.specs.List.{count_by, filter, flat_map, list_any}
+use Rattle.std.specs.Option.{option_map_or}
 use Rattle.cfgrammar.specs.YaccKind.TheVariants.{Original}
 use Rattle.cfgrammar.specs.YaccOriginalActionKind.TheVariants.{NoAction}
-use Rattle.cfgrammar.specs.Errors.{GrammarError}
+use Rattle.cfgrammar.specs.Errors.{ErrorKind, GrammarError, DuplicatePrecedence, DuplicateAvoidInsertDeclaration, DuplicateImplicitTokensDeclaration, DuplicateExpectDeclaration, DuplicateExpectRRDeclaration, DuplicateStartDeclaration, DuplicateActiontypeDeclaration, DuplicateEPP, StorageTooSmall, NoStartRule, InvalidStartRule, UnknownRuleRef, UnknownToken, NoPrecForToken, UnknownEPP}
 use Rattle.cfgrammar.specs.Errors as errors
 use Rattle.cfgrammar.specs.ErrorTexts.{error_text}
-use Rattle.cfgrammar.specs.Render.{rendered}
+use Rattle.cfgrammar.specs.Hints.{hint_text}
+use Rattle.cfgrammar.specs.Render.{note_line, rendered}
+use Rattle.cfgrammar.specs.Span.{Span}
 use Rattle.cfgrammar.specs.Answer.{Found}
 use Rattle.cfgrammar.specs.Numbered.{Numbered}
 use Rattle.cfgrammar.specs.Syntax.{Syntax}
@@ -46,23 +49,85 @@ abbrev pub finding_message : Reported → List ℕ
 finding_message reported = (if reported.is_error then codes "error" else codes "warning")
     ++ (codes ": " ++ (reported.finding.text ++ (codes " [" ++ (word_of reported.finding.kind ++ codes "]"))))
 
+-- Whether an error of this kind is one of validation, of what was read; and whether it stopped the reading.
+abbrev pub is_of_validation : ErrorKind → Bool
+is_of_validation NoStartRule = true
+is_of_validation (InvalidStartRule name) = true
+is_of_validation (UnknownRuleRef name) = true
+is_of_validation (UnknownToken name) = true
+is_of_validation (NoPrecForToken name) = true
+is_of_validation (UnknownEPP name) = true
+is_of_validation _ = false
+
+abbrev pub stops_reading : ErrorKind → Bool
+stops_reading DuplicatePrecedence = false
+stops_reading DuplicateAvoidInsertDeclaration = false
+stops_reading DuplicateImplicitTokensDeclaration = false
+stops_reading DuplicateExpectDeclaration = false
+stops_reading DuplicateExpectRRDeclaration = false
+stops_reading DuplicateStartDeclaration = false
+stops_reading DuplicateActiontypeDeclaration = false
+stops_reading DuplicateEPP = false
+stops_reading StorageTooSmall = false
+stops_reading NoStartRule = false
+stops_reading (InvalidStartRule name) = false
+stops_reading (UnknownRuleRef name) = false
+stops_reading (UnknownToken name) = false
+stops_reading (NoPrecForToken name) = false
+stops_reading (UnknownEPP name) = false
+stops_reading _ = true
+
+-- the errors that are shown: where the reading stopped, those of validation aren't, since what was not read may mend them
+abbrev pub is_shown : Bool → GrammarError → Bool
+is_shown is_stopped error = not (is_stopped && is_of_validation error.kind)
+
+abbrev pub is_stopped : List GrammarError → Bool
+is_stopped all = list_any (λ (error : GrammarError). stops_reading error.kind) all
+
+abbrev pub shown_errors : List GrammarError → List GrammarError
+shown_errors all = filter (is_shown (is_stopped all)) all
+
+-- an error, and the note on it if there is one
+pub record NotedError : Type 0 where
+  pub error : GrammarError
+  pub hint : Option (List ℕ)
+
+abbrev pub noted : List ℕ → GrammarError → NotedError
+noted text error = record { error = error; hint = hint_text text error }
+
+-- the offset of an error, in bytes: the start of its first span
+abbrev pub error_offset : GrammarError → ℕ
+error_offset error = option_map_or (λ (span : Span). span.start) (slice_get error.spans 0) 0
+
+-- the line of the note
+abbrev pub hint_line : List ℕ → List ℕ → NotedError → List ℕ
+hint_line name text shown = option_map_or (λ words. note_line name text words (error_offset shown.error)) shown.hint []
+
 -- the lines for errors and for findings, for a text with this name
-abbrev pub error_lines : List ℕ → List ℕ → List GrammarError → List ℕ
-error_lines name text all = flat_map (λ (error : GrammarError). rendered name text (error_message error) error.spans (errors.spanskind_of error.kind)) all
+abbrev pub error_lines : List ℕ → List ℕ → List NotedError → List ℕ
+error_lines name text all = flat_map (λ (shown : NotedError).
+    rendered name text (error_message shown.error) shown.error.spans (errors.spanskind_of shown.error.kind) ++ hint_line name text shown) all
 
 abbrev pub finding_lines : List ℕ → List ℕ → List Reported → List ℕ
 finding_lines name text all =
     flat_map (λ (reported : Reported). rendered name text (finding_message reported) reported.finding.spans (spanskind_of reported.finding.kind)) all
 
 -- an error and a finding, as JSON shows them
-abbrev pub shown_error : GrammarError → ShownDiagnostic
-shown_error error = record { is_error = true; kind = codes "error"; text = error_text error.kind; spans = error.spans }
+abbrev pub shown_error : NotedError → ShownDiagnostic
+shown_error shown = record {
+  is_error = true;
+  kind = codes "error";
+  text = error_text shown.error.kind;
+  hint = shown.hint;
+  spans = shown.error.spans;
+}
 
 abbrev pub shown_finding : Reported → ShownDiagnostic
 shown_finding reported = record {
   is_error = reported.is_error;
   kind = word_of reported.finding.kind;
   text = reported.finding.text;
+  hint = None;
   spans = reported.finding.spans;
 }
 
@@ -74,7 +139,7 @@ InFormat Json AsText AsJson = AsJson
 -- what is reported, in this format, for a text in a file with this name
 module _ (format : Format) (name text : List ℕ) where
   -- the lines for errors and for findings in the format
-  abbrev pub AreErrorLines : List GrammarError → List ℕ → Type 0
+  abbrev pub AreErrorLines : List NotedError → List ℕ → Type 0
   AreErrorLines all lines = InFormat format (lines ≡ error_lines name text all)
       (AreJsonLines (map (λ error. diagnostic_object name text (shown_error error)) all) lines)
 
@@ -82,9 +147,10 @@ module _ (format : Format) (name text : List ℕ) where
   AreFindingLines all lines = InFormat format (lines ≡ finding_lines name text all)
       (AreJsonLines (map (λ finding. diagnostic_object name text (shown_finding finding)) all) lines)
 
-  -- that it has these errors
+  -- that it has these errors, of which it shows some, each with its note
   abbrev pub ReportsErrors : List GrammarError → Printed → Type 0
-  ReportsErrors all reported = AreErrorLines all reported.lines × (reported.errors ≡ length all) × (reported.warnings ≡ 0)
+  ReportsErrors all reported = AreErrorLines (map (noted text) (shown_errors all)) reported.lines
+      × (reported.errors ≡ length (shown_errors all)) × (reported.warnings ≡ 0)
 
   -- the findings about its grammar, given its syntax and its numbers, with these levels; those that are no errors are warnings
   abbrev pub ReportsFindings : Levels → Syntax → Numbered → Printed → Type 0

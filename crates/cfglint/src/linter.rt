@@ -3,10 +3,12 @@
 ghost use Rattle.std.specs.Prelude.{◌≡◌, IfOk, IfSome, map, string_bytes};
 ghost use Rattle.cfgrammar.specs.Render.{RendersEach};
 ghost use Rattle.cfgjson.specs.Objects.{AreJsonLines, diagnostic_object};
-ghost use Rattle.cfglint.specs.Reported.{InFormat};
+ghost use Rattle.cfglint.specs.Reported.{AreErrorLines, InFormat};
 
 use crate::found::findings;
-use crate::reported::{error_count, reported_errors, reported_findings};
+use crate::reported::{
+    ReportedError, error_count, error_lines, reported_errors, reported_findings,
+};
 use cfgdriver::{TextReader, read_text_or};
 use cfgjson::{JsonLine, json_lines};
 use cfglint_shell::{Format, Levels, LintOptions, Linter, Report};
@@ -65,12 +67,12 @@ impl TextReader<Report> for FileReporter<'_> {
         text: &str,
         errors: &[YaccGrammarError],
     ) -> Result<Report, AllocError> {
-        let reported = reported_errors(alloc, errors)?;
-        let lines = lines_of(alloc, self.format, self.name, text, &reported)?;
+        let reported = reported_errors(alloc, text, errors)?;
+        let lines = lines_of_errors(alloc, self.format, self.name, text, &reported)?;
         Ok(Report {
             lines,
             is_taken: false,
-            errors: errors.len(),
+            errors: reported.len(),
             warnings: 0,
         })
     }
@@ -95,7 +97,23 @@ impl TextReader<Report> for FileReporter<'_> {
     }
 }
 
-/// The lines for errors or findings for the text of a file of this name, in this format.
+/// The lines for errors in the text of a file of this name, in this format.
+fn lines_of_errors(
+    alloc: Global,
+    format: Format,
+    name: &str,
+    text: &str,
+    errors: &[ReportedError<'_>],
+) -> Result<String, AllocError>
+    ensures { IfOk result (λ lines. AreErrorLines format name.now text.now errors.now (string_bytes lines)) }
+{
+    match format {
+        Format::Text => error_lines(alloc, name, text, errors),
+        Format::Json => json_lines(alloc, name, text, errors),
+    }
+}
+
+/// The lines for findings for the text of a file of this name, in this format.
 fn lines_of<E: Spanned + JsonLine>(
     alloc: Global,
     format: Format,

@@ -81,6 +81,7 @@ pub use Rattle.cfgerrors.specs.Refusal
 pub use Rattle.cfgerrors.specs.ErrorTexts
 pub use Rattle.cfgerrors.specs.Warnings
 pub use Rattle.cfgerrors.specs.WarningTexts
+pub use Rattle.cfghints.specs.Hints
 pub use Rattle.cfgkinds.specs.YaccKinds
 pub use Rattle.cfgkinds.specs.SameValues
 pub use Rattle.cfgkinds.specs.ValueErrorTexts
@@ -141,6 +142,7 @@ pub use Rattle.cfgindex.specs.declared.idxnewtype.SIdx
 pub use Rattle.cfgindex.specs.declared.idxnewtype.TIdx
 pub use Rattle.cfgindex.specs.declared.idxnewtype.Symbol
 pub use Rattle.cfglines.specs.declared.newlinecache.FeedError
+pub use Rattle.cfgrender.specs.declared.source.Source
 pub use Rattle.cfgmarks.specs.declared.markmap.behavior.MergeBehavior
 pub use Rattle.cfgmarks.specs.declared.markmap.fault.MergeError
 pub use Rattle.cfgmarks.specs.declared.markmap.fault.MergeFault
@@ -155,6 +157,7 @@ pub use Rattle.cfgerrors.specs.declared.error.YaccGrammarError
 pub use Rattle.cfgerrors.specs.declared.error.YaccFault
 pub use Rattle.cfgerrors.specs.declared.warning.YaccGrammarWarningKind
 pub use Rattle.cfgerrors.specs.declared.warning.YaccGrammarWarning
+pub use Rattle.cfghints.specs.declared.hint.Hint
 pub use Rattle.cfgkinds.specs.declared.value.Namespaced
 pub use Rattle.cfgkinds.specs.declared.value.Setting
 pub use Rattle.cfgkinds.specs.declared.value.Value

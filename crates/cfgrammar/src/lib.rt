@@ -21,7 +21,8 @@ pub mod laws;
 pub mod yacc;
 
 pub use cfgbase::{Location, Span, Spanned, SpansKind, span};
+pub use cfghints::{Hint, hint_for};
 pub use cfgindex::{PIdx, RIdx, SIdx, Storage, Symbol, TIdx, Vob, idxnewtype, storage};
 pub use cfglines::{FeedError, NewlineCache, Positions, newlinecache};
 pub use cfgmarks::markmap;
-pub use cfgrender::{render, render_all};
+pub use cfgrender::{Source, render, render_all};

@@ -1,12 +1,12 @@
--- What is printed for a span that starts at a character boundary, and for one that doesn't.
-use Rattle.std.proofs.Common.{◌≡◌, ℕ, true, false, List, ◌++◌, length, slice_index, ⊎_elim, refl, arith}
+-- What is printed at an offset that is a character boundary, and at one that isn't.
+use Rattle.std.proofs.Common.{◌≡◌, ℕ, true, false, List, ◌++◌, codes, length, slice_index, ⊎_elim, refl, arith}
 use Rattle.std.proofs.lemmas.Bool.{and_from, and_parts, cases_Bool, cases_lt, le-leb, leb-true, lt-ltb, ltb-true, or_left, or_right, or_cases}
 use Rattle.std.proofs.lemmas.List.{get_or_past}
 use Rattle.std.specs.Str.{IsCharBoundary}
 use Rattle.cfgbase.specs.declared.span.Span.{Span}
-use Rattle.cfgrender.specs.Render.{excerpt, is_offset, offset_line, plain_line, reported}
+use Rattle.cfgrender.specs.Render.{excerpt, is_offset, note_line, offset_line, plain_line, reported}
 
-is_offset_true : (text : List ℕ) (b : ℕ) → IsCharBoundary text b → is_offset text b ≡ true
+pub is_offset_true : (text : List ℕ) (b : ℕ) → IsCharBoundary text b → is_offset text b ≡ true
 is_offset_true text b boundary = and_from _ _ (le-leb _ _ boundary.0) (⊎_elim
     (λ low. or_left _ _ (lt-ltb _ _ low))
     (λ high. ⊎_elim
@@ -25,7 +25,7 @@ is_offset_only text b h =
           (or_cases _ _ begins),
     )
 
-is_offset_false : (text : List ℕ) (b : ℕ) → (IsCharBoundary text b → ⊥) → is_offset text b ≡ false
+pub is_offset_false : (text : List ℕ) (b : ℕ) → (IsCharBoundary text b → ⊥) → is_offset text b ≡ false
 is_offset_false text b none =
     ⊎_elim (λ h. absurd (none (is_offset_only text b h))) (λ h. h) (cases_Bool (is_offset text b))
 
@@ -38,3 +38,13 @@ pub reported_of_none : (name text words : List ℕ) (span : Span) → (IsCharBou
     → reported name text words span ≡ plain_line name words
 unfolding reported
 reported_of_none name text words span none = rw (is_offset_false text span.start none) refl
+
+pub note_line_of_offset : (name text words : List ℕ) (b : ℕ) → IsCharBoundary text b
+    → note_line name text words b ≡ offset_line name text (codes "note: " ++ words) b
+unfolding note_line
+note_line_of_offset name text words b boundary = rw (is_offset_true text b boundary) refl
+
+pub note_line_of_none : (name text words : List ℕ) (b : ℕ) → (IsCharBoundary text b → ⊥)
+    → note_line name text words b ≡ plain_line name (codes "note: " ++ words)
+unfolding note_line
+note_line_of_none name text words b none = rw (is_offset_false text b none) refl

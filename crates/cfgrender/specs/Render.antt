@@ -109,6 +109,12 @@ reported name text words span = if is_offset text span.start
     then offset_line name text words span.start ++ excerpt text span
     else plain_line name words
 
+-- a note at an offset: where that is and what the note says, without the line of the text
+unfoldable pub note_line : List ℕ → List ℕ → List ℕ → ℕ → List ℕ
+note_line name text words b = if is_offset text b
+    then offset_line name text (codes "note: " ++ words) b
+    else plain_line name (codes "note: " ++ words)
+
 -- what the spans after the first one add: each is a duplicate's, or nothing is printed for them
 abbrev pub reported_also : SpansKind → List ℕ → List ℕ → List Span → List ℕ
 reported_also DuplicationError name text spans = flat_map (reported name text (codes "note: also here")) spans

@@ -4,7 +4,8 @@
 mod excerpt;
 pub mod laws;
 pub mod message;
-mod source;
+pub mod source;
 mod window;
 
 pub use message::{render, render_all};
+pub use source::Source;

@@ -1,6 +1,6 @@
 //! An error or a warning, as a person reads it.
 
-ghost use Rattle.std.specs.Prelude.{◌≡◌, ◌++◌, ℕ, List, IfOk, IfSome, OnOk, string_bytes};
+ghost use Rattle.std.specs.Prelude.{◌≡◌, ℕ, List, IfOk, IfSome, string_bytes};
 ghost use Rattle.cfgrender.specs.Render.{RendersEach, rendered};
 
 use crate::source::Source;
@@ -25,7 +25,7 @@ pub fn render<E: Spanned>(
 {
     let source = Source::new(alloc, name, text)?;
     let mut out = String::new(alloc);
-    push_error(alloc, &mut out, &source, error)?;
+    source.push(alloc, &mut out, error)?;
     Ok(out)
 }
 
@@ -47,22 +47,7 @@ pub fn render_all<E: Spanned>(
     let source = Source::new(alloc, name, text)?;
     let mut out = String::new(alloc);
     for error in errors {
-        push_error(alloc, &mut out, &source, error)?;
+        source.push(alloc, &mut out, error)?;
     }
     Ok(out)
-}
-
-/// Writes an error or a warning as [`render`] does.
-fn push_error<E: Spanned>(
-    alloc: Global,
-    out: &mut String,
-    source: &Source<'_>,
-    error: &E,
-) -> Result<(), AllocError>
-    ensures { OnOk result ((message : List ℕ) × IfSome (E.output error.now) (λ printed. message ≡ printed)
-        × (string_bytes out.new ≡ string_bytes out.old
-        ++ rendered source.now.name.now source.now.offsets message (E.spans error.now) (E.spanskind error.now))) }
-{
-    let message = error.to_string(alloc)?;
-    source.push_rendered(out, &message, error.spans(), error.spanskind())
 }

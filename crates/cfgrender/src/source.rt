@@ -1,33 +1,73 @@
 //! A text with its name, and what is printed about its spans.
 
-ghost use Rattle.std.specs.Prelude.{◌≡◌, ◌++◌, codes, string_bytes, IfOk, OnOk};
+ghost use Rattle.std.specs.Prelude.{◌≡◌, ◌++◌, ℕ, List, codes, string_bytes, IfOk, IfSome, OnOk};
 ghost use Rattle.std.specs.List.{flat_map};
-ghost use Rattle.cfgrender.specs.Render.{rendered, reported, reported_also};
+ghost use Rattle.cfgrender.specs.Render.{note_line, rendered, reported, reported_also};
 
 use crate::excerpt::push_excerpt;
-use cfgbase::{Span, SpansKind};
+use cfgbase::{Span, Spanned, SpansKind};
 use cfglines::Positions;
 use std::alloc::{AllocError, Global};
 
-/// A text with its name and the offsets of its lines.
+/// A text with its name and the offsets of its lines, which are found once for all that is written about it.
 #[derive(Drop)]
-pub(crate) struct Source<'a> {
+pub struct Source<'a> {
     name: &'a str,
-    offsets: Positions<'a>,
+    text: Positions<'a>,
 }
 
 impl<'a> Source<'a> {
     /// A text of this name.
-    pub(crate) fn new(alloc: Global, name: &'a str, text: &'a str) -> Result<Source<'a>, AllocError>
+    ///
+    /// # Errors
+    ///
+    /// `AllocError` if an allocation fails.
+    pub fn new(alloc: Global, name: &'a str, text: &'a str) -> Result<Source<'a>, AllocError>
         ensures name { IfOk result (λ source. source.name.now ≡ name.entry.now) }
-        ensures text { IfOk result (λ source. source.offsets ≡ text.entry.now) }
+        ensures text { IfOk result (λ source. source.text ≡ text.entry.now) }
     {
-        let offsets = Positions::new(alloc, text)?;
-        Ok(Source { name, offsets })
+        let text = Positions::new(alloc, text)?;
+        Ok(Source { name, text })
+    }
+
+    /// Writes an error or a warning as [`render`](crate::render) does.
+    ///
+    /// # Errors
+    ///
+    /// `AllocError` if an allocation fails.
+    pub fn push<E: Spanned>(
+        &self,
+        alloc: Global,
+        out: &mut String,
+        error: &E,
+    ) -> Result<(), AllocError>
+        ensures { OnOk result ((message : List ℕ) × IfSome (E.output error.now) (λ printed. message ≡ printed)
+            × (string_bytes out.new ≡ string_bytes out.old
+            ++ rendered self.now.name.now self.now.text message (E.spans error.now) (E.spanskind error.now))) }
+    {
+        let message = error.to_string(alloc)?;
+        self.push_rendered(out, &message, error.spans(), error.spanskind())
+    }
+
+    /// Writes a note at an offset of the text, with its line and column but without that line of the text. An offset
+    /// that isn't a character boundary has neither.
+    ///
+    /// # Errors
+    ///
+    /// `AllocError` if an allocation fails.
+    pub fn push_note(&self, out: &mut String, words: &str, offset: usize) -> Result<(), AllocError>
+        ensures { OnOk result (string_bytes out.new
+            ≡ string_bytes out.old ++ note_line self.now.name.now self.now.text words.now offset) }
+    {
+        let Source { name, text } = self;
+        match text.line_and_column(offset) {
+            Some((line, column)) => writeln!(out, "{name}:{line}:{column}: note: {words}"),
+            None => writeln!(out, "{name}: note: {words}"),
+        }
     }
 
     /// Writes an error or a warning with this message, these spans, and spans of this kind.
-    pub(crate) fn push_rendered(
+    fn push_rendered(
         &self,
         out: &mut String,
         message: &str,
@@ -35,7 +75,7 @@ impl<'a> Source<'a> {
         kind: SpansKind,
     ) -> Result<(), AllocError>
         ensures { OnOk result (string_bytes out.new ≡ string_bytes out.old
-            ++ rendered self.now.name.now self.now.offsets message.now spans.now kind) }
+            ++ rendered self.now.name.now self.now.text message.now spans.now kind) }
     {
         let [first, others @ ..] = spans else {
             let name = self.name;
@@ -53,7 +93,7 @@ impl<'a> Source<'a> {
         spans: &[Span],
     ) -> Result<(), AllocError>
         ensures { OnOk result (string_bytes out.new
-            ≡ string_bytes out.old ++ reported_also kind self.now.name.now self.now.offsets spans.now) }
+            ≡ string_bytes out.old ++ reported_also kind self.now.name.now self.now.text spans.now) }
     {
         match kind {
             SpansKind::DuplicationError => self.push_each(out, spans),
@@ -65,7 +105,7 @@ impl<'a> Source<'a> {
     fn push_each(&self, out: &mut String, spans: &[Span]) -> Result<(), AllocError>
         ensures { OnOk result (string_bytes out.new
             ≡ string_bytes out.old
-            ++ flat_map (reported self.now.name.now self.now.offsets (codes "note: also here")) spans.now) }
+            ++ flat_map (reported self.now.name.now self.now.text (codes "note: also here")) spans.now) }
     {
         for span in spans {
             self.push_reported(out, "note: also here", *span)?;
@@ -76,13 +116,13 @@ impl<'a> Source<'a> {
     /// Writes where a span starts, this message, and the excerpt.
     fn push_reported(&self, out: &mut String, words: &str, span: Span) -> Result<(), AllocError>
         ensures { OnOk result (string_bytes out.new
-            ≡ string_bytes out.old ++ reported self.now.name.now self.now.offsets words.now span) }
+            ≡ string_bytes out.old ++ reported self.now.name.now self.now.text words.now span) }
     {
-        let Source { name, offsets } = self;
-        match offsets.line_and_column(span.start()) {
+        let Source { name, text } = self;
+        match text.line_and_column(span.start()) {
             Some((line, column)) => {
                 writeln!(out, "{name}:{line}:{column}: {words}")?;
-                push_excerpt(out, offsets, span)
+                push_excerpt(out, text, span)
             }
             None => writeln!(out, "{name}: {words}"),
         }

@@ -10,7 +10,7 @@ loop-error-init g c = rw c.new-out.ensures.bytes none
 
 pub loop-error-preserved : goal.loop-error-preserved
 loop-error-preserved g c =
-    let reported = c.in_ok-push_error.ensures in
+    let reported = c.in_ok-push.ensures in
     let shown = take c.loop-error.error-index c.args.errors.now in
     let next : shown ++ c.error-item.result ∷ [] ≡ take (c.loop-error.error-index + 1) c.args.errors.now = grind (arith, common_steps) in
     let source = c.in_ok-source.ensures in

@@ -7,12 +7,12 @@ use Rattle.cfgrender.proofs.source.Source.push_reported.Goals as goal
 pub returns-in_ok-writeln-in-Some : goal.returns-in_ok-writeln-in-Some
 returns-in_ok-writeln-in-Some c =
     let source = c.args.self.now in
-    let offset = subst (IsCharBoundary source.offsets) c.start.ensures c.in-Some.ensures.0 in
-    rw (reported_of_offset source.name.now source.offsets c.args.words.now c.args.span offset) (grind (arith, common_steps))
+    let offset = subst (IsCharBoundary source.text) c.start.ensures c.in-Some.ensures.0 in
+    rw (reported_of_offset source.name.now source.text c.args.words.now c.args.span offset) (grind (arith, common_steps))
 
 pub returns-in-None : goal.returns-in-None
 returns-in-None c =
     let source = c.args.self.now in
-    let none = λ (offset : IsCharBoundary source.offsets c.args.span.start).
-    c.in-None.ensures (subst (IsCharBoundary source.offsets) (sym c.start.ensures) offset) in
-    rw (reported_of_none source.name.now source.offsets c.args.words.now c.args.span none) (search rules)
+    let none = λ (offset : IsCharBoundary source.text c.args.span.start).
+    c.in-None.ensures (subst (IsCharBoundary source.text) (sym c.start.ensures) offset) in
+    rw (reported_of_none source.name.now source.text c.args.words.now c.args.span none) (search rules)

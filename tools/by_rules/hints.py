@@ -1,0 +1,56 @@
+"""The notes on errors: "The program cfglint"."""
+import re
+
+from .faults import HeaderFault
+
+DECLARATIONS = ('%token, %start, %left, %right, %nonassoc, %epp, %expect, %expect-rr, %expect-unused, %avoid_insert, %parse-param and '
+                '%parse-generics; %actiontype in the original kinds and %implicit_tokens in Eco')
+PIECE = re.compile(rb'%[a-zA-Z0-9_%-]*|[a-zA-Z_.][a-zA-Z0-9_.]*|[0-9]+|[\x00-\x7f]|[\xc0-\xff][\x80-\xbf]*')
+EXPECTED = {
+    'ProductionNotTerminated': ", expected '|' or ';': an action may only be at the end of a production",
+    'MissingColon': ", expected ':'",
+    'MissingRightArrow': ", expected '->' and the type of the rule's value",
+    'IllegalName': ', expected the name of a rule',
+    'IllegalInteger': ', expected a number up to 18446744073709551615',
+}
+# what is said where a token is missing, by the first byte there
+TOKENS = (
+    (b'<', ": tags such as <value> aren't read"),
+    (b'0123456789', ", expected a name or a quoted text: numbers of tokens aren't read"),
+    (b':', ": a ';' may be missing before this rule, or '%%' before the first one"),
+    (b'"\'', ": a quoted text isn't empty, ends on its line and has no escapes"),
+    (b'%', ", expected a name or a quoted text: a ';' or the end of a line may be missing before it"),
+    (b'.', ', expected a name without dots or a quoted text'),
+)
+
+
+def found(t, p):
+    """What is at p."""
+    if p == len(t):
+        return 'the end of the file'
+    if t[p:p + 1] in (b'\r', b'\n'):
+        return 'the end of the line'
+    return "'%s'" % PIECE.match(t, p).group().decode('utf-8')
+
+
+def hint(t, error):
+    """The note on an error, or None."""
+    p = error.spans[0][0]
+    if isinstance(error, HeaderFault):
+        return None
+    if error.kind == 'UnknownDeclaration':
+        return unknown_declaration(t, p)
+    if error.kind == 'IllegalString':
+        advice = next((advice for first, advice in TOKENS if p < len(t) and t[p] in first), ', expected a name or a quoted text')
+        return 'found ' + found(t, p) + advice
+    return 'found ' + found(t, p) + EXPECTED[error.kind] if error.kind in EXPECTED else None
+
+
+def unknown_declaration(t, p):
+    if p == 0 and t.startswith(b'\xef\xbb\xbf'):
+        return 'the file begins with a byte order mark: save it without one'
+    if t.startswith(b'%{', p):
+        return "code between %{ and %} isn't read: leave it out of the grammar"
+    if t[p:p + 1] == b'%' and t[p + 1:p + 2].isalpha():
+        return found(t, p) + " isn't read here: the declarations are " + DECLARATIONS
+    return 'found ' + found(t, p) + ", expected a declaration or '%%'"
