@@ -52,17 +52,17 @@ places_flat text (span ∷ spans) =
     let others = places_flat text spans in
     (omega (arith, one.0, others.0), rw (one.1, others.1) refl)
 
-hint_shallow : (hint : Option (List ℕ)) (members : Members) → members_depth (with_hint hint members) ≤ members_depth members
-hint_shallow None members = omega arith
-hint_shallow (Some hint) members = omega arith
+hint_depth : (hint : Option (List ℕ)) (rest : Members) → members_depth (with_hint hint rest) ≡ members_depth rest
+hint_depth None rest = refl
+hint_depth (Some hint) rest = omega arith
 
-hint_whole : (hint : Option (List ℕ)) (members : Members) → members_have_float (with_hint hint members) ≡ members_have_float members
-hint_whole None members = refl
-hint_whole (Some hint) members = refl
+hint_whole : (hint : Option (List ℕ)) (rest : Members) → members_have_float (with_hint hint rest) ≡ members_have_float rest
+hint_whole None rest = refl
+hint_whole (Some hint) rest = refl
 
 pub object_shallow : (name text : List ℕ) (shown : ShownDiagnostic) → depth (diagnostic_object name text shown) ≤ 127
 unfolding diagnostic_object
-object_shallow name text shown = omega (arith, (places_flat text shown.spans).0, hint_shallow shown.hint _)
+object_shallow name text shown = rw (hint_depth shown.hint) (omega (arith, (places_flat text shown.spans).0))
 
 pub object_whole : (name text : List ℕ) (shown : ShownDiagnostic) → has_float (diagnostic_object name text shown) ≡ false
 unfolding diagnostic_object
