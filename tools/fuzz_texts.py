@@ -128,6 +128,9 @@ class Texts:
         return self.random.choice(self.names if self.random.random() < 0.95 else NAMES)
 
     def token(self):
+        """A token. Some have the name of a rule."""
+        if self.random.random() < 0.05:
+            return self.random.choice(('%s', "'%s'")) % self.name()
         return self.random.choice(TOKENS)
 
     def declaration(self, kind):

@@ -12,7 +12,6 @@ use Rattle.std.proofs.lemmas.List.Folds.{list_any-append}
 use Rattle.std.proofs.lemmas.List.Quantifiers.{position-Some}
 use Rattle.std.proofs.lemmas.Map.Views.{Contains-from_any, list_any-from_Contains}
 use Rattle.std.proofs.lemmas.Option.{same_Some, slice_get-get_or, slice_get-map}
-use Rattle.std.proofs.lemmas.Simd.{map-map}
 use Rattle.cfgrammar.proofs.Contained.{contains_first, contains_mapped, contains_none, contains_one, contains_source}
 use Rattle.cfgrammar.proofs.Elements.{get_or-replicate_default}
 use Rattle.cfgrammar.proofs.ListPositions.{position-distinct, position-map}

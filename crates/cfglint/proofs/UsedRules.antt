@@ -1,5 +1,5 @@
 -- Rules of a tree, as they are read, and what is known of them.
-use Rattle.std.proofs.Common.{◌≡◌, ℕ, Bool, true, false, List, Option, Some, None, String, Global, MatchBool, MatchOption, get_or, is_some, map, option_map, slice_get, string_bytes, unwrap_or, refl, sym, ap, subst, ◌∙◌}
+use Rattle.std.proofs.Common.{◌≡◌, ℕ, Bool, true, false, List, Option, Some, None, String, Global, MatchBool, MatchOption, is_some, map, option_map, slice_get, string_bytes, unwrap_or, sym, ap, subst, ◌∙◌}
 use Rattle.std.proofs.lemmas.Option.{same_Some, slice_get-map, unwrap_or-slice_get}
 use Rattle.cfgrammar.specs.AstRule.{Rule as AstRule}
 use Rattle.cfgrammar.specs.Syntax.{Rule, Syntax}

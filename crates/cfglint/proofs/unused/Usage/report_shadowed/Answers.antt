@@ -1,4 +1,4 @@
-use Rattle.std.proofs.Common.{◌≡◌, [], ◌∷◌, Some, String, Global, codes, string_bytes, sym, ap, subst, ◌∙◌}
+use Rattle.std.proofs.Common.{[], ◌∷◌, Some, String, Global, codes, string_bytes, sym, ap, subst, ◌∙◌}
 use Rattle.cfgrammar.specs.AstRule.{Rule}
 use Rattle.cfgrammar.specs.SyntaxView.{rule_entry}
 use Rattle.cfgrammar.specs.TreeView.{syntax}

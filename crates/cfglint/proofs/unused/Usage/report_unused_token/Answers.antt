@@ -1,12 +1,11 @@
-use Rattle.std.proofs.Common.{◌≡◌, ◌+◌, ◌<◌, ℕ, Bool, true, false, List, [], ◌∷◌, Some, None, MatchBool, get_or, length, map, option_map, slice_get, string_bytes, refl, sym, ap, subst, ◌∙◌, arith}
+use Rattle.std.proofs.Common.{◌≡◌, ◌+◌, ◌<◌, ℕ, Bool, true, false, List, [], ◌∷◌, Some, None, MatchBool, get_or, length, option_map, slice_get, string_bytes, refl, sym, ap, subst, ◌∙◌, arith}
 use Rattle.std.proofs.lemmas.List.{get_or_read, length-map}
 use Rattle.std.proofs.lemmas.Option.{slice_get-map, slice_get_past, slice_get_read}
 use Rattle.cfgrammar.specs.Span.{Span}
 use Rattle.cfgrammar.specs.Syntax.{Syntax}
 use Rattle.cfgrammar.specs.SyntaxView.{rule_entry}
-use Rattle.cfgrammar.specs.TreeView.{syntax}
 use Rattle.cfgrammar.specs.Unused.{AreUnused, IsUnused, TokenName}
-use Rattle.cfglint.specs.Findings.{IsRequested, IsUnusedToken}
+use Rattle.cfglint.specs.Findings.{IsRequested}
 use Rattle.cfglint.specs.Inner.Marks.{AreMarked}
 use Rattle.cfglint_shell.specs.declared.finding_kind.FindingKind.TheVariants.{UnusedToken}
 use Rattle.cfglint.proofs.UsedRules.{marked_as}
