@@ -60,8 +60,8 @@ module _ (Has Has' : ℕ → Step → Type 0) (to : (rule : ℕ) (step : Step) �
 pub own_groups : (g : Numbered) (steps : List (List Step)) → AreSteps (core g) steps → (groups : List (Option CyclicGroup))
     → AreGroups (HasStep steps) (length steps) groups → AreOwnGroups g steps groups
 own_groups g steps are groups h = record {
-  steps = are;
-  groups = record {
+  are_steps = are;
+  are_groups = record {
     entries = h.entries ∙ are.rules;
     each = λ rule within. group_as (HasStep steps) (IsStep (core g)) (λ a step. (are.all a step).0) (λ a step. (are.all a step).1) rule (get_or groups rule None)
         (h.each rule (subst (λ n. rule < n) (sym are.rules) within));

@@ -8,8 +8,8 @@ use Rattle.cfgrammar.specs.Step.{Step}
 
 -- the unit steps of the grammar, and the groups of its cyclic rules
 pub record AreOwnGroups (g : Numbered) (steps : List (List Step)) (groups : List (Option CyclicGroup)) : Type 0 where
-  pub steps : AreSteps (core g) steps
-  pub groups : AreGroups (IsStep (core g)) (length g.rules) groups
+  pub are_steps : AreSteps (core g) steps
+  pub are_groups : AreGroups (IsStep (core g)) (length g.rules) groups
 
 -- the step is a step of some rule
 abbrev pub IsSomeStep : Numbered → Step → Type 0
