@@ -27,7 +27,7 @@ module _ (Has Has' : ℕ → Step → Type 0) (to : (rule : ℕ) (step : Step) �
   leads_as a [] b same = same
   leads_as a (step ∷ path) b (first, rest) = (to a step first, leads_as step.rule path b rest)
 
-  cycle_as : (rule : ℕ) (path : List Step) → IsCycle Has rule path → IsCycle Has' rule path
+  pub cycle_as : (rule : ℕ) (path : List Step) → IsCycle Has rule path → IsCycle Has' rule path
   cycle_as rule path l = record { some = l.some; leads = leads_as rule path rule l.leads }
 
   leads_to_as : (a b : ℕ) → LeadsTo Has a b → LeadsTo Has' a b
@@ -101,14 +101,15 @@ module _ (test : ℕ → Bool) where
 
   passed : (xs : List ℕ) (x : ℕ) → Contains (filter test xs) x → Contains xs x × (test x ≡ true)
   passed [] x c = absurd (contains_none x c)
-  passed (y ∷ xs) x c = go (test y) refl c
+  passed (y ∷ xs) x c = go (test y) refl (passed xs x) c
     where
-      go : (b : Bool) → test y ≡ b → Contains (cond b (y ∷ filter test xs) (filter test xs)) x → Contains (y ∷ xs) x × (test x ≡ true)
-      go true t c = elim (contains_cases y x (filter test xs) c) [
+      go : (b : Bool) → test y ≡ b → (Contains (filter test xs) x → Contains xs x × (test x ≡ true))
+          → Contains (cond b (y ∷ filter test xs) (filter test xs)) x → Contains (y ∷ xs) x × (test x ≡ true)
+      go true t rest c = elim (contains_cases y x (filter test xs) c) [
         | inl same ↦ (subst (Contains (y ∷ xs)) same (contains_first y xs), ap test (sym same) ∙ t)
-        | inr later ↦ let w = passed xs x later in (contains_later y x xs w.0, w.1)
+        | inr later ↦ let w = rest later in (contains_later y x xs w.0, w.1)
       ]
-      go false t c = let w = passed xs x c in (contains_later y x xs w.0, w.1)
+      go false t rest c = let w = rest c in (contains_later y x xs w.0, w.1)
 
 module _ (law : (g : Grammar) (a b : ℕ) → LeadsTo (IsStep g) a b ↔ DerivesRule (HasProduction g) a b) (g : Numbered) where
   derive_each_other : (a b : ℕ) → OnCommonCycle (IsStep (core g)) a b → DeriveEachOther g a b
