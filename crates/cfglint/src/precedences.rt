@@ -50,7 +50,8 @@ impl Reporter for Idle<'_> {
 
     ghost count = { λ x. length (syntax x.ast.now).tables.precedences };
 
-    ghost reports = { λ x n reported. AreMarked (precedence_keys (syntax x.ast.now)) (TakesPart (syntax x.ast.now)) x.taking
+    ghost reports = { λ x n reported.
+        AreMarked (precedence_keys (syntax x.ast.now)) (TakesPart (syntax x.ast.now)) x.taking
         → ReportsPrecedence (syntax x.ast.now) n reported };
 
     fn report(&self, alloc: Global, number: usize) -> Result<Option<Finding>, AllocError> {
@@ -101,7 +102,8 @@ fn mark_productions(ast: &GrammarAST, taking: &mut Vob, productions: &[Productio
 /// Marks what a production contains and what its `%prec` names.
 fn mark_production(ast: &GrammarAST, taking: &mut Vob, production: &Production)
     requires { length taking.old ≡ length (syntax ast.now).tables.precedences }
-    ensures { Marks (precedence_keys (syntax ast.now)) (production_names (production_view production.now)) taking.old taking.new }
+    ensures { Marks (precedence_keys (syntax ast.now)) (production_names (production_view production.now))
+        taking.old taking.new }
 {
     mark_symbols(ast, taking, &production.symbols);
     if let Some(name) = &production.precedence {
@@ -112,7 +114,8 @@ fn mark_production(ast: &GrammarAST, taking: &mut Vob, production: &Production)
 /// Marks the tokens among symbols.
 fn mark_symbols(ast: &GrammarAST, taking: &mut Vob, symbols: &[Symbol])
     requires { length taking.old ≡ length (syntax ast.now).tables.precedences }
-    ensures { Marks (precedence_keys (syntax ast.now)) (flat_map token_names (map symbol_view symbols.now)) taking.old taking.new }
+    ensures { Marks (precedence_keys (syntax ast.now)) (flat_map token_names (map symbol_view symbols.now))
+        taking.old taking.new }
 {
     for symbol in symbols {
         mark_symbol(ast, taking, symbol);
@@ -132,7 +135,8 @@ fn mark_symbol(ast: &GrammarAST, taking: &mut Vob, symbol: &Symbol)
 /// Marks the tokens of a table.
 fn mark_table(ast: &GrammarAST, taking: &mut Vob, table: &IndexMap<String, Span>)
     requires { length taking.old ≡ length (syntax ast.now).tables.precedences }
-    ensures { Marks (precedence_keys (syntax ast.now)) (map entry_name (map span_entry table.now.entries)) taking.old taking.new }
+    ensures { Marks (precedence_keys (syntax ast.now)) (map entry_name (map span_entry table.now.entries))
+        taking.old taking.new }
 {
     for index in 0..table.len() {
         if let Some((name, _)) = table.get_index(index) {
