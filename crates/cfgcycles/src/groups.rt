@@ -25,8 +25,8 @@ pub struct CyclicGroup {
     pub cycle: Vec<Step>,
 }
 
-/// For each rule the group of cyclic rules of which it is the first, or `None` if it is the first of none. In total this
-/// takes the time of a few looks at each step.
+/// For each rule the group of cyclic rules of which it is the first, or `None` if it is the first of none. In total
+/// this takes the time of a few looks at each step.
 ///
 /// # Errors
 ///

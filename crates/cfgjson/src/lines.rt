@@ -30,8 +30,8 @@ pub trait JsonLine {
             (string_bytes out.old) (string_bytes out.new)) };
 }
 
-/// The lines of errors or warnings about the text of a file of this name, in order. The lines of the text are found once
-/// for all of them.
+/// The lines of errors or warnings about the text of a file of this name, in order. The lines of the text are found
+/// once for all of them.
 ///
 /// # Errors
 ///

@@ -39,8 +39,8 @@ pub(crate) fn push_cycles(
     push_reported(alloc, all, &targets, usize::from(grammar.rules_len()))
 }
 
-/// A grammar, its unit steps, and for each of its rules the group of cyclic rules of which it is the first, or `None` if
-/// it is the first of none.
+/// A grammar, its unit steps, and for each of its rules the group of cyclic rules of which it is the first, or `None`
+/// if it is the first of none.
 #[derive(Drop)]
 struct CyclicRules<'a> {
     grammar: &'a YaccGrammar<u32>,

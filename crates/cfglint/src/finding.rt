@@ -116,9 +116,7 @@ impl Spanned for Finding {
 
     fn spanskind(&self) -> SpansKind {
         match self.kind {
-            FindingKind::ShadowedRule
-            | FindingKind::IsCyclic
-            | FindingKind::RepeatedProduction => {
+            FindingKind::ShadowedRule | FindingKind::IsCyclic | FindingKind::RepeatedProduction => {
                 SpansKind::DuplicationError
             }
             _ => SpansKind::Error,

@@ -18,8 +18,8 @@ use cfgrammar::{Spanned, render_all};
 use std::alloc::{AllocError, Global};
 
 /// Reports a text's errors, or the findings about its grammar that the options don't allow, in the format that the
-/// options name: each with its line of the text and carets, or as a line of JSON. If no kind is requested, a text is read as the kind that its section names or, if it names none, as
-/// the kind without actions.
+/// options name: each with its line of the text and carets, or as a line of JSON. If no kind is requested, a text is
+/// read as the kind that its section names or, if it names none, as the kind without actions.
 #[derive(Clone, Copy, Debug)]
 pub struct Lints;
 
