@@ -1,4 +1,4 @@
-//! Notes on errors in a Yacc file, for whoever has to mend it: what was found where an error is, and what may be there.
+//! Notes that help to mend an error in a Yacc file: what was found where the error is, and what may be there.
 #![tactic(auto)]
 
 mod found;

@@ -20,7 +20,7 @@ module _ (t s : Syntax) (view : t ≡ s) (rules : List (String Global × AstRule
   pub same_name : (rule : List ℕ × Rule) → slice_get s.rules n ≡ Some rule → rule.0 ≡ string_bytes entry.0
   same_name rule given = ap (λ (r : List ℕ × Rule). r.0) (same_Some _ _ (sym given ∙ rule_at))
 
--- a bit that is read tells whether its key is marked
+-- a bit that is read is on exactly if its key is marked
 pub marked_as : (keys : List (List ℕ)) (P : List ℕ → Type 0) (bits : List Bool) → AreMarked keys P bits → (n : ℕ) (key : List ℕ) → slice_get keys n ≡ Some key
     → (read : Option Bool) → read ≡ slice_get bits n → (bit result : Bool) → bit ≡ unwrap_or read false → bit ≡ result → MatchBool result (P key) (P key → ⊥)
 marked_as keys P bits are n key at read got bit result is known = subst (λ b. MatchBool b (P key) (P key → ⊥))
