@@ -228,12 +228,12 @@ fn has_none(
 
 /// Reports the unproductive rules of a grammar.
 #[derive(Drop)]
-struct Rules<'a> {
+struct Rules<'a, 'g> {
     ast: &'a GrammarAST,
-    misses: &'a Unproductive<'a>,
+    misses: &'g Unproductive<'g>,
 }
 
-impl<'a> Reporter for Rules<'a> {
+impl<'a, 'g> Reporter for Rules<'a, 'g> {
     ghost use Rattle.std.specs.Prelude.{length};
     ghost use Rattle.cfgrammar.specs.TreeView.{syntax};
     ghost use Rattle.cfglint.specs.Findings.{ReportsNoSentence};
