@@ -4,6 +4,7 @@ use Rattle.std.proofs.lemmas.Fn.{always_returns_same}
 use Rattle.cfgrammar.specs.Numbered.{Numbered}
 use Rattle.cfglint.specs.Findings.{ReportsBelow, ReportsNoSentence, ReportsUnusable, ReportsUselessRule, ReportsUselessToken}
 use Rattle.cfglint.specs.Shown.{ShownFinding, offset_of}
+use Rattle.cfgrammar.specs.TreeView.{syntax}
 use Rattle.cfglint.proofs.found.findings.Goals as goal
 
 joined : (a0 a1 a2 a3 a4 a5 a6 n t h w u x y l r p : List ShownFinding) → a0 ≡ [] → a1 ≡ a0 ++ (n ++ (t ++ h)) → a2 ≡ a1 ++ (w ++ u)
