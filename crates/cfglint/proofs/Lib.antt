@@ -1,14 +1,2 @@
-pub mod FirstAlike
-pub mod TargetTexts
-pub mod Lacking
-pub mod Marking
 pub mod Noted
-pub mod OwnCycles
-pub mod Reached
-pub mod Read
 pub mod Rendered
-pub mod Reporting
-pub mod Shadowing
-pub mod Texts
-pub mod Unusable
-pub mod UsedRules

@@ -1,5 +1,2 @@
-pub mod Shown
-pub mod Useless
-pub mod Findings
 pub mod Reported
 pub mod Inner

@@ -24,8 +24,8 @@ use Rattle.cfglint_shell.specs.declared.levels.Levels.{Levels}
 use Rattle.cfglint_shell.specs.declared.linter.LintOptions.{LintOptions}
 use Rattle.cfglint_shell.specs.FindingKinds.{level_of, word_of}
 use Rattle.cfglint_shell.specs.Tally.{Printed}
-use Rattle.cfglint.specs.Findings.{AreFindings}
-use Rattle.cfglint.specs.Shown.{ShownFinding, spanskind_of}
+use Rattle.cfgfindings.specs.Findings.{AreFindings}
+use Rattle.cfgfindings.specs.Shown.{ShownFinding, spanskind_of}
 
 -- a finding that is reported, as an error or as a warning
 pub record Reported : Type 0 where

@@ -5,11 +5,11 @@ ghost use Rattle.cfgrammar.specs.Render.{RendersEach};
 ghost use Rattle.cfgjson.specs.Objects.{AreJsonLines, diagnostic_object};
 ghost use Rattle.cfglint.specs.Reported.{AreErrorLines, InFormat};
 
-use crate::found::findings;
 use crate::reported::{
     ReportedError, error_count, error_lines, reported_errors, reported_findings,
 };
 use cfgdriver::{TextReader, read_text_or};
+use cfgfindings::findings;
 use cfgjson::{JsonLine, json_lines};
 use cfglint_shell::{Format, Levels, LintOptions, Linter, Report};
 use cfgrammar::yacc::ast::GrammarAST;

@@ -9,7 +9,7 @@ ghost use Rattle.cfglint.specs.Inner.NotedErrors.{noted_errors};
 ghost use Rattle.cfglint.specs.Reported.{error_lines, error_offset, is_of_validation, is_shown, is_stopped};
 ghost use Rattle.cfglint.specs.Reported.{reported_by, stops_reading};
 
-use crate::finding::Finding;
+use cfgfindings::Finding;
 use cfgjson::{Diagnostic, JsonLine, push_line};
 use cfglint_shell::{Level, Levels};
 use cfgrammar::yacc::{YaccGrammarError, YaccGrammarErrorKind};
@@ -137,7 +137,7 @@ impl fmt::Display for ReportedFinding<'_> {
 }
 
 impl Spanned for ReportedFinding<'_> {
-    ghost use Rattle.cfglint.specs.Shown.{spanskind_of};
+    ghost use Rattle.cfgfindings.specs.Shown.{spanskind_of};
 
     ghost spans = { λ x. x.finding.spans };
 

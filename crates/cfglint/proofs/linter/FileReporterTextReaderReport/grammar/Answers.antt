@@ -1,7 +1,7 @@
 use Rattle.std.proofs.Common.{◌≡◌, List, length, count_by, map, string_bytes, ◌∙◌, ap, subst, arith}
 use Rattle.std.proofs.lemmas.List.Sums.{count_by-le-length}
 use Rattle.cfgjson.specs.Objects.{AreJsonLines, diagnostic_object}
-use Rattle.cfglint.specs.Shown.{spanskind_of}
+use Rattle.cfgfindings.specs.Shown.{spanskind_of}
 use Rattle.cfglint.specs.Reported.{Reported, finding_lines, finding_message, reported_by, shown_finding}
 use Rattle.cfglint.proofs.Rendered.{each_rendered, in_format}
 use Rattle.cfglint.proofs.linter.FileReporterTextReaderReport.grammar.Goals as goal

@@ -1,0 +1,29 @@
+use Rattle.std.proofs.Common.{◌<◌, ◌≤◌, arith, length, subst, sym, ◌∙◌}
+use Rattle.std.proofs.lemmas.List.Folds.{flat_map-map}
+use Rattle.cfgrammar.specs.SyntaxView.{symbol_view}
+use Rattle.cfgrammar.specs.AstSymbol.{Symbol}
+use Rattle.cfgrammar.specs.TreeView.{syntax}
+use Rattle.cfgfindings.specs.Inner.Marks.{Marks, rule_keys, rule_names}
+use Rattle.cfgfindings.proofs.Marking.{marks_all, marks_more, marks_none}
+use Rattle.cfgfindings.proofs.marks.mark_rules.Goals as goal
+
+pub loop-symbol-init : goal.loop-symbol-init
+loop-symbol-init c = marks_none _ _
+
+pub mark_symbol-requires : goal.mark_symbol-requires
+mark_symbol-requires c = c.loop-symbol.invariant.shape ∙ c.requires
+
+pub loop-symbol-preserved : goal.loop-symbol-preserved
+loop-symbol-preserved c =
+    let symbols = c.args.symbols.now in
+    let within : c.loop-symbol.symbol-index < length symbols = omega (arith, c.loop-symbol-test.true) in
+    marks_more (rule_keys (syntax c.args.ast.now)) (λ (symbol : Symbol). rule_names (symbol_view symbol)) symbols c.loop-symbol.symbol-index _ _ _ _ within c.symbol-item.is
+    c.loop-symbol.invariant c.mark_symbol.ensures
+
+pub returns : goal.returns
+returns c =
+    let s = syntax c.args.ast.now in
+    let symbols = c.args.symbols.now in
+    let past : length symbols ≤ c.loop-symbol.symbol-index = omega (arith, c.loop-symbol-test.false, c.loop-symbol.auto.symbol-index-end) in
+    subst (λ names. Marks (rule_keys s) names c.args.contained.now c.loop-symbol.contained) (sym (flat_map-map rule_names symbol_view symbols))
+    (marks_all (rule_keys s) (λ (symbol : Symbol). rule_names (symbol_view symbol)) symbols _ _ _ past c.loop-symbol.invariant)

@@ -1,0 +1,78 @@
+use Rattle.std.proofs.Common.{◌≡◌, ◌<◌, ◌++◌, ℕ, All, codes, length, map, string_bytes, refl, sym, subst, ap, ◌∙◌, arith}
+use Rattle.cfgrammar.specs.NumberedSymbols.{sym_of}
+use Rattle.cfgrammar.specs.Numbered.{Numbered, core}
+use Rattle.cfgrammar.specs.Accessors.{IsSymbolWithin}
+use Rattle.cfglint_shell.specs.declared.finding_kind.FindingKind.TheVariants.{UnusableProduction}
+use Rattle.cfgfindings.proofs.Read.{production_seen, rule_seen}
+use Rattle.cfgfindings.proofs.Texts.{shown_at, unusable_reported}
+use Rattle.cfgfindings.proofs.Unusable.{UsesByRules, first_read, is_unusable, not_unusable}
+use Rattle.cfgfindings.proofs.sentences.Unproductive.report_production.Goals as goal
+
+-- a production before the start rule's exists
+inside : (g h : Numbered) → h ≡ g → (p start : ℕ) → start ≡ h.start_production → start < length h.productions → p < g.start_production → p < length g.productions
+inside g h view p start is there before =
+    let begins : g.start_production ≡ h.start_production = ap (λ (n : Numbered). n.start_production) (sym view) in
+    let long : length g.productions ≡ length h.productions = ap (λ (n : Numbered). length n.productions) (sym view) in
+    omega arith
+
+stored : (g h : Numbered) → h ≡ g → (p start : ℕ) → start ≡ h.start_production → start < length h.productions → p < g.start_production
+    → (k : ℕ) → k ≡ p → k < length h.productions
+stored g h view p start is there before k same =
+    subst (λ (g : Numbered). k < length g.productions) (sym view) (subst (λ n. n < length g.productions) (sym same) (inside g h view p start is there before))
+
+pub prod_to_rule-requires : goal.prod_to_rule-requires
+prod_to_rule-requires c = stored c.args.self.now c.self.inside.grammar.now c.self.view_is c.args.number c.start_prod-start.result.0 c.start_prod-start.ensures.value c.start_prod-start.ensures.within c.requires c.to_storage.result c.to_storage.ensures
+
+pub prod-requires : goal.prod-requires
+prod-requires c = stored c.args.self.now c.self.inside.grammar.now c.self.view_is c.args.number c.start_prod-start.result.0 c.start_prod-start.ensures.value c.start_prod-start.ensures.within c.requires c.to_storage.result c.to_storage.ensures
+
+pub first_without-requires : goal.first_without-requires
+first_without-requires c = subst (λ g. All (IsSymbolWithin (λ s. s) g) c.prod.result.now) c.self.view_is c.prod.ensures.within
+
+pub rule_name_str-name-requires : goal.rule_name_str-name-requires
+rule_name_str-name-requires c = subst (λ (g : Numbered). c.in-Some.rule.0 < length g.rules) (sym c.self.view_is) c.in-Some.ensures.within
+
+pub prod_span-span-requires : goal.prod_span-span-requires
+prod_span-span-requires c = stored c.args.self.now c.self.inside.grammar.now c.self.view_is c.args.number c.start_prod-start.result.0 c.start_prod-start.ensures.value c.start_prod-start.ensures.within c.requires c.to_storage.result c.to_storage.ensures
+
+pub returns-in_default : goal.returns-in_default
+returns-in_default c =
+    let g = c.args.self.now in
+    let h = c.self.inside.grammar.now in
+    let view : h ≡ g = c.self.view_is in
+    let p = c.args.number in
+    let k = c.to_storage.result in
+    let same : k ≡ p = c.to_storage.ensures in
+    let law : UsesByRules g = c.usable_productions_hold_sentences.ensures (core g) in
+    let within = inside g h view p c.start_prod-start.result.0 c.start_prod-start.ensures.value c.start_prod-start.ensures.within c.requires in
+    let symbols = map (sym_of (λ (s : ℕ). s)) c.prod.result.now in
+    not_unusable g law p within symbols
+    (production_seen g h view p k same symbols (λ production. production.symbols) c.prod.ensures.value)
+    c.in_default.ensures.first
+
+pub returns : goal.returns
+returns c =
+    let g = c.args.self.now in
+    let h = c.self.inside.grammar.now in
+    let view : h ≡ g = c.self.view_is in
+    let p = c.args.number in
+    let k = c.to_storage.result in
+    let same : k ≡ p = c.to_storage.ensures in
+    let law : UsesByRules g = c.usable_productions_hold_sentences.ensures (core g) in
+    let within = inside g h view p c.start_prod-start.result.0 c.start_prod-start.ensures.value c.start_prod-start.ensures.within c.requires in
+    let rule = c.prod_to_rule.result.0 in
+    let symbols = map (sym_of (λ (s : ℕ). s)) c.prod.result.now in
+    let owner = production_seen g h view p k same rule (λ production. production.rule) c.prod_to_rule.ensures.value in
+    let held = production_seen g h view p k same symbols (λ production. production.symbols) c.prod.ensures.value in
+    let q = c.in-Some.rule.0 in
+    let name = c.rule_name_str-name.result.now in
+    let span = c.prod_span-span.result in
+    let text : string_bytes c.in_ok-text.text ≡ codes "Unusable production: rule '" ++ (name ++ codes "' has no sentence") = c.in_ok-text.ensures.ok in (
+      is_unusable g law p within symbols held rule owner c.requires c.if-misses.ensures q c.in-Some.ensures.first,
+      q,
+      first_read g law p within symbols held q c.in-Some.ensures.first,
+      c.in_ok-at.ensures ∙ ap (shown_at UnusableProduction span) text
+          ∙ unusable_reported g q name span
+          (rule_seen g h view q q refl name (λ rule. rule.name) c.rule_name_str-name.ensures) p
+          (production_seen g h view p k same span (λ production. production.span) c.prod_span-span.ensures),
+    )

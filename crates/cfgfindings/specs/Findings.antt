@@ -1,0 +1,226 @@
+-- The findings about a grammar without errors, given its syntax and its numbers. None are about rules and productions that the file doesn't
+-- have.
+use Rattle.std.specs.Prelude.{◌≡◌, ◌↔◌, ◌⊎◌, ℕ, ◌+◌, ◌<◌, ◌≤◌, List, [], ◌∷◌, ◌++◌, Contains, Option, Some, None, if◌then◌else◌, is_some, length, map, slice_get}
+use Rattle.std.specs.List.Sorted.{IsPermutation, IsSortedByKey, IsStableByKey, IsStrictlyIncreasing}
+use Rattle.std.specs.Ordering.{nat_cmp}
+use Rattle.cfgrammar.specs.Grammar.{Sym, Rule, Token, HasProduction}
+use Rattle.cfgrammar.specs.Sentence.{Sentence}
+use Rattle.cfgrammar.specs.UnitPaths.{DerivesRule, IsCyclic}
+use Rattle.cfgrammar.specs.StepPaths.{IsShortestCycle}
+use Rattle.cfgrammar.specs.UnitSteps.{IsStep}
+use Rattle.cfgrammar.specs.Uses.{IsUsable}
+use Rattle.cfgrammar.specs.Step.{Step}
+use Rattle.cfgrammar.specs.Span.{Span}
+use Rattle.cfgrammar.specs.Generator.{HasNone}
+use Rattle.cfgrammar.specs.Syntax.{Production, Rule as SyntaxRule, Syntax}
+use Rattle.cfgrammar.specs.Precedence.{Precedence}
+use Rattle.cfgrammar.specs.Unused.{IsStart, IsUnused, RuleName, TokenName, entry_token, name_of}
+use Rattle.cfgrammar.specs.Openings.{nth_production}
+use Rattle.cfgrammar.specs.Numbered.{Numbered, core}
+use Rattle.cfgfindings.specs.Shown.{ShownFinding, cyclic_finding, no_sentence, offset_of, repeated, rule_name, shadowed_rule, start_without_sentence, unusable, unused_precedence, unused_rule, unused_token, useless_rule, useless_token}
+use Rattle.cfgfindings.specs.Useless.{IsUseless}
+
+-- The findings for the numbers below this one, in order: `Reports n (Some finding)` says that this is the finding for n, and `Reports n None`
+-- that there is none.
+pub data ReportsBelow (Reports : ℕ → Option ShownFinding → Type 0) : ℕ → List ShownFinding → Type 0 where
+  none : ReportsBelow Reports 0 []
+  reported : {n : ℕ} {findings : List ShownFinding} {finding : ShownFinding}
+      → ReportsBelow Reports n findings → Reports n (Some finding) → ReportsBelow Reports (n + 1) (findings ++ finding ∷ [])
+  left : {n : ℕ} {findings : List ShownFinding}
+      → ReportsBelow Reports n findings → Reports n None → ReportsBelow Reports (n + 1) findings
+
+module _ (g : Numbered) where
+  -- how many rules are added before those of the file: the start rule, and in a file with implicit tokens two more for these
+  abbrev pub rules_added : ℕ
+  rules_added = if is_some g.implicit_rule then 3 else 1
+
+  -- a rule of the file that has no sentence
+  pub record IsUnproductiveRule (r : ℕ) : Type 0 where
+    pub ours : rules_added ≤ r
+    pub none : HasNone (HasProduction (core g)) r
+
+  -- a production of the file that no sentence of its rule uses, although the rule has one
+  pub record IsUnusable (p : ℕ) : Type 0 where
+    pub ours : p < g.start_production
+    pub sentence : List ℕ
+    pub is : Sentence (HasProduction (core g)) (nth_production (core g) p).rule sentence
+    pub unused : IsUsable (HasProduction (core g)) (nth_production (core g) p).rule (nth_production (core g) p).symbols → ⊥
+
+  -- the first unproductive rule among the symbols
+  pub record IsFirstWithout (symbols : List Sym) (q : ℕ) : Type 0 where
+    pub prefix : List Sym
+    pub back : List Sym
+    pub holds : symbols ≡ prefix ++ Rule q ∷ back
+    pub none : HasNone (HasProduction (core g)) q
+    pub before : (r : ℕ) → Contains prefix (Rule r) → HasNone (HasProduction (core g)) r → ⊥
+
+  abbrev pub ReportsUnusable : ℕ → Option ShownFinding → Type 0
+  ReportsUnusable p (Some finding) = IsUnusable p × (q : ℕ) × IsFirstWithout (nth_production (core g) p).symbols q × (finding ≡ unusable g p q)
+  ReportsUnusable p None = IsUnusable p → ⊥
+
+  -- a rule of the file that is productive, but reachable only through unusable productions
+  pub record IsUselessRule (r : ℕ) : Type 0 where
+    pub ours : rules_added ≤ r
+    pub sentence : List ℕ
+    pub is : Sentence (HasProduction (core g)) r sentence
+    pub useless : IsUseless (core g) (Rule r)
+
+  abbrev pub ReportsUselessRule : ℕ → Option ShownFinding → Type 0
+  ReportsUselessRule r (Some finding) = IsUselessRule r × (finding ≡ useless_rule g r)
+  ReportsUselessRule r None = IsUselessRule r → ⊥
+
+  -- such a token, other than the end token, which has no name
+  pub record IsUselessToken (t : ℕ) : Type 0 where
+    pub named : t + 1 < length g.tokens
+    pub useless : IsUseless (core g) (Token t)
+
+  abbrev pub ReportsUselessToken : ℕ → Option ShownFinding → Type 0
+  ReportsUselessToken t (Some finding) = IsUselessToken t × (finding ≡ useless_token g t)
+  ReportsUselessToken t None = IsUselessToken t → ⊥
+
+  -- a ⇒+ b ⇒+ a
+  pub record DeriveEachOther (a b : ℕ) : Type 0 where
+    pub there : DerivesRule (HasProduction (core g)) a b
+    pub back : DerivesRule (HasProduction (core g)) b a
+
+  -- The rule with the number `first` is cyclic, so that each of its sentences has infinitely many parse trees. Of the rules that it derives
+  -- and that derive it, it has the lowest number, and those of the file are exactly `rules`, in ascending order.
+  pub record IsCyclicGroup (first : ℕ) (rules : List ℕ) : Type 0 where
+    pub cyclic : IsCyclic (HasProduction (core g)) first
+    pub least : (rule : ℕ) → DeriveEachOther first rule → first ≤ rule
+    pub ascending : IsStrictlyIncreasing rules
+    pub all : (rule : ℕ) → Contains rules rule ↔ ((rules_added ≤ rule) × DeriveEachOther first rule)
+
+  -- the finding for the group whose first rule has this number, if it has rules of the file: the first of these is r
+  abbrev pub ReportsGroup : ℕ → Option ShownFinding → Type 0
+  ReportsGroup first (Some finding) = (r : ℕ) × (others : List ℕ) × (path : List Step) × IsCyclicGroup first (r ∷ others)
+      × IsShortestCycle (IsStep (core g)) r path × (finding ≡ cyclic_finding g r (r ∷ others) path)
+  ReportsGroup first None = (r : ℕ) (others : List ℕ) → IsCyclicGroup first (r ∷ others) → ⊥
+
+  -- an earlier production of the same rule with the same symbols
+  pub record IsTwin (p earlier : ℕ) : Type 0 where
+    pub ours : p < g.start_production
+    pub before : earlier < p
+    pub rule : (nth_production (core g) earlier).rule ≡ (nth_production (core g) p).rule
+    pub symbols : (nth_production (core g) earlier).symbols ≡ (nth_production (core g) p).symbols
+
+  -- if there are several, the finding is about the first
+  abbrev pub ReportsRepeated : ℕ → Option ShownFinding → Type 0
+  ReportsRepeated p (Some finding) = (earlier : ℕ) × IsTwin p earlier × ((other : ℕ) → IsTwin p other → earlier ≤ other) × (finding ≡ repeated g p earlier)
+  ReportsRepeated p None = (earlier : ℕ) → IsTwin p earlier → ⊥
+
+-- the rule with this number has the name of the file's start rule
+abbrev pub IsStartRule : Syntax → Numbered → ℕ → Type 0
+IsStartRule s g r = IsStart s (RuleName (rule_name g r))
+
+-- unproductive rules, of which the start rule has a finding of its own
+abbrev pub ReportsNoSentence : Syntax → Numbered → ℕ → Option ShownFinding → Type 0
+ReportsNoSentence s g r (Some finding) = IsUnproductiveRule g r
+    × ((IsStartRule s g r × (finding ≡ start_without_sentence g r)) ⊎ ((IsStartRule s g r → ⊥) × (finding ≡ no_sentence g r)))
+ReportsNoSentence s g r None = IsUnproductiveRule g r → ⊥
+
+module _ (s : Syntax) where
+  -- a production contains the rule with this name
+  pub record IsContained (name : List ℕ) : Type 0 where
+    pub production : Production
+    pub listed : Contains s.productions production
+    pub holds : Contains (map name_of production.symbols) (RuleName name)
+
+  -- A rule's name is that of the token that first occurs at this span, and no production contains the rule: where its name is meant to be
+  -- the rule, it is the token. The start rule is used all the same, unless a `%token` declares the token.
+  pub record IsShadowed (name : List ℕ) (span : Span) : Type 0 where
+    pub index : ℕ
+    pub token : slice_get s.tokens index ≡ Some name
+    pub there : slice_get s.spans index ≡ Some span
+    pub unused : IsContained name → ⊥
+    pub declared : IsStart s (RuleName name) → Contains s.token_directives index
+
+  -- the n-th rule is shadowed by the token that first occurs at this span
+  pub record IsShadowedRule (n : ℕ) (rule : List ℕ × SyntaxRule) (token : Span) : Type 0 where
+    pub given : slice_get s.rules n ≡ Some rule
+    pub shadowed : IsShadowed rule.0 token
+
+  abbrev pub ReportsShadowedRule : ℕ → Option ShownFinding → Type 0
+  ReportsShadowedRule n (Some finding) =
+      (rule : List ℕ × SyntaxRule) × (token : Span) × IsShadowedRule n rule token × (finding ≡ shadowed_rule rule.0 rule.1.name.span token)
+  ReportsShadowedRule n None = (rule : List ℕ × SyntaxRule) (token : Span) → IsShadowedRule n rule token → ⊥
+
+  -- the n-th rule is unused, and not shadowed
+  pub record IsUnusedRule (n : ℕ) (rule : List ℕ × SyntaxRule) : Type 0 where
+    pub given : slice_get s.rules n ≡ Some rule
+    pub unused : IsUnused s (RuleName rule.0)
+    pub own : (token : Span) → IsShadowed rule.0 token → ⊥
+
+  abbrev pub ReportsUnusedRule : ℕ → Option ShownFinding → Type 0
+  ReportsUnusedRule n (Some finding) = (rule : List ℕ × SyntaxRule) × IsUnusedRule n rule × (finding ≡ unused_rule rule.0 rule.1.name.span)
+  ReportsUnusedRule n None = (rule : List ℕ × SyntaxRule) → IsUnusedRule n rule → ⊥
+
+  -- A production's `%prec` names the token, which then exists for its precedence. If a production has several `%prec`s, the last one counts.
+  pub record IsRequested (name : List ℕ) : Type 0 where
+    pub production : Production
+    pub listed : Contains s.productions production
+    pub requested : production.precedence ≡ Some name
+
+  -- the n-th token, which first occurs at this span, is unused, and no production's `%prec` names it
+  pub record IsUnusedToken (n : ℕ) (name : List ℕ) (span : Span) : Type 0 where
+    pub token : slice_get s.tokens n ≡ Some name
+    pub there : slice_get s.spans n ≡ Some span
+    pub unused : IsUnused s (TokenName name)
+    pub free : IsRequested name → ⊥
+
+  abbrev pub ReportsUnusedToken : ℕ → Option ShownFinding → Type 0
+  ReportsUnusedToken n (Some finding) = (name : List ℕ) × (span : Span) × IsUnusedToken n name span × (finding ≡ unused_token name span)
+  ReportsUnusedToken n None = (name : List ℕ) (span : Span) → IsUnusedToken n name span → ⊥
+
+  -- A token with this name is used: a production contains it, or a production's `%prec` names it, or it is an implicit token.
+  pub data TakesPart (name : List ℕ) : Type 0 where
+    held : {production : Production} → Contains s.productions production → Contains (map name_of production.symbols) (TokenName name) → TakesPart name
+    requested : IsRequested name → TakesPart name
+    implicit : {table : List (List ℕ × Span)} → s.tables.implicit_tokens ≡ Some table → Contains (map entry_token table) (TokenName name) → TakesPart name
+
+  -- the n-th token that is given a precedence isn't used; most often its name is misspelled
+  pub record IsIdle (n : ℕ) (name : List ℕ) (span : Span) : Type 0 where
+    pub precedence : Precedence
+    pub given : slice_get s.tables.precedences n ≡ Some (name, (precedence, span))
+    pub idle : TakesPart name → ⊥
+
+  abbrev pub ReportsPrecedence : ℕ → Option ShownFinding → Type 0
+  ReportsPrecedence n (Some finding) = (name : List ℕ) × (span : Span) × IsIdle n name span × (finding ≡ unused_precedence name span)
+  ReportsPrecedence n None = (name : List ℕ) (span : Span) → IsIdle n name span → ⊥
+
+-- the findings for rules and tokens of the syntax, then those for rules, productions and precedences, one list after the other
+pub record AreReportedInTurn (s : Syntax) (g : Numbered) (reported : List ShownFinding) : Type 0 where
+  pub unused_rules : List ShownFinding
+  pub unused_tokens : List ShownFinding
+  pub shadowed : List ShownFinding
+  pub without : List ShownFinding
+  pub unusable_productions : List ShownFinding
+  pub useless_rules : List ShownFinding
+  pub useless_tokens : List ShownFinding
+  pub cycles : List ShownFinding
+  pub repeats : List ShownFinding
+  pub precedences : List ShownFinding
+  pub are_unused_rules : ReportsBelow (ReportsUnusedRule s) (length s.rules) unused_rules
+  pub are_unused_tokens : ReportsBelow (ReportsUnusedToken s) (length s.tokens) unused_tokens
+  pub are_shadowed : ReportsBelow (ReportsShadowedRule s) (length s.rules) shadowed
+  pub are_without : ReportsBelow (ReportsNoSentence s g) (length g.rules) without
+  pub are_unusable_productions : ReportsBelow (ReportsUnusable g) g.start_production unusable_productions
+  pub are_useless_rules : ReportsBelow (ReportsUselessRule g) (length g.rules) useless_rules
+  pub are_useless_tokens : ReportsBelow (ReportsUselessToken g) (length g.tokens) useless_tokens
+  pub are_cycles : ReportsBelow (ReportsGroup g) (length g.rules) cycles
+  pub are_repeats : ReportsBelow (ReportsRepeated g) g.start_production repeats
+  pub are_precedences : ReportsBelow (ReportsPrecedence s) (length s.tables.precedences) precedences
+  pub is : reported ≡ unused_rules ++ (unused_tokens ++ (shadowed
+      ++ (without ++ (unusable_productions ++ (useless_rules ++ (useless_tokens ++ (cycles ++ (repeats ++ precedences))))))))
+
+-- the same findings sorted by offset; those at the same offset stay in their order
+pub record AreByOffset (reported all : List ShownFinding) : Type 0 where
+  pub same : IsPermutation reported all
+  pub sorted : IsSortedByKey offset_of nat_cmp all
+  pub stable : IsStableByKey offset_of nat_cmp reported all
+
+-- all findings, each once
+pub record AreFindings (s : Syntax) (g : Numbered) (all : List ShownFinding) : Type 0 where
+  pub reported : List ShownFinding
+  pub in_turn : AreReportedInTurn s g reported
+  pub by_offset : AreByOffset reported all

@@ -1,0 +1,4 @@
+pub mod Shown
+pub mod Useless
+pub mod Findings
+pub mod Inner

@@ -1,0 +1,125 @@
+//! Findings about a grammar, and where they are.
+
+ghost use Rattle.std.specs.Prelude.{◌≡◌, [], ◌∷◌, IfOk, Some, string_bytes};
+ghost use Rattle.cfgfindings.specs.Shown.{offset_of};
+
+pub use cfglint_shell::FindingKind;
+use cfgrammar::{Span, Spanned, SpansKind};
+use std::alloc::{AllocError, Global};
+use std::fmt;
+use std::marker::Model;
+
+/// A finding about a grammar, at one or more spans.
+#[derive(Debug, Drop)]
+pub struct Finding {
+    kind: FindingKind,
+    spans: Vec<Span>,
+    text: String,
+}
+
+impl Model for Finding {
+    ghost use Rattle.std.specs.Prelude.{string_bytes};
+    ghost use Rattle.cfgfindings.specs.Shown.{ShownFinding};
+
+    ghost Value = { ShownFinding };
+
+    ghost view = { λ x. record { kind = x.kind; spans = x.spans.items; text = string_bytes x.text } };
+}
+
+impl Finding {
+    /// A finding of this kind, with its spans and its text.
+    pub(crate) fn new(kind: FindingKind, spans: Vec<Span>, text: String) -> Finding
+        ensures { result ≡ record { kind = kind; spans = spans.items; text = string_bytes text } }
+    {
+        Finding { kind, spans, text }
+    }
+
+    /// A finding at one span.
+    pub(crate) fn at(
+        alloc: Global,
+        kind: FindingKind,
+        span: Span,
+        text: String,
+    ) -> Result<Finding, AllocError>
+        ensures { IfOk result (λ x. x ≡ record { kind = kind; spans = span ∷ []; text = string_bytes text }) }
+    {
+        let mut spans = Vec::new(alloc);
+        spans.push(span)?;
+        Ok(Finding { kind, spans, text })
+    }
+
+    /// A finding at two spans, in this order.
+    pub(crate) fn at_both(
+        alloc: Global,
+        kind: FindingKind,
+        span: Span,
+        other: Span,
+        text: String,
+    ) -> Result<Finding, AllocError>
+        ensures { IfOk result (λ x. x ≡ record {
+          kind = kind;
+          spans = span ∷ (other ∷ []);
+          text = string_bytes text;
+        }) }
+    {
+        let mut spans = Vec::new(alloc);
+        spans.push(span)?;
+        spans.push(other)?;
+        Ok(Finding { kind, spans, text })
+    }
+
+    /// Its offset in bytes: the start of its first span.
+    pub(crate) fn offset(&self) -> usize
+        ensures { result ≡ offset_of self.now }
+    {
+        match self.spans.first() {
+            Some(span) => span.start(),
+            None => 0,
+        }
+    }
+
+    /// The kind of the finding.
+    pub fn kind(&self) -> FindingKind
+        ensures { result ≡ self.now.kind }
+    {
+        self.kind
+    }
+
+    /// The text of the finding.
+    pub fn text(&self) -> &str
+        ensures { result.now ≡ self.now.text }
+    {
+        &self.text
+    }
+}
+
+impl fmt::Display for Finding {
+    ghost output = { λ x. Some x.text };
+
+    ghost styled_output = { λ x _. Some x.text };
+
+    fn fmt<W: fmt::Write>(&self, f: &mut fmt::Formatter<W>) -> fmt::Result {
+        f.write_str(&self.text)
+    }
+}
+
+impl Spanned for Finding {
+    ghost use Rattle.cfgfindings.specs.Shown.{spanskind_of};
+
+    ghost spans = { λ x. x.spans };
+
+    ghost spanskind = { λ x. spanskind_of x.kind };
+
+    fn spans(&self) -> &[Span] {
+        self.spans.as_slice()
+    }
+
+    fn spanskind(&self) -> SpansKind {
+        match self.kind {
+            FindingKind::ShadowedRule | FindingKind::IsCyclic | FindingKind::RepeatedProduction => {
+                SpansKind::DuplicationError
+            }
+            _ => SpansKind::Error,
+        }
+    }
+}

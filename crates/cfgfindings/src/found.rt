@@ -1,0 +1,41 @@
+//! All findings about a grammar.
+
+ghost use Rattle.std.specs.Prelude.{◌≡◌, IfOk};
+ghost use Rattle.cfgrammar.specs.TreeView.{syntax};
+ghost use Rattle.cfgfindings.specs.Findings.{AreFindings};
+
+use crate::cyclic_rules::push_cycles;
+use crate::finding::Finding;
+use crate::precedences::push_precedences;
+use crate::repeats::push_repeats;
+use crate::sentences::{Unproductive, push_sentences};
+use crate::unused::push_unused;
+use crate::useless::push_useless;
+use cfgrammar::yacc::YaccGrammar;
+use cfgrammar::yacc::ast::GrammarAST;
+use std::alloc::{AllocError, Global};
+
+/// The findings about a grammar without errors, by offset; those at the same offset are in the order of
+/// [`FindingKind`](crate::FindingKind). `ast` is the tree of the text, and `grammar` its numbers.
+///
+/// # Errors
+///
+/// Out of memory.
+pub fn findings(
+    alloc: Global,
+    ast: &GrammarAST,
+    grammar: &YaccGrammar<u32>,
+) -> Result<Vec<Finding>, AllocError>
+    ensures { IfOk result (λ all. AreFindings (syntax ast.now) grammar.now all.items) }
+{
+    let mut all = Vec::new(alloc);
+    push_unused(alloc, &mut all, ast)?;
+    let unproductive = Unproductive::new(alloc, grammar)?;
+    push_sentences(alloc, &mut all, ast, &unproductive)?;
+    push_useless(alloc, &mut all, &unproductive)?;
+    push_cycles(alloc, &mut all, grammar)?;
+    push_repeats(alloc, &mut all, grammar)?;
+    push_precedences(alloc, &mut all, ast)?;
+    all.sort_by_key(|finding| finding.offset())?;
+    Ok(all)
+}

@@ -1,0 +1,18 @@
+//! The findings about the grammar of a file.
+#![tactic(auto)]
+
+mod added;
+mod cyclic_rules;
+pub mod finding;
+mod found;
+mod marks;
+mod names;
+mod precedences;
+mod repeats;
+mod reporter;
+mod sentences;
+mod unused;
+mod useless;
+
+pub use finding::{Finding, FindingKind};
+pub use found::findings;
