@@ -1,5 +1,5 @@
 -- The spans of a grammar are those of its syntax, or (0,0).
-use Rattle.std.proofs.Common.{ℕ, List, [], ◌∷◌, map, length, All, Option, Some, None, option_map, Err, sym, subst, arith}
+use Rattle.std.proofs.Common.{ℕ, List, [], ◌∷◌, map, length, All, Option, Some, None, option_map, sym, subst, arith}
 use Rattle.std.specs.List.{zip}
 use Rattle.std.specs.Prelude.{IfSome}
 use Rattle.std.specs.Str.{IsUtf8}
@@ -17,7 +17,7 @@ use Rattle.cfgerrors.specs.declared.error.YaccFault.{YaccFault}
 use Rattle.cfgerrors.specs.declared.error.YaccFault.TheVariants as faults
 use Rattle.cfgyacc.specs.Answer.{IsTooSmall}
 use Rattle.cfgnumbers.specs.Numbered.{implicit_of, numbered, numbered_by, added_rules, file_rule, added_productions, file_production, end_token, file_token}
-use Rattle.cfgyacc.specs.GrammarSpans.{EachGrammarSpan, EachAnswerSpan}
+use Rattle.cfgyacc.specs.GrammarSpans.{EachGrammarSpan}
 use Rattle.cfgnumbers.proofs.Added.{All-added_rules, All-added_productions}
 
 part_span : {A : Type 0} (P : Span → Type 0) (span : A → Span) (o : Option A) → IfSome o (λ x. P (span x)) → IfSome (option_map span o) P
@@ -60,11 +60,6 @@ module _ (P Q : Span → Type 0) (added : P nowhere) where
   pub grammar_spans : (kind : YaccKind) (s : Syntax) → EachSpan P Q s → EachGrammarSpan P Q (numbered kind s)
   unfolding numbered
   grammar_spans kind s each = numbered_spans (implicit_of kind s) s each
-
-  -- the spans of a fault are those of the result that it is
-  pub fault_spans : (fault : YaccFault) → EachFaultSpan P fault → EachAnswerSpan P Q (Err fault)
-  fault_spans faults.OutOfMemory each = tt
-  fault_spans (faults.Errors list) each = each
 
 -- the error for a grammar that is too large
 module _ (P : Span → Type 0) (added : P nowhere) where
