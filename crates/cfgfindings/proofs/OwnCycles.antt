@@ -10,7 +10,7 @@ use Rattle.std.proofs.lemmas.Option.{get_or_from_slice_get, same_Some, slice_get
 use Rattle.cfgrammar.proofs.Contained.{contains_cases, contains_first, contains_later, contains_none}
 use Rattle.cfgrammar.specs.Grammar.{Grammar, HasProduction}
 use Rattle.cfgrammar.specs.Numbered.{Numbered, core}
-use Rattle.cfgrammar.specs.UnitPaths.{DerivesRule, IsCyclic}
+use Rattle.cfgrammar.specs.UnitPaths.{DerivesRule}
 use Rattle.cfgrammar.specs.CyclicGroup.{CyclicGroup}
 use Rattle.cfgrammar.specs.CyclicGroups.{AreGroups, IsFirst, IsGroup, IsGroupOf, LeadsTo, OnCommonCycle}
 use Rattle.cfgrammar.specs.StepLists.{HasStep}

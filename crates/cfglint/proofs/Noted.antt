@@ -1,6 +1,5 @@
 -- The errors that are shown, each with its note.
 use Rattle.std.proofs.Common.{◌≡◌, ℕ, Bool, true, false, List, [], ◌∷◌, map, refl, ap}
-use Rattle.std.proofs.lemmas.Bool.{cases_Bool}
 use Rattle.std.specs.List.{filter}
 use Rattle.cfgrammar.specs.Errors.{GrammarError}
 use Rattle.cfglint.specs.Inner.NotedErrors.{noted_errors}

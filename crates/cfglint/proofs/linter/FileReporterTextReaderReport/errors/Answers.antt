@@ -1,6 +1,5 @@
 use Rattle.std.proofs.Common.{◌≡◌, List, length, string_bytes, ◌∙◌, ap, arith, refl, subst}
 use Rattle.std.proofs.lemmas.List.{length-map}
-use Rattle.cfgrammar.specs.Errors.{GrammarError}
 use Rattle.cfglint.specs.Reported.{AreErrorLines, NotedError, is_stopped, noted, shown_errors}
 use Rattle.cfglint.proofs.Noted.{noted_are}
 use Rattle.cfglint.proofs.linter.FileReporterTextReaderReport.errors.Goals as goal
