@@ -1,5 +1,5 @@
 -- The text for a cyclic rule.
-use Rattle.std.proofs.Common.{◌≡◌, ℕ, ◌+◌, ◌-◌, ◌<◌, ◌≤◌, List, [], ◌∷◌, ◌++◌, All, Option, Some, None, option_map, codes, drop, length, map, slice_get, take, unwrap_or, arith, refl, sym, ap, subst, ◌∙◌, append_assoc}
+use Rattle.std.proofs.Common.{◌≡◌, ℕ, ◌+◌, ◌-◌, ◌<◌, ◌≤◌, List, ◌++◌, All, Option, Some, None, option_map, codes, drop, length, map, slice_get, take, unwrap_or, arith, refl, sym, ap, subst, ◌∙◌, append_assoc}
 use Rattle.std.proofs.lemmas.List.{drop-drop, drop-map, length-drop, length-map, take-map, take_all}
 use Rattle.std.proofs.lemmas.Option.{get_or_from_slice_get, same_Some, slice_get-map, slice_get_within}
 use Rattle.std.specs.List.{flat_map}
