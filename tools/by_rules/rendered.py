@@ -1,4 +1,6 @@
 """Errors and findings as people read them: "Errors as people read them"."""
+import unicodedata
+
 from .faults import position
 
 
@@ -9,11 +11,16 @@ def begins_character(byte):
 WIDTH, LEAD = 160, 40
 
 
+def visible(text):
+    """A text with the escape of each control character other than a tab in its place."""
+    return ''.join('\\u{%x}' % ord(c) if c != '\t' and unicodedata.category(c) == 'Cc' else c for c in text)
+
+
 def shown(name, t, message, span):
     """A message at a span, the line in which the span starts, and carets under it."""
     start, end = span
     if start > len(t) or start < len(t) and not begins_character(t[start]):
-        return ['%s: %s' % (name, message)]
+        return ['%s: %s' % (name, visible(message))]
     begin, stop = t.rfind(b'\n', 0, start) + 1, (t + b'\n').find(b'\n', start)
     if stop < len(t) and t[begin:stop].endswith(b'\r'):
         stop -= 1
@@ -22,17 +29,17 @@ def shown(name, t, message, span):
     first = max(0, len(before) - LEAD) if len(line) > WIDTH else 0
     last = min(len(line), first + WIDTH)
     cut, is_long = '...' if first else '', '...' if last < len(line) else ''
-    under = ' ' * len(cut) + ''.join('\t' if c == '\t' else ' ' for c in before[first:])
-    carets = min(covered, last - len(before)) or 1
-    head = '%s:%d:%d: %s' % (name, *position(t, start), message)
-    return [head, cut + line[first:last] + is_long, under + '^' * carets]
+    under = ' ' * len(cut) + ''.join('\t' if c == '\t' else ' ' * len(visible(c)) for c in before[first:])
+    carets = len(visible(line[len(before):min(len(before) + covered, last)])) or 1
+    head = '%s:%d:%d: %s' % (name, *position(t, start), visible(message))
+    return [head, cut + visible(line[first:last]) + is_long, under + '^' * carets]
 
 
 def note(name, t, words, offset):
     """The line of a note at an offset of the text."""
     if offset > len(t) or offset < len(t) and not begins_character(t[offset]):
-        return '%s: note: %s' % (name, words)
-    return '%s:%d:%d: note: %s' % (name, *position(t, offset), words)
+        return '%s: note: %s' % (name, visible(words))
+    return '%s:%d:%d: note: %s' % (name, *position(t, offset), visible(words))
 
 
 def rendered(name, t, message, spans, spans_kind):

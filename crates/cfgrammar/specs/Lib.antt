@@ -8,6 +8,7 @@ pub use Rattle.cfglines.specs.Characters
 pub use Rattle.cfglines.specs.FeedTexts
 pub use Rattle.cfglines.specs.Lines
 pub use Rattle.cfgrender.specs.Render
+pub use Rattle.cfgrender.specs.Visible
 -- Indices, and the marked map.
 pub use Rattle.cfgindex.specs.SymbolCopies
 pub use Rattle.cfgindex.specs.BitWords

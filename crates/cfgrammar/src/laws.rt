@@ -26,7 +26,7 @@ pub use derivation::{
 pub use cfgast::built_is_syntax;
 pub use cfgkinds::laws::{kinds_come_back, refusals_have_offsets};
 pub use cfgreader::file_is_graph;
-pub use cfgrender::laws::{carets_begin_at_column, carets_count_characters};
+pub use cfgrender::laws::{carets_begin_at_column, carets_count_characters, shows_no_controls};
 pub use cfgsection::section::{
     entry_is_graph, section_errors_are_at_offsets, section_is_graph, section_returns_its_reading,
 };

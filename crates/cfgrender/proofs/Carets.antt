@@ -1,44 +1,48 @@
--- A piece of a text has as many columns below it as characters.
-use Rattle.std.proofs.Common.{◌≡◌, ℕ, ◌==◌, Bool, true, false, if◌then◌else◌, cond, List, [], ◌∷◌, length, length-append, count_by, chars, ◌∙◌, refl, arith}
-use Rattle.std.proofs.lemmas.Bool.{cond_both, eqb-true}
-use Rattle.std.proofs.lemmas.List.Sums.{sum_by-cons}
-use Rattle.std.specs.List.{flat_map}
-use Rattle.std.specs.Str.{IsUtf8}
-use Rattle.cfglines.specs.Characters.{begins_character}
-use Rattle.cfglines.proofs.Characters.{begins_low, characters_begin}
+-- What is below a piece of a text is as wide as what shows the piece.
+use Rattle.std.proofs.Common.{◌≡◌, ℕ, zero, suc, ◌==◌, Bool, true, false, if◌then◌else◌, List, [], ◌∷◌, ◌++◌, codes, length, length-append, chars, sym, ap, ◌∙◌, refl, arith}
+use Rattle.std.proofs.lemmas.Bool.{cond_both}
+use Rattle.std.specs.List.{flat_map, repeat}
 use Rattle.cfgrender.specs.Render.{under_prefix, under_span}
+use Rattle.cfgrender.specs.Visible.{is_escaped, shown_as}
+use Rattle.cfgrender.proofs.Shown.{shown_one, tab_itself}
 
--- what is one column wide under a byte that begins a character, and empty under any other
-abbrev IsColumn : (ℕ → List ℕ) → Type 0
-IsColumn under = (byte : ℕ) → length (under byte) ≡ cond (begins_character byte) 1 0
+pub under_tab : (c : ℕ) → (c == 9) ≡ true → codes "\t" ≡ under_prefix c
+unfolding under_prefix
+under_tab c tab = sym (ap (λ (tab : Bool). if tab then codes "\t" else repeat (length (shown_as c)) (codes " ")) tab)
 
-begun_columns : (under : ℕ → List ℕ) → IsColumn under → (bytes : List ℕ)
-    → length (flat_map under bytes) ≡ count_by begins_character bytes
-begun_columns under one [] = refl
-begun_columns under one (byte ∷ bytes) =
-    let here = one byte in
-    let rest = begun_columns under one bytes in
-    let both = length-append (under byte) (flat_map under bytes) in
-    let count = sum_by-cons (λ b. cond (begins_character b) 1 0) byte bytes in
-    omega arith
+pub under_other : (c n : ℕ) → (c == 9) ≡ false → length (shown_as c) ≡ n → repeat n (codes " ") ≡ under_prefix c
+unfolding under_prefix
+under_other c n other wide = sym (ap (λ (tab : Bool). if tab then codes "\t" else repeat (length (shown_as c)) (codes " ")) other
+    ∙ ap (λ n. repeat n (codes " ")) wide)
 
-is_column : (begins : Bool) (mark : ℕ) → length (if begins then mark ∷ [] else []) ≡ cond begins 1 0
-is_column true mark = refl
-is_column false mark = refl
+pub under_shown : (c n : ℕ) → length (shown_as c) ≡ n → repeat n (codes "^") ≡ under_span c
+unfolding under_span
+under_shown c n wide = sym (ap (λ n. repeat n (codes "^")) wide)
 
--- there is a column under each byte before a span that begins a character
-pub prefix_begun : (bytes : List ℕ) → length (flat_map under_prefix bytes) ≡ count_by begins_character bytes
-prefix_begun bytes = begun_columns under_prefix column bytes
-  where
-    column : IsColumn under_prefix
-    column byte = cond_both (byte == 9) (9 ∷ []) (if begins_character byte then 32 ∷ [] else [])
-        (λ under. length under ≡ cond (begins_character byte) 1 0)
-        (λ tab. rw (begins_low byte (omega (arith, eqb-true byte 9 tab))) refl)
-        (λ _. is_column (begins_character byte) 32)
+repeat_wide : (n mark : ℕ) → length (repeat n (mark ∷ [])) ≡ n
+repeat_wide zero mark = refl
+repeat_wide (suc n) mark = let rest = repeat_wide n mark in omega arith
 
-pub prefix_columns : (bytes : List ℕ) → IsUtf8 bytes → length (flat_map under_prefix bytes) ≡ length (chars bytes)
-prefix_columns bytes utf8 = prefix_begun bytes ∙ characters_begin bytes utf8
+prefix_wide : (c : ℕ) → length (under_prefix c) ≡ length (shown_as c)
+unfolding under_prefix
+prefix_wide c = cond_both (c == 9) (codes "\t") (repeat (length (shown_as c)) (codes " ")) (λ under. length under ≡ length (shown_as c))
+    (λ tab. sym (shown_one c (tab_itself c tab)))
+    (λ _. repeat_wide (length (shown_as c)) 32)
 
-pub span_columns : (bytes : List ℕ) → IsUtf8 bytes → length (flat_map under_span bytes) ≡ length (chars bytes)
-span_columns bytes utf8 =
-    begun_columns under_span (λ byte. is_column (begins_character byte) 94) bytes ∙ characters_begin bytes utf8
+span_wide : (c : ℕ) → length (under_span c) ≡ length (shown_as c)
+unfolding under_span
+span_wide c = repeat_wide (length (shown_as c)) 94
+
+all_wide : (under : ℕ → List ℕ) → ((c : ℕ) → length (under c) ≡ length (shown_as c)) → (characters : List ℕ)
+    → length (flat_map under characters) ≡ length (flat_map shown_as characters)
+all_wide under each [] = refl
+all_wide under each (c ∷ characters) =
+    let here = each c in
+    let rest = all_wide under each characters in
+    omega (arith, length-append (under c) (flat_map under characters), length-append (shown_as c) (flat_map shown_as characters))
+
+pub prefix_as_wide : (characters : List ℕ) → length (flat_map under_prefix characters) ≡ length (flat_map shown_as characters)
+prefix_as_wide = all_wide under_prefix prefix_wide
+
+pub span_as_wide : (characters : List ℕ) → length (flat_map under_span characters) ≡ length (flat_map shown_as characters)
+span_as_wide = all_wide under_span span_wide

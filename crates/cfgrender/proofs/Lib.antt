@@ -1,7 +1,9 @@
+pub mod Boundaries
 pub mod Carets
 pub mod Cuts
 pub mod Columns
 pub mod Several
+pub mod Shown
 pub mod LineStops
 pub mod Reported
 pub mod Windows

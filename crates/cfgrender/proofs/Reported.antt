@@ -5,6 +5,7 @@ use Rattle.std.proofs.lemmas.List.{get_or_past}
 use Rattle.std.specs.Str.{IsCharBoundary}
 use Rattle.cfgbase.specs.declared.span.Span.{Span}
 use Rattle.cfgrender.specs.Render.{excerpt, is_offset, note_line, offset_line, plain_line, reported}
+use Rattle.cfgrender.specs.Visible.{visible}
 
 pub is_offset_true : (text : List ℕ) (b : ℕ) → IsCharBoundary text b → is_offset text b ≡ true
 is_offset_true text b boundary = and_from _ _ (le-leb _ _ boundary.0) (⊎_elim
@@ -30,21 +31,21 @@ is_offset_false text b none =
     ⊎_elim (λ h. absurd (none (is_offset_only text b h))) (λ h. h) (cases_Bool (is_offset text b))
 
 pub reported_of_offset : (name text words : List ℕ) (span : Span) → IsCharBoundary text span.start
-    → reported name text words span ≡ offset_line name text words span.start ++ excerpt text span
+    → reported name text words span ≡ offset_line name text (visible words) span.start ++ excerpt text span
 unfolding reported
 reported_of_offset name text words span boundary = rw (is_offset_true text span.start boundary) refl
 
 pub reported_of_none : (name text words : List ℕ) (span : Span) → (IsCharBoundary text span.start → ⊥)
-    → reported name text words span ≡ plain_line name words
+    → reported name text words span ≡ plain_line name (visible words)
 unfolding reported
 reported_of_none name text words span none = rw (is_offset_false text span.start none) refl
 
 pub note_line_of_offset : (name text words : List ℕ) (b : ℕ) → IsCharBoundary text b
-    → note_line name text words b ≡ offset_line name text (codes "note: " ++ words) b
+    → note_line name text words b ≡ offset_line name text (codes "note: " ++ visible words) b
 unfolding note_line
 note_line_of_offset name text words b boundary = rw (is_offset_true text b boundary) refl
 
 pub note_line_of_none : (name text words : List ℕ) (b : ℕ) → (IsCharBoundary text b → ⊥)
-    → note_line name text words b ≡ plain_line name (codes "note: " ++ words)
+    → note_line name text words b ≡ plain_line name (codes "note: " ++ visible words)
 unfolding note_line
 note_line_of_none name text words b none = rw (is_offset_false text b none) refl

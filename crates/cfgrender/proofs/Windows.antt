@@ -1,11 +1,11 @@
 -- The window on a line: where it starts and ends.
-use Rattle.std.proofs.Common.{◌≡◌, ℕ, ◌+◌, ◌-◌, ◌<◌, ◌≤◌, List, length, take, drop, ⊎_elim, subst, refl, ◌∙◌, ap, sym, arith}
-use Rattle.std.proofs.lemmas.Bool.{cases_lt, le-leb, lt-leb}
+use Rattle.std.proofs.Common.{◌≡◌, ℕ, ◌+◌, ◌-◌, ◌<◌, ◌≤◌, nat_le, List, length, take, drop, ⊎_elim, subst, refl, ◌∙◌, ap, sym, arith}
+use Rattle.std.proofs.lemmas.Bool.{cases_lt, cond_both, le-leb, lt-leb}
 use Rattle.std.proofs.lemmas.Str.{IsCharBoundary-start}
 use Rattle.std.specs.Fmt.{take_chars}
 use Rattle.std.specs.Str.{IsCharBoundary, IsUtf8}
 use Rattle.cfgrender.specs.Render.{characters, skipped, window_end, window_start}
-use Rattle.cfgrender.proofs.Cuts.{IsCut, boundary_begins, boundary_from_begins, cut_all, cut_first, cut_is, cut_more, cut_of_prefix, cut_whole}
+use Rattle.cfgrender.proofs.Cuts.{IsCut, boundary_begins, boundary_from_begins, cut_all, cut_first, cut_is, cut_more, cut_of_prefix, cut_whole, more_after}
 
 skipped_none : (line : List ℕ) (start : ℕ) → characters line ≤ 160 → skipped line start ≡ 0
 unfolding skipped
@@ -49,6 +49,22 @@ unfolding window_end
 window_end_boundary line start =
     let cut = cut_first (skipped line start + 160) line in
     boundary_from_begins line _ cut.within cut.begins
+
+-- no more characters are skipped than come before the span
+pub skipped-le : (line : List ℕ) (start : ℕ) → skipped line start ≤ characters (take start line)
+unfolding skipped
+skipped-le line start = cond_both (nat_le (characters line) 160) 0 (characters (take start line) - 40) (λ n. n ≤ characters (take start line)) (λ _. omega arith) (λ _. omega arith)
+
+-- it starts no later than its span
+pub window_before : (line : List ℕ) (start : ℕ) → IsCharBoundary line start → window_start line start ≤ start
+unfolding window_start
+window_before line start boundary = ⊎_elim
+    (λ over.
+    let cut = cut_first (skipped line start) line in
+    let more = more_after line start _ over cut.within (boundary_begins line start boundary (omega (arith, cut.within))) in
+    absurd (omega (arith, cut.count, skipped-le line start)))
+    (λ fine. fine)
+    (cases_lt start (length (take_chars (skipped line start) line)))
 
 -- it ends so many characters after its start
 pub ends_after : (line : List ℕ) (start first k : ℕ) → first ≡ window_start line start → k ≡ length (take_chars 160 (drop first line))

@@ -1,1 +1,2 @@
 pub mod Render
+pub mod Visible

@@ -1,12 +1,14 @@
 -- What is printed of an error: where it is and what it says, the line of the text, and carets under the span.
-use Rattle.std.specs.Prelude.{ℕ, ◌+◌, ◌-◌, Bool, ◌&&◌, ◌==◌, nat_le, nat_lt, if◌then◌else◌, List, [], ◌∷◌, ◌++◌, length, take, slice_index, min, codes}
-use Rattle.std.specs.List.{count_by, flat_map, slice_range}
+use Rattle.std.specs.Prelude.{ℕ, ◌+◌, ◌-◌, Bool, ◌&&◌, ◌==◌, nat_le, nat_lt, if◌then◌else◌, List, [], ◌∷◌, ◌++◌, length, take, drop, slice_index, min, codes}
+use Rattle.std.specs.List.{count_by, flat_map, position_or_len, repeat, slice_range}
 use Rattle.std.specs.Fmt.{decimal, take_chars}
+use Rattle.std.specs.Str.{chars}
 use Rattle.cfgbase.specs.declared.span.Span.{Span}
 use Rattle.cfgbase.specs.declared.span.SpansKind.{SpansKind}
 use Rattle.cfgbase.specs.declared.span.SpansKind.TheVariants.{DuplicationError, Error}
 use Rattle.cfglines.specs.Characters.{begins_character}
 use Rattle.cfglines.specs.Lines.{ends_crlf, line_number, line_start, line_end, column}
+use Rattle.cfgrender.specs.Visible.{shown_as, visible}
 
 -- whether b is a character boundary of the text: a character begins there, or the text ends
 abbrev pub is_offset : List ℕ → ℕ → Bool
@@ -57,33 +59,37 @@ under_dots cut = if cut then codes "   " else []
 
 -- a line as it is shown, for a window from `start` up to `end`
 abbrev pub shown_line : List ℕ → ℕ → ℕ → List ℕ
-shown_line line start end = dots (nat_lt 0 start) ++ (slice_range line start end ++ dots (nat_lt end (length line)))
+shown_line line start end = dots (nat_lt 0 start) ++ (visible (slice_range line start end) ++ dots (nat_lt end (length line)))
 
--- what is under a byte before the span: a tab under a tab, and a space under any other character
-abbrev pub under_prefix : ℕ → List ℕ
-under_prefix byte = if byte == 9 then codes "\t" else if begins_character byte then codes " " else []
+-- what is under a character before the span: a tab under a tab, and otherwise a space under each character that shows it
+unfoldable pub under_prefix : ℕ → List ℕ
+under_prefix c = if c == 9 then codes "\t" else repeat (length (shown_as c)) (codes " ")
 
--- what is under a byte of the span: a caret under each character
-abbrev pub under_span : ℕ → List ℕ
-under_span byte = if begins_character byte then codes "^" else []
+-- what is under a character of the span: a caret under each character that shows it
+unfoldable pub under_span : ℕ → List ℕ
+under_span c = repeat (length (shown_as c)) (codes "^")
 
 -- the carets under the shown part of a span: one if nothing of it is shown
 abbrev pub carets : List ℕ → List ℕ
 carets [] = codes "^"
-carets (byte ∷ bytes) = flat_map under_span (byte ∷ bytes)
+carets (byte ∷ bytes) = flat_map under_span (chars (byte ∷ bytes))
 
 -- the part of a line between the start of its window and that of the span
 abbrev pub shown_prefix : List ℕ → ℕ → List ℕ
 shown_prefix line start = slice_range line (window_start line start) start
 
--- the part of a span that its line shows, where the span covers the bytes from `start` up to `end` of the line
+-- where the first character from an offset of a line on begins, or the line's end if none does
+abbrev pub ceil_char_boundary : List ℕ → ℕ → ℕ
+ceil_char_boundary line b = length (take b line) + position_or_len begins_character (drop b line)
+
+-- the part of a span that its line shows, where the span covers the bytes from `start` up to `end` of the line: whole characters
 abbrev pub shown_span : List ℕ → ℕ → ℕ → List ℕ
-shown_span line start end = slice_range line start (min end (window_end line start))
+shown_span line start end = slice_range line start (min (ceil_char_boundary line end) (window_end line start))
 
 -- what is below a line
 abbrev pub marks : List ℕ → ℕ → ℕ → List ℕ
 marks line start end = under_dots (nat_lt 0 (window_start line start))
-    ++ (flat_map under_prefix (shown_prefix line start) ++ carets (shown_span line start end))
+    ++ (flat_map under_prefix (chars (shown_prefix line start)) ++ carets (shown_span line start end))
 
 -- a line and the carets below it
 unfoldable pub marked_line : List ℕ → ℕ → ℕ → List ℕ
@@ -106,14 +112,14 @@ offset_line name text words b = name ++ (codes ":" ++ (decimal (line_number text
 -- this message at a span: where it starts and the excerpt, or neither if that is not a character boundary of the text
 unfoldable pub reported : List ℕ → List ℕ → List ℕ → Span → List ℕ
 reported name text words span = if is_offset text span.start
-    then offset_line name text words span.start ++ excerpt text span
-    else plain_line name words
+    then offset_line name text (visible words) span.start ++ excerpt text span
+    else plain_line name (visible words)
 
 -- a note at an offset: where that is and what the note says, without the line of the text
 unfoldable pub note_line : List ℕ → List ℕ → List ℕ → ℕ → List ℕ
 note_line name text words b = if is_offset text b
-    then offset_line name text (codes "note: " ++ words) b
-    else plain_line name (codes "note: " ++ words)
+    then offset_line name text (codes "note: " ++ visible words) b
+    else plain_line name (codes "note: " ++ visible words)
 
 -- what the spans after the first one add: each is a duplicate's, or nothing is printed for them
 abbrev pub reported_also : SpansKind → List ℕ → List ℕ → List Span → List ℕ
@@ -122,7 +128,7 @@ reported_also Error name text spans = []
 
 -- what is printed, in a text of this name, of an error or a warning with this message, these spans, and spans of this kind
 abbrev pub rendered : List ℕ → List ℕ → List ℕ → List Span → SpansKind → List ℕ
-rendered name text message [] kind = plain_line name message
+rendered name text message [] kind = plain_line name (visible message)
 rendered name text message (span ∷ spans) kind = reported name text message span ++ reported_also kind name text spans
 
 -- What is printed of several, one after another; `Prints` says what each prints.

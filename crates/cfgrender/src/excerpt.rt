@@ -1,17 +1,16 @@
 //! The line where a span starts, with carets under the span.
 
-ghost use Rattle.std.specs.Prelude.{◌≡◌, ◌-◌, ◌++◌, ◌≤◌, if◌then◌else◌, length, min, OnOk};
-ghost use Rattle.std.specs.Prelude.{nat_lt, string_bytes};
+ghost use Rattle.std.specs.Prelude.{◌≡◌, ◌-◌, ◌++◌, ◌≤◌, if◌then◌else◌, length, min, OnOk, string_bytes};
 ghost use Rattle.std.specs.List.{flat_map, slice_range};
-ghost use Rattle.std.specs.Str.{IsCharBoundary};
+ghost use Rattle.std.specs.Str.{IsCharBoundary, chars};
 ghost use Rattle.cfglines.specs.Lines.{ends_crlf, line_start};
-ghost use Rattle.cfgrender.specs.Render.{carets, dots, excerpt, line_stop, marked_line, marks, shown_line};
-ghost use Rattle.cfgrender.specs.Render.{under_dots, under_prefix, under_span};
+ghost use Rattle.cfgrender.specs.Render.{carets, ceil_char_boundary, excerpt, line_stop, marked_line, shown_line};
+ghost use Rattle.cfgrender.specs.Render.{under_prefix, under_span};
 
+use crate::visible::{is_escaped, push_visible};
 use crate::window::window;
 use cfgbase::Span;
 use cfglines::Positions;
-use cfglines::positions::begins_character;
 use std::alloc::AllocError;
 
 /// Writes the line where a span starts, and the carets below it.
@@ -67,12 +66,11 @@ fn push_marked_line(
     let (first, last) = window(line, start);
     push_shown_line(out, line, first, last)?;
     out.push_str("\n")?;
-    let bytes = line.as_bytes();
     if first > 0 {
         out.push_str("   ")?;
     }
-    push_under_prefix(out, piece(bytes, first, start))?;
-    push_carets(out, piece(bytes, start, end.min(last)))?;
+    push_under_prefix(out, &line[first..start])?;
+    push_carets(out, shown_span(line, start, end, last))?;
     out.push_str("\n")
 }
 
@@ -86,67 +84,77 @@ fn push_shown_line(out: &mut String, line: &str, start: usize, end: usize) -> Re
     if start > 0 {
         out.push_str("...")?;
     }
-    out.push_str(&line[start..end])?;
+    push_visible(out, &line[start..end])?;
     if end < line.len() {
         out.push_str("...")?;
     }
     Ok(())
 }
 
-/// The bytes from `start` up to `end`, or none if `end` isn't after `start`.
-fn piece(text: &[u8], start: usize, end: usize) -> &[u8]
-    requires { end ≤ length text.now }
-    ensures { result.now ≡ slice_range text.now start end }
+/// The characters of a line from `start` on that begin before `end` and before the window's end.
+fn shown_span(line: &str, start: usize, end: usize, window_end: usize) -> &str
+    requires begins { IsCharBoundary line.now start }
+    requires ends { IsCharBoundary line.now window_end }
+    ensures { result.now ≡ slice_range line.now start (min (ceil_char_boundary line.now end) window_end) }
 {
-    text.get(start..end).unwrap_or(&[])
+    let stop = line.ceil_char_boundary(end).min(window_end);
+    if start < stop { &line[start..stop] } else { "" }
 }
 
 /// Writes what is under the line before the span.
-fn push_under_prefix(out: &mut String, prefix: &[u8]) -> Result<(), AllocError>
-    ensures { OnOk result (string_bytes out.new ≡ string_bytes out.old ++ flat_map under_prefix prefix.now) }
+fn push_under_prefix(out: &mut String, prefix: &str) -> Result<(), AllocError>
+    ensures { OnOk result (string_bytes out.new ≡ string_bytes out.old ++ flat_map under_prefix (chars prefix.now)) }
 {
-    for byte in prefix {
-        out.push_str(under_prefix(*byte))?;
+    for c in prefix.chars() {
+        out.push_str(under_prefix(c))?;
     }
     Ok(())
 }
 
-/// What is under a byte before the span.
-fn under_prefix(byte: u8) -> &'static str
-    ensures { result.now ≡ under_prefix byte }
+/// What is under a character before the span.
+fn under_prefix(c: char) -> &'static str
+    ensures { result.now ≡ under_prefix c }
 {
-    if byte == b'\t' {
+    if c == '\t' {
         "\t"
-    } else if begins_character(byte) {
+    } else if !is_escaped(c) {
         " "
+    } else if c < '\u{10}' {
+        "     "
     } else {
-        ""
+        "      "
     }
 }
 
-/// Writes the carets under these bytes of the span.
-fn push_carets(out: &mut String, bytes: &[u8]) -> Result<(), AllocError>
-    ensures { OnOk result (string_bytes out.new ≡ string_bytes out.old ++ carets bytes.now) }
+/// Writes the carets under this part of the span.
+fn push_carets(out: &mut String, part: &str) -> Result<(), AllocError>
+    ensures { OnOk result (string_bytes out.new ≡ string_bytes out.old ++ carets part.now) }
 {
-    if bytes.is_empty() {
+    if part.is_empty() {
         return out.push_str("^");
     }
-    push_under_span(out, bytes)
+    push_under_span(out, part)
 }
 
-/// Writes a caret for each character of these bytes.
-fn push_under_span(out: &mut String, bytes: &[u8]) -> Result<(), AllocError>
-    ensures { OnOk result (string_bytes out.new ≡ string_bytes out.old ++ flat_map under_span bytes.now) }
+/// Writes the carets under each character of this part of the span.
+fn push_under_span(out: &mut String, part: &str) -> Result<(), AllocError>
+    ensures { OnOk result (string_bytes out.new ≡ string_bytes out.old ++ flat_map under_span (chars part.now)) }
 {
-    for byte in bytes {
-        out.push_str(under_span(*byte))?;
+    for c in part.chars() {
+        out.push_str(under_span(c))?;
     }
     Ok(())
 }
 
-/// What is under a byte of the span.
-fn under_span(byte: u8) -> &'static str
-    ensures { result.now ≡ under_span byte }
+/// The carets under a character of the span.
+fn under_span(c: char) -> &'static str
+    ensures { result.now ≡ under_span c }
 {
-    if begins_character(byte) { "^" } else { "" }
+    if !is_escaped(c) {
+        "^"
+    } else if c < '\u{10}' {
+        "^^^^^"
+    } else {
+        "^^^^^^"
+    }
 }

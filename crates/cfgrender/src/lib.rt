@@ -5,6 +5,7 @@ mod excerpt;
 pub mod laws;
 pub mod message;
 pub mod source;
+mod visible;
 mod window;
 
 pub use message::{render, render_all};

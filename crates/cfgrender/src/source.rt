@@ -2,9 +2,11 @@
 
 ghost use Rattle.std.specs.Prelude.{◌≡◌, ◌++◌, ℕ, List, codes, string_bytes, IfOk, IfSome, OnOk};
 ghost use Rattle.std.specs.List.{flat_map};
-ghost use Rattle.cfgrender.specs.Render.{note_line, rendered, reported, reported_also};
+ghost use Rattle.cfgrender.specs.Render.{note_line, plain_line, rendered, reported, reported_also};
+ghost use Rattle.cfgrender.specs.Visible.{visible};
 
 use crate::excerpt::push_excerpt;
+use crate::visible::push_visible;
 use cfgbase::{Span, Spanned, SpansKind};
 use cfglines::Positions;
 use std::alloc::{AllocError, Global};
@@ -61,8 +63,14 @@ impl<'a> Source<'a> {
     {
         let Source { name, text } = self;
         match text.line_and_column(offset) {
-            Some((line, column)) => writeln!(out, "{name}:{line}:{column}: note: {words}"),
-            None => writeln!(out, "{name}: note: {words}"),
+            Some((line, column)) => {
+                write!(out, "{name}:{line}:{column}: note: ")?;
+                push_line(out, words)
+            }
+            None => {
+                write!(out, "{name}: note: ")?;
+                push_line(out, words)
+            }
         }
     }
 
@@ -78,8 +86,7 @@ impl<'a> Source<'a> {
             ++ rendered self.now.name.now self.now.text message.now spans.now kind) }
     {
         let [first, others @ ..] = spans else {
-            let name = self.name;
-            return writeln!(out, "{name}: {message}");
+            return self.push_plain(out, message);
         };
         self.push_reported(out, message, *first)?;
         self.push_reported_also(out, kind, others)
@@ -121,10 +128,29 @@ impl<'a> Source<'a> {
         let Source { name, text } = self;
         match text.line_and_column(span.start()) {
             Some((line, column)) => {
-                writeln!(out, "{name}:{line}:{column}: {words}")?;
+                write!(out, "{name}:{line}:{column}: ")?;
+                push_line(out, words)?;
                 push_excerpt(out, text, span)
             }
-            None => writeln!(out, "{name}: {words}"),
+            None => self.push_plain(out, words),
         }
     }
+
+    /// Writes this message without an offset.
+    fn push_plain(&self, out: &mut String, words: &str) -> Result<(), AllocError>
+        ensures { OnOk result (string_bytes out.new
+            ≡ string_bytes out.old ++ plain_line self.now.name.now (visible words.now)) }
+    {
+        let name = self.name;
+        write!(out, "{name}: ")?;
+        push_line(out, words)
+    }
+}
+
+/// Writes a message as it is shown, and the end of its line.
+fn push_line(out: &mut String, words: &str) -> Result<(), AllocError>
+    ensures { OnOk result (string_bytes out.new ≡ string_bytes out.old ++ (visible words.now ++ codes "\n")) }
+{
+    push_visible(out, words)?;
+    out.push_str("\n")
 }

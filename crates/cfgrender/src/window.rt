@@ -18,6 +18,7 @@ pub(crate) fn window(line: &str, start: usize) -> (usize, usize)
     requires { IsCharBoundary line.now start }
     ensures value { result ≡ (window_start line.now start, window_end line.now start) }
     ensures ordered { result.0 ≤ result.1 }
+    ensures before { result.0 ≤ start }
     ensures begins { IsCharBoundary line.now result.0 }
     ensures ends { IsCharBoundary line.now result.1 }
 {

@@ -1,9 +1,8 @@
-use Rattle.std.proofs.Common.{◌≡◌, ◌++◌, take, string_bytes}
+use Rattle.std.proofs.Common.{◌≡◌, ◌++◌, string_bytes}
 use Rattle.std.specs.List.{flat_map}
 use Rattle.cfgrender.specs.Render.{under_span}
 use Rattle.cfgrender.proofs.excerpt.push_under_span.Given as goal
 
--- what is under the bytes so far
-abbrev pub invariant-loop-byte : goal.invariant-loop-byte
-invariant-loop-byte l = string_bytes l.out
-    ≡ string_bytes l.initial.out ++ flat_map under_span (take l.byte-index l.bytes)
+-- what is under the characters so far
+abbrev pub invariant-loop-c : goal.invariant-loop-c
+invariant-loop-c l = string_bytes l.out ≡ string_bytes l.initial.out ++ flat_map under_span l.yielded

@@ -2,7 +2,7 @@ use Rattle.std.proofs.Common.{◌≡◌, ◌+◌, ◌≤◌, length, sym, subst,
 use Rattle.std.specs.Fmt.{take_chars}
 use Rattle.std.specs.Str.{IsCharBoundary}
 use Rattle.cfgrender.specs.Render.{window_end}
-use Rattle.cfgrender.proofs.Windows.{ends_after, window_end_boundary}
+use Rattle.cfgrender.proofs.Windows.{ends_after, window_before, window_end_boundary}
 use Rattle.cfgrender.proofs.window.window.Goals as goal
 
 pub overflow_add-result : goal.overflow_add-result
@@ -19,6 +19,9 @@ returns-clause-value c =
     let end : c.window_start-first.result + c.characters_len.result ≡ window_end line c.args.start =
     ends_after line c.args.start _ _ c.window_start-first.ensures.value (c.characters_len.ensures ∙ ap (λ piece. length (take_chars 160 piece)) c.range_from.ensures.value) in
     λ i. (c.window_start-first.ensures.value i, end i)
+
+pub returns-clause-before : goal.returns-clause-before
+returns-clause-before c = subst (λ first. first ≤ c.args.start) (sym c.window_start-first.ensures.value) (window_before c.args.line.now c.args.start c.requires)
 
 pub returns-clause-ends : goal.returns-clause-ends
 returns-clause-ends c =
