@@ -1,9 +1,9 @@
 -- What is below a piece of a text is as wide as what shows the piece.
-use Rattle.std.proofs.Common.{◌≡◌, ℕ, zero, suc, ◌==◌, Bool, true, false, if◌then◌else◌, List, [], ◌∷◌, ◌++◌, codes, length, length-append, chars, sym, ap, ◌∙◌, refl, arith}
+use Rattle.std.proofs.Common.{◌≡◌, ℕ, zero, suc, ◌==◌, Bool, true, false, if◌then◌else◌, List, [], ◌∷◌, codes, length, length-append, sym, ap, ◌∙◌, refl, arith}
 use Rattle.std.proofs.lemmas.Bool.{cond_both}
 use Rattle.std.specs.List.{flat_map, repeat}
 use Rattle.cfgrender.specs.Render.{under_prefix, under_span}
-use Rattle.cfgrender.specs.Visible.{is_escaped, shown_as}
+use Rattle.cfgrender.specs.Visible.{shown_as}
 use Rattle.cfgrender.proofs.Shown.{shown_one, tab_itself}
 
 pub under_tab : (c : ℕ) → (c == 9) ≡ true → codes "\t" ≡ under_prefix c

@@ -6,7 +6,6 @@ use Rattle.std.proofs.lemmas.Bool.{cases_eq, cases_lt}
 use Rattle.std.proofs.lemmas.List.{get_or-take}
 use Rattle.std.proofs.lemmas.List.Sums.{position_or_len_is, suffix_len-take_yes, suffix_len-le-length, sum_by-append}
 use Rattle.std.proofs.lemmas.Str.{IsCharBoundary-before_ascii, IsUtf8-between, IsUtf8-nil, chars-nil, encodes-chars}
-use Rattle.std.specs.Fmt.{take_chars}
 use Rattle.std.specs.List.{flat_map, slice_range, position_or_len, suffix_len}
 use Rattle.std.specs.Str.{IsCharBoundary, IsUtf8}
 use Rattle.cfgbase.specs.declared.span.Span.{Span}

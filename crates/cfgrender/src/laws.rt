@@ -1,5 +1,5 @@
-//! Carets are under the characters of a span: how an excerpt relates to columns and characters. No control character but
-//! a tab is shown.
+//! Carets are under the characters of a span: how an excerpt relates to columns and characters. No control characters
+//! but tabs are shown.
 
 ghost use Rattle.std.specs.Prelude.{◌≡◌, ◌+◌, ◌-◌, ℕ, List, false, length, max};
 ghost use Rattle.std.specs.List.{flat_map, list_any};
@@ -10,8 +10,8 @@ ghost use Rattle.cfgrender.specs.Render.{carets, line_at, offset_in_line, shown_
 ghost use Rattle.cfgrender.specs.Render.{skipped, under_prefix};
 ghost use Rattle.cfgrender.specs.Visible.{is_escaped, visible};
 
-/// The first caret is under the character whose column is printed: that many characters precede this one in its line, but
-/// for those that come before the window on the line, and what is below these is as wide as what shows them.
+/// The first caret is under the character whose column is printed: as many characters precede it in its line, but for
+/// those that come before the window on the line, and what is below them is as wide as what shows them.
 #[tactic(auto, using(crate::proofs::Columns::carets_begin_at_column, crate::proofs::Columns::prefix_as_shown))]
 pub fn carets_begin_at_column()
     ensures column { (text : List ℕ) (b : ℕ) → IsUtf8 text → IsCharBoundary text b
