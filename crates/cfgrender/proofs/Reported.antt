@@ -1,11 +1,12 @@
 -- What is printed at an offset that is a character boundary, and at one that isn't.
-use Rattle.std.proofs.Common.{◌≡◌, ℕ, true, false, List, ◌++◌, codes, length, slice_index, ⊎_elim, refl, arith}
+use Rattle.std.proofs.Common.{◌≡◌, ℕ, true, false, List, [], ◌++◌, codes, length, slice_index, ⊎_elim, refl, arith}
 use Rattle.std.proofs.lemmas.Bool.{and_from, and_parts, cases_Bool, cases_lt, le-leb, leb-true, lt-ltb, ltb-true, or_left, or_right, or_cases}
 use Rattle.std.proofs.lemmas.List.{get_or_past}
+use Rattle.std.specs.Fmt.{decimal}
 use Rattle.std.specs.Str.{IsCharBoundary}
 use Rattle.cfgbase.specs.declared.span.Span.{Span}
-use Rattle.cfgrender.specs.Render.{excerpt, is_offset, note_line, offset_line, plain_line, reported}
-use Rattle.cfgrender.specs.Visible.{visible}
+use Rattle.cfglines.specs.Lines.{column, line_number}
+use Rattle.cfgrender.specs.Render.{excerpt, heading, is_offset, message_line, reported}
 
 pub is_offset_true : (text : List ℕ) (b : ℕ) → IsCharBoundary text b → is_offset text b ≡ true
 is_offset_true text b boundary = and_from _ _ (le-leb _ _ boundary.0) (⊎_elim
@@ -30,22 +31,21 @@ pub is_offset_false : (text : List ℕ) (b : ℕ) → (IsCharBoundary text b →
 is_offset_false text b none =
     ⊎_elim (λ h. absurd (none (is_offset_only text b h))) (λ h. h) (cases_Bool (is_offset text b))
 
+pub heading_of_offset : (name text : List ℕ) (b : ℕ) → IsCharBoundary text b → heading name text b
+    ≡ name ++ (codes ":" ++ (decimal (line_number text b) ++ (codes ":" ++ (decimal (column text b) ++ codes ": "))))
+unfolding heading
+heading_of_offset name text b boundary = rw (is_offset_true text b boundary) refl
+
+pub heading_of_none : (name text : List ℕ) (b : ℕ) → (IsCharBoundary text b → ⊥) → heading name text b ≡ name ++ codes ": "
+unfolding heading
+heading_of_none name text b none = rw (is_offset_false text b none) refl
+
 pub reported_of_offset : (name text words : List ℕ) (span : Span) → IsCharBoundary text span.start
-    → reported name text words span ≡ offset_line name text (visible words) span.start ++ excerpt text span
+    → reported name text words span ≡ heading name text span.start ++ (message_line words ++ excerpt text span)
 unfolding reported
 reported_of_offset name text words span boundary = rw (is_offset_true text span.start boundary) refl
 
 pub reported_of_none : (name text words : List ℕ) (span : Span) → (IsCharBoundary text span.start → ⊥)
-    → reported name text words span ≡ plain_line name (visible words)
+    → reported name text words span ≡ heading name text span.start ++ (message_line words ++ [])
 unfolding reported
 reported_of_none name text words span none = rw (is_offset_false text span.start none) refl
-
-pub note_line_of_offset : (name text words : List ℕ) (b : ℕ) → IsCharBoundary text b
-    → note_line name text words b ≡ offset_line name text (codes "note: " ++ visible words) b
-unfolding note_line
-note_line_of_offset name text words b boundary = rw (is_offset_true text b boundary) refl
-
-pub note_line_of_none : (name text words : List ℕ) (b : ℕ) → (IsCharBoundary text b → ⊥)
-    → note_line name text words b ≡ plain_line name (codes "note: " ++ visible words)
-unfolding note_line
-note_line_of_none name text words b none = rw (is_offset_false text b none) refl

@@ -100,26 +100,24 @@ marked_line line start end = shown_line line (window_start line start) (window_e
 abbrev pub excerpt : List ℕ → Span → List ℕ
 excerpt text span = marked_line (line_at text span.start) (offset_in_line text span.start) (span.end - line_start text span.start)
 
--- the line `NAME: WORDS`
-abbrev pub plain_line : List ℕ → List ℕ → List ℕ
-plain_line name words = name ++ (codes ": " ++ (words ++ codes "\n"))
+-- what precedes a message: the text's name, and the line and the column of an offset that is a character boundary of the text
+unfoldable pub heading : List ℕ → List ℕ → ℕ → List ℕ
+heading name text b = if is_offset text b
+    then name ++ (codes ":" ++ (decimal (line_number text b) ++ (codes ":" ++ (decimal (column text b) ++ codes ": "))))
+    else name ++ codes ": "
 
--- the line `NAME:LINE:COLUMN: WORDS`, for the offset b
-abbrev pub offset_line : List ℕ → List ℕ → List ℕ → ℕ → List ℕ
-offset_line name text words b = name ++ (codes ":" ++ (decimal (line_number text b)
-    ++ (codes ":" ++ (decimal (column text b) ++ (codes ": " ++ (words ++ codes "\n"))))))
+-- a message as it is shown, and the end of its line
+abbrev pub message_line : List ℕ → List ℕ
+message_line message = visible message ++ codes "\n"
 
--- this message at a span: where it starts and the excerpt, or neither if that is not a character boundary of the text
+-- this message at a span: where it starts and, if that is a character boundary of the text, the excerpt
 unfoldable pub reported : List ℕ → List ℕ → List ℕ → Span → List ℕ
-reported name text words span = if is_offset text span.start
-    then offset_line name text (visible words) span.start ++ excerpt text span
-    else plain_line name (visible words)
+reported name text words span = heading name text span.start
+    ++ (message_line words ++ (if is_offset text span.start then excerpt text span else []))
 
 -- a note at an offset: where that is and what the note says, without the line of the text
 unfoldable pub note_line : List ℕ → List ℕ → List ℕ → ℕ → List ℕ
-note_line name text words b = if is_offset text b
-    then offset_line name text (codes "note: " ++ visible words) b
-    else plain_line name (codes "note: " ++ visible words)
+note_line name text words b = heading name text b ++ (codes "note: " ++ message_line words)
 
 -- what the spans after the first one add: each is a duplicate's, or nothing is printed for them
 abbrev pub reported_also : SpansKind → List ℕ → List ℕ → List Span → List ℕ
@@ -128,7 +126,7 @@ reported_also Error name text spans = []
 
 -- what is printed, in a text of this name, of an error or a warning with this message, these spans, and spans of this kind
 abbrev pub rendered : List ℕ → List ℕ → List ℕ → List Span → SpansKind → List ℕ
-rendered name text message [] kind = plain_line name (visible message)
+rendered name text message [] kind = name ++ (codes ": " ++ message_line message)
 rendered name text message (span ∷ spans) kind = reported name text message span ++ reported_also kind name text spans
 
 -- What is printed of several, one after another; `Prints` says what each prints.

@@ -5,7 +5,7 @@ ghost use Rattle.std.specs.List.{flat_map, slice_range};
 ghost use Rattle.std.specs.Str.{IsCharBoundary, chars};
 ghost use Rattle.cfglines.specs.Lines.{ends_crlf, line_start};
 ghost use Rattle.cfgrender.specs.Render.{carets, ceil_char_boundary, excerpt, line_stop, marked_line, shown_line};
-ghost use Rattle.cfgrender.specs.Render.{under_prefix, under_span};
+ghost use Rattle.cfgrender.specs.Render.{under_dots, under_prefix, under_span};
 
 use crate::visible::{is_escaped, push_visible};
 use crate::window::window;
@@ -66,12 +66,21 @@ fn push_marked_line(
     let (first, last) = window(line, start);
     push_shown_line(out, line, first, last)?;
     out.push_str("\n")?;
-    if first > 0 {
+    let part = shown_span(line, start, end, last);
+    push_marks(out, first > 0, &line[first..start], part)?;
+    out.push_str("\n")
+}
+
+/// Writes what is below a line: under the dots if it is cut, under what it shows before the span, and under the span.
+fn push_marks(out: &mut String, cut: bool, prefix: &str, part: &str) -> Result<(), AllocError>
+    ensures { OnOk result (string_bytes out.new ≡ string_bytes out.old
+        ++ (under_dots cut ++ (flat_map under_prefix (chars prefix.now) ++ carets part.now))) }
+{
+    if cut {
         out.push_str("   ")?;
     }
-    push_under_prefix(out, &line[first..start])?;
-    push_carets(out, shown_span(line, start, end, last))?;
-    out.push_str("\n")
+    push_under_prefix(out, prefix)?;
+    push_carets(out, part)
 }
 
 /// Writes the part of a line between two offsets, with dots at each end where the line goes on.

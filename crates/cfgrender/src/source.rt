@@ -2,8 +2,7 @@
 
 ghost use Rattle.std.specs.Prelude.{◌≡◌, ◌++◌, ℕ, List, codes, string_bytes, IfOk, IfSome, OnOk};
 ghost use Rattle.std.specs.List.{flat_map};
-ghost use Rattle.cfgrender.specs.Render.{note_line, plain_line, rendered, reported, reported_also};
-ghost use Rattle.cfgrender.specs.Visible.{visible};
+ghost use Rattle.cfgrender.specs.Render.{heading, message_line, note_line, rendered, reported, reported_also};
 
 use crate::excerpt::push_excerpt;
 use crate::visible::push_visible;
@@ -57,21 +56,14 @@ impl<'a> Source<'a> {
     /// # Errors
     ///
     /// `AllocError` if an allocation fails.
+    #[tactic(auto, unfolding(crate::specs::Render::note_line))]
     pub fn push_note(&self, out: &mut String, words: &str, offset: usize) -> Result<(), AllocError>
         ensures { OnOk result (string_bytes out.new
             ≡ string_bytes out.old ++ note_line self.now.name.now self.now.text words.now offset) }
     {
-        let Source { name, text } = self;
-        match text.line_and_column(offset) {
-            Some((line, column)) => {
-                write!(out, "{name}:{line}:{column}: note: ")?;
-                push_line(out, words)
-            }
-            None => {
-                write!(out, "{name}: note: ")?;
-                push_line(out, words)
-            }
-        }
+        self.push_heading(out, offset)?;
+        out.push_str("note: ")?;
+        push_line(out, words)
     }
 
     /// Writes an error or a warning with this message, these spans, and spans of this kind.
@@ -86,7 +78,9 @@ impl<'a> Source<'a> {
             ++ rendered self.now.name.now self.now.text message.now spans.now kind) }
     {
         let [first, others @ ..] = spans else {
-            return self.push_plain(out, message);
+            let name = self.name;
+            write!(out, "{name}: ")?;
+            return push_line(out, message);
         };
         self.push_reported(out, message, *first)?;
         self.push_reported_also(out, kind, others)
@@ -120,37 +114,37 @@ impl<'a> Source<'a> {
         Ok(())
     }
 
-    /// Writes where a span starts, this message, and the excerpt.
+    /// Writes this message at a span, and the excerpt if the span starts at a character boundary.
     fn push_reported(&self, out: &mut String, words: &str, span: Span) -> Result<(), AllocError>
         ensures { OnOk result (string_bytes out.new
             ≡ string_bytes out.old ++ reported self.now.name.now self.now.text words.now span) }
     {
-        let Source { name, text } = self;
-        match text.line_and_column(span.start()) {
-            Some((line, column)) => {
-                write!(out, "{name}:{line}:{column}: ")?;
-                push_line(out, words)?;
-                push_excerpt(out, text, span)
-            }
-            None => self.push_plain(out, words),
+        self.push_heading(out, span.start())?;
+        push_line(out, words)?;
+        if self.text.text().is_char_boundary(span.start()) {
+            push_excerpt(out, &self.text, span)
+        } else {
+            Ok(())
         }
     }
 
-    /// Writes this message without an offset.
-    fn push_plain(&self, out: &mut String, words: &str) -> Result<(), AllocError>
+    /// Writes the name, and the line and the column of an offset if it is a character boundary.
+    fn push_heading(&self, out: &mut String, offset: usize) -> Result<(), AllocError>
         ensures { OnOk result (string_bytes out.new
-            ≡ string_bytes out.old ++ plain_line self.now.name.now (visible words.now)) }
+            ≡ string_bytes out.old ++ heading self.now.name.now self.now.text offset) }
     {
-        let name = self.name;
-        write!(out, "{name}: ")?;
-        push_line(out, words)
+        let Source { name, text } = self;
+        match text.line_and_column(offset) {
+            Some((line, column)) => write!(out, "{name}:{line}:{column}: "),
+            None => write!(out, "{name}: "),
+        }
     }
 }
 
 /// Writes a message as it is shown, and the end of its line.
-fn push_line(out: &mut String, words: &str) -> Result<(), AllocError>
-    ensures { OnOk result (string_bytes out.new ≡ string_bytes out.old ++ (visible words.now ++ codes "\n")) }
+fn push_line(out: &mut String, message: &str) -> Result<(), AllocError>
+    ensures { OnOk result (string_bytes out.new ≡ string_bytes out.old ++ message_line message.now) }
 {
-    push_visible(out, words)?;
+    push_visible(out, message)?;
     out.push_str("\n")
 }
