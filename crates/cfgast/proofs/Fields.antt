@@ -1,10 +1,11 @@
 -- What one more item makes of each field of the syntax: one lemma per field.
-use Rattle.std.proofs.Common.{◌≡◌, ℕ, ◌-◌, Bool, true, false, List, [], ◌∷◌, ◌++◌, map, length, filter_map, slice_get, Option, Some, None, option_map, if◌then◌else◌, refl, sym, ap, ◌∙◌, true≢false, arith, length-append}
+use Rattle.std.proofs.Common.{◌≡◌, ℕ, ◌-◌, Bool, true, false, List, [], ◌∷◌, ◌++◌, map, length, filter_map, slice_get, Option, Some, None, option_map, if◌then◌else◌, refl, sym, ap, ◌∙◌, true≢false, arith, append-nil, length-append}
 use Rattle.std.specs.Option.{option_map_or, option_or}
 use Rattle.std.specs.Str.{bytes_eq}
 use Rattle.std.specs.Cmp.Lexicographic.{nat_list_eq_equiv}
 use Rattle.std.proofs.lemmas.Bool.{false≢true, false_from_ne_true}
-use Rattle.std.proofs.lemmas.List.{map-append, length-map}
+use Rattle.std.specs.List.{flat_map}
+use Rattle.std.proofs.lemmas.List.{flat_map_more, map-append, length-map}
 use Rattle.std.proofs.lemmas.Option.{slice_get-get_or}
 use Rattle.std.proofs.lemmas.Simd.{map-map}
 use Rattle.std.proofs.Math.Seq.{get_or-append_seam}
@@ -15,9 +16,9 @@ use Rattle.lemmas.proofs.Prefixes.{with_prefixes-push}
 use Rattle.lemmas.proofs.Tests.{list_any-map, list_any-filter_map, list_any_weaker}
 use Rattle.cfgwords.specs.FileWords.{Word}
 use Rattle.cfgast.specs.Items.{Item, RuleHead, TokenDeclared, Alternative}
-use Rattle.cfgast.specs.Syntax.{Rule, Production, word_name, head_name, entry_name, is_named, firsts, index_of, indices_of, token_named, token_declared, typed_rule, alternative, alternatives, token_words, declared_words, rule_heads, word_entry, marked, rule_of, last_of}
-use Rattle.cfgast.specs.Building.{has_name, new_rule, listed, with_first, with_name, with_span, with_directive, with_rule, with_listed, with_entry, with_marked}
-use Rattle.cfgast.proofs.Names.{AreAmong, put_first, put_first-entry, firsts-filter_map-push, is_named-firsts, has_name-names, names-put, entries-put, put_there, put_grows, indices-stay, indices-put}
+use Rattle.cfgast.specs.Syntax.{Rule, Production, word_name, head_name, entry_name, is_named, firsts, index_of, indices_of, token_named, token_declared, typed_rule, alternative, alternatives, token_words, declared_words, rule_heads, declared_again, repeated_token, overridden, word_entry, marked, rule_of, last_of}
+use Rattle.cfgast.specs.Building.{has_name, new_rule, listed, with_first, with_name, with_span, is_noted, with_directive, with_overridden, with_rule, with_listed, with_entry, with_marked}
+use Rattle.cfgast.proofs.Names.{AreAmong, put_first, put_first-entry, firsts-filter_map-push, is_named-firsts, has_name-names, names-put, entries-put, put_there, put_grows, indices-stay, noted, indices-put}
 
 abbrev pub tokens : List Item → List (List ℕ)
 tokens items = map word_name (token_words items)
@@ -108,6 +109,16 @@ marked-pushed said None = refl
 marked-pushed [] (Some o) = ap Some (words-pushed [] o)
 marked-pushed (x ∷ said) (Some o) = ap Some (words-pushed (x ∷ said) o)
 
+-- whether a token is declared again depends only on whether its own name is declared
+declared_again-same : (known same : List ℕ → Bool) (item : Item) → ((name : List ℕ) → option_map word_name (token_declared item) ≡ Some name → known name ≡ same name)
+    → declared_again known item ≡ declared_again same item
+declared_again-same known same (TokenDeclared word) h = λ i. if h word.name refl i then Some word else None
+declared_again-same known same _ h = refl
+
+overridden-added : (item : Item) (words : List Word) → words ++ overridden item ≡ with_overridden item words
+overridden-added (Alternative head body) words = refl
+overridden-added _ words = append-nil words
+
 module _ (items : List Item) (item : Item) where
   -- of what the first item says that names it
   pub first-push : {A : Type 0} (named : Item → Option A) → slice_get (filter_map named (items ++ item ∷ [])) 0 ≡ with_first (named item) (slice_get (filter_map named items) 0)
@@ -183,26 +194,41 @@ module _ (items : List Item) (item : Item) where
       go (Some word) = map-pushed_unless (λ (w : Word). w.span) (is_named word_name word.name words) words word
           ∙ ap (λ b. pushed_unless b (map (λ w. w.span) words) word.span) (sym (has_name-names word_name word.name words))
 
+  -- the declared tokens are among the tokens up to this item, with the indices that they have before it,
+  declared-among : AreAmong (declared items) (tokens (items ++ item ∷ []))
+  declared-among name h = ap (has_name name) tokens-push ∙ put_grows (option_map word_name (token_named item)) (tokens items) name (declared_token items name h)
+
+  declared-stay : indices_of (declared items) (tokens (items ++ item ∷ [])) ≡ indices_of (declared items) (tokens items)
+  declared-stay = ap (indices_of (declared items)) tokens-push ∙ indices-stay (declared items) (tokens items) (declared_token items) (option_map word_name (token_named item))
+
+  -- and so is the one that it declares
+  declared-there : (name : List ℕ) → option_map word_name (token_declared item) ≡ Some name → has_name name (tokens (items ++ item ∷ [])) ≡ true
+  declared-there name e = declared_token (items ++ item ∷ []) name
+      (ap (has_name name) (ap (map word_name) declared_words-push ∙ names-put word_name (declared_words items) (token_declared item))
+      ∙ ap (λ o. has_name name (with_name o (declared items))) e ∙ put_there name (declared items))
+
   pub directives-push : indices_of (declared (items ++ item ∷ [])) (tokens (items ++ item ∷ []))
       ≡ with_directive (option_map word_name (token_declared item)) (with_name (option_map word_name (token_named item)) (tokens items)) (indices_of (declared items) (tokens items))
   directives-push =
       ap (λ ns. indices_of ns (tokens (items ++ item ∷ []))) (ap (map word_name) declared_words-push ∙ names-put word_name (declared_words items) (token_declared item))
-      ∙ indices-put (declared items) (tokens (items ++ item ∷ [])) among (option_map word_name (token_declared item)) there
-      ∙ (λ i. with_directive (option_map word_name (token_declared item)) (tokens-push i) (stay i))
-    where
-      put : Option (List ℕ)
-      put = option_map word_name (token_named item)
+      ∙ indices-put (declared items) (tokens (items ++ item ∷ [])) declared-among (option_map word_name (token_declared item)) declared-there
+      ∙ (λ i. with_directive (option_map word_name (token_declared item)) (tokens-push i) (declared-stay i))
 
-      among : AreAmong (declared items) (tokens (items ++ item ∷ []))
-      among name h = ap (has_name name) tokens-push ∙ put_grows put (tokens items) name (declared_token items name h)
+  -- a token is declared again if its index is noted already
+  noted-before : (name : List ℕ) → option_map word_name (token_declared item) ≡ Some name → is_named word_name name (filter_map token_declared items)
+      ≡ is_noted (with_name (option_map word_name (token_named item)) (tokens items)) (indices_of (declared items) (tokens items)) name
+  unfolding declared_words
+  noted-before name e =
+      sym (is_named-firsts word_name name (filter_map token_declared items)) ∙ sym (has_name-names word_name name (declared_words items))
+      ∙ sym (noted (declared items) (tokens (items ++ item ∷ [])) declared-among name (declared-there name e))
+      ∙ (λ i. is_noted (tokens-push i) (declared-stay i) name)
 
-      there : (name : List ℕ) → option_map word_name (token_declared item) ≡ Some name → has_name name (tokens (items ++ item ∷ [])) ≡ true
-      there name e = declared_token (items ++ item ∷ []) name
-          (ap (has_name name) (ap (map word_name) declared_words-push ∙ names-put word_name (declared_words items) (token_declared item))
-          ∙ ap (λ o. has_name name (with_name o (declared items))) e ∙ put_there name (declared items))
+  pub repeated_tokens-push : filter_map repeated_token (with_prefixes (items ++ item ∷ [])) ≡ pushed (filter_map repeated_token (with_prefixes items))
+      (declared_again (is_noted (with_name (option_map word_name (token_named item)) (tokens items)) (indices_of (declared items) (tokens items))) item)
+  repeated_tokens-push = prefixes-push repeated_token ∙ ap (pushed (filter_map repeated_token (with_prefixes items))) (declared_again-same _ _ item noted-before)
 
-      stay : indices_of (declared items) (tokens (items ++ item ∷ [])) ≡ indices_of (declared items) (tokens items)
-      stay = ap (indices_of (declared items)) tokens-push ∙ indices-stay (declared items) (tokens items) (declared_token items) put
+  pub overridden-push : flat_map overridden (items ++ item ∷ []) ≡ with_overridden item (flat_map overridden items)
+  overridden-push = sym (flat_map_more overridden [] items item) ∙ overridden-added item (flat_map overridden items)
 
   -- a rule that isn't named yet has no production
   unlisted : (head : RuleHead) → is_named head_name (head_name head) (rule_heads items) ≡ false → rule_of (alternatives items) head ≡ new_rule head

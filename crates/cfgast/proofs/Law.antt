@@ -13,7 +13,7 @@ use Rattle.cfgast.specs.Occurrences.{declared_once}
 use Rattle.cfgast.specs.Syntax.{word_name, is_named, token_declared, start_named, declared_words, index_of, indices_of, finished, action_type_declared, printed_form_declared, expected, expected_reduce_reduce, expected_unused, parse_param_declared, generics_declared, avoid_insert_said, implicit_tokens_said, precedence_at, level_ended, programs_given, settings_of, tables_of, syntax_of}
 use Rattle.cfgast.specs.Building.{has_name, is_declared, grown, add, adds}
 use Rattle.cfgast.proofs.Names.{is_named-firsts, has_name-names, noted}
-use Rattle.cfgast.proofs.Fields.{tokens, declared, declared_token, first-push, last-push, entries-push, entries_after-push, marked-push, rules-push, productions-push, production_rules-push, tokens-push, spans-push, directives-push}
+use Rattle.cfgast.proofs.Fields.{tokens, declared, declared_token, first-push, last-push, entries-push, entries_after-push, marked-push, rules-push, productions-push, production_rules-push, tokens-push, spans-push, directives-push, repeated_tokens-push, overridden-push}
 
 -- a name is declared so far if a `%token` list has it
 is_declared-syntax_of : (items : List Item) (name : List ℕ) → is_named word_name name (filter_map token_declared items) ≡ is_declared (syntax_of items) name
@@ -61,6 +61,8 @@ syntax_of-push items item = (λ i. record {
     programs = last-push items item programs_given i;
   };
   expect_unused = filter_map-pushed expected_unused items item i;
+  repeated_tokens = repeated_tokens-push items item i;
+  overridden_precedences = overridden-push items item i;
   occurrences = filter_map-pushed declared_once items item i;
 }) ∙ ap (grown (syntax_of items) item) (λ i. finished (λ name. is_declared-syntax_of items name i) item)
 

@@ -1,6 +1,7 @@
 -- What the builder writes, as plain data.
-use Rattle.std.proofs.Common.{◌≡◌, ℕ, true, false, nat_eq, List, [], ◌∷◌, ◌++◌, Some, sym, ap, ◌∙◌}
-use Rattle.lemmas.specs.Lists.{pushed_unless}
+use Rattle.std.proofs.Common.{◌≡◌, ℕ, true, false, nat_eq, List, [], ◌∷◌, ◌++◌, Option, Some, None, if◌then◌else◌, sym, ap, ◌∙◌}
+use Rattle.std.specs.List.{list_any}
+use Rattle.lemmas.specs.Lists.{pushed, pushed_unless}
 use Rattle.cfgbase.specs.declared.span.Span.{Span}
 use Rattle.cfgwords.specs.FileWords.{Word}
 use Rattle.cfgast.specs.Items.{RuleHead, TokenDeclared, TokenQuoted}
@@ -23,12 +24,23 @@ module _ (s : Syntax) (word : Word) where
       (λ i. record s { tokens = names_are i; spans = spans_are i })
       ∙ (λ i. record s { tokens = pushed_unless (sym new i) s.tokens word.name; spans = pushed_unless (sym new i) s.spans word.span })
 
-  pub declared-noted : (quoted : Syntax) (i : ℕ) (offsets : List ℕ) → quoted ≡ add s (TokenQuoted word) → i ≡ index_of word.name quoted.tokens
-      → offsets ≡ insert_key nat_eq quoted.token_directives i → record quoted { token_directives = offsets } ≡ add s (TokenDeclared word)
+  -- the word, if the index is noted
+  abbrev pub word_again : Syntax → ℕ → Option Word
+  word_again q i = if list_any (nat_eq i) q.token_directives then Some word else None
+
+  pub declared-noted : (quoted : Syntax) (i : ℕ) (offsets : List ℕ) (repeated : List Word) → quoted ≡ add s (TokenQuoted word) → i ≡ index_of word.name quoted.tokens
+      → offsets ≡ insert_key nat_eq quoted.token_directives i → repeated ≡ pushed quoted.repeated_tokens (word_again quoted i)
+      → record quoted { token_directives = offsets; repeated_tokens = repeated } ≡ add s (TokenDeclared word)
   unfolding add
-  declared-noted quoted i offsets same is are =
-      (λ j. record quoted { token_directives = (are ∙ ap (insert_key nat_eq quoted.token_directives) is) j })
-      ∙ ap {A = Syntax} {B = Syntax} (λ q. record q { token_directives = insert_key nat_eq q.token_directives (index_of word.name q.tokens) }) same
+  declared-noted quoted i offsets repeated same is are again =
+      (λ j. record quoted {
+        token_directives = (are ∙ ap (insert_key nat_eq quoted.token_directives) is) j;
+        repeated_tokens = (again ∙ ap (λ k. pushed quoted.repeated_tokens (word_again quoted k)) is) j;
+      })
+      ∙ ap {A = Syntax} {B = Syntax} (λ q. record q {
+        token_directives = insert_key nat_eq q.token_directives (index_of word.name q.tokens);
+        repeated_tokens = pushed q.repeated_tokens (word_again q (index_of word.name q.tokens));
+      }) same
 
 module _ (s : Syntax) (head : RuleHead) where
   abbrev pub rule_put : Syntax

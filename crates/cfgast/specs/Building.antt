@@ -6,9 +6,9 @@ use Rattle.std.specs.Str.{bytes_eq}
 use Rattle.lemmas.specs.Lists.{pushed, pushed_unless}
 use Rattle.cfgbase.specs.declared.span.Span.{Span}
 use Rattle.cfgwords.specs.FileWords.{Word}
-use Rattle.cfgast.specs.Items.{Item, RuleHead}
+use Rattle.cfgast.specs.Items.{Item, RuleHead, Alternative}
 use Rattle.cfgast.specs.Occurrences.{declared_once}
-use Rattle.cfgast.specs.Syntax.{Syntax, Settings, Tables, Rule, Production, word_name, head_name, index_of, token_named, token_declared, start_named, action_type_declared, printed_form_declared, expected, expected_reduce_reduce, expected_unused, parse_param_declared, generics_declared, avoid_insert_said, implicit_tokens_said, precedence_declared, level_ended, programs_given, rule_named, typed, word_entry, finished}
+use Rattle.cfgast.specs.Syntax.{Syntax, Settings, Tables, Rule, Production, word_name, head_name, index_of, token_named, token_declared, start_named, action_type_declared, printed_form_declared, expected, expected_reduce_reduce, expected_unused, parse_param_declared, generics_declared, avoid_insert_said, implicit_tokens_said, precedence_declared, level_ended, programs_given, rule_named, typed, word_entry, finished, declared_again, overridden}
 
 -- whether a name is among names
 abbrev pub has_name : List ℕ → List (List ℕ) → Bool
@@ -29,12 +29,14 @@ abbrev pub with_span : Option Word → List (List ℕ) → List Span → List Sp
 with_span None tokens spans = spans
 with_span (Some word) tokens spans = pushed_unless (has_name word.name tokens) spans word.span
 
+-- whether the index of a name among the tokens is noted
+abbrev pub is_noted : List (List ℕ) → List ℕ → List ℕ → Bool
+is_noted tokens directives name = list_any (λ j. index_of name tokens == j) directives
+
 -- the index of a declared name among the tokens, if it isn't noted yet
 abbrev pub with_directive : Option (List ℕ) → List (List ℕ) → List ℕ → List ℕ
 with_directive None tokens directives = directives
-with_directive (Some name) tokens directives =
-    let i = index_of name tokens in
-    pushed_unless (list_any (λ j. i == j) directives) directives i
+with_directive (Some name) tokens directives = pushed_unless (is_noted tokens directives name) directives (index_of name tokens)
 
 abbrev pub has_rule : List ℕ → List (List ℕ × Rule) → Bool
 has_rule name rules = list_any (λ rule. bytes_eq name rule.0) rules
@@ -75,6 +77,11 @@ with_marked None table = table
 with_marked (Some said) None = Some (with_entry (option_map word_entry said) [])
 with_marked (Some said) (Some entries) = Some (with_entry (option_map word_entry said) entries)
 
+-- the tokens of `%prec`s that a later one overrides, with those of a finished production
+abbrev pub with_overridden : Item → List Word → List Word
+with_overridden (Alternative head body) words = words ++ overridden (Alternative head body)
+with_overridden _ words = words
+
 abbrev pub with_settings : Item → Settings → Settings
 with_settings item settings = record {
   action_type = with_first (action_type_declared item) settings.action_type;
@@ -110,6 +117,8 @@ grown s item production =
       tables = with_tables item s.tables;
       settings = with_settings item s.settings;
       expect_unused = pushed s.expect_unused (expected_unused item);
+      repeated_tokens = pushed s.repeated_tokens (declared_again (is_noted tokens s.token_directives) item);
+      overridden_precedences = with_overridden item s.overridden_precedences;
       occurrences = pushed s.occurrences (declared_once item);
     }
 

@@ -9,10 +9,10 @@ pub record RuleHead : Type 0 where
   pub name : Word
   pub action_type : Option (List ℕ)
 
--- a production: its symbols, the name of the token that its `%prec` names, its action and the action's span
+-- a production: its symbols, the tokens of its `%prec`s, in order, its action and the action's span
 pub record Body : Type 0 where
   pub symbols : List Token
-  pub precedence : Option (List ℕ)
+  pub precedences : List Token
   pub action : Option (List ℕ × Span)
   pub span : Span
 

@@ -1,6 +1,6 @@
 -- What a list of items says: rules, tokens and productions, by first occurrences in the list.
-use Rattle.std.specs.Prelude.{ℕ, ◌-◌, Bool, List, All, length, map, filter, ◌||◌, not, Option, Some, None, IfSome, option_map, slice_get, [], ◌∷◌, if◌then◌else◌}
-use Rattle.std.specs.List.{list_any, filter_map, position_or_len}
+use Rattle.std.specs.Prelude.{ℕ, ◌-◌, Bool, List, All, length, map, filter, take, ◌||◌, not, Option, Some, None, IfSome, option_map, slice_get, [], ◌∷◌, if◌then◌else◌}
+use Rattle.std.specs.List.{list_any, filter_map, flat_map, position_or_len}
 use Rattle.std.specs.Option.{option_or}
 use Rattle.std.specs.Str.{bytes_eq}
 use Rattle.lemmas.specs.Lists.{with_prefixes, positions}
@@ -55,6 +55,8 @@ pub record Syntax : Type 0 where
   pub tables : Tables
   pub settings : Settings
   pub expect_unused : List Symbol
+  pub repeated_tokens : List Word  -- the tokens of `%token` lists that such lists have before
+  pub overridden_precedences : List Word  -- the tokens of `%prec`s that a later `%prec` of their production overrides
   pub occurrences : List Occurrence  -- of what may be declared only once
 
 -- the name of a symbol, and its span
@@ -87,6 +89,8 @@ pub record EachSpan (P Q : Span → Type 0) (syntax : Syntax) : Type 0 where
   pub tables : EachTableSpan P syntax.tables
   pub settings : EachSettingSpan P syntax.settings
   pub expect_unused : All (λ symbol. P (symbol_word symbol).span) syntax.expect_unused
+  pub repeated_tokens : All (λ word. P word.span) syntax.repeated_tokens
+  pub overridden_precedences : All (λ word. P word.span) syntax.overridden_precedences
   pub occurrences : All (λ occurrence. P occurrence.span) syntax.occurrences
 
 abbrev pub word_name : Word → List ℕ
@@ -111,6 +115,13 @@ index_of name names = position_or_len (bytes_eq name) names
 
 abbrev pub indices_of : List (List ℕ) → List (List ℕ) → List ℕ
 indices_of some names = map (λ name. index_of name names) some
+
+-- the last of a list, and all before it
+abbrev pub last_of : {A : Type 0} → List A → Option A
+last_of xs = slice_get xs (length xs - 1)
+
+abbrev pub without_last : {A : Type 0} → List A → List A
+without_last xs = take (length xs - 1) xs
 
 -- What an item says: the words by which it names a token, a declared token and the start; the type that all actions return; a token's
 -- printed form; the numbers of conflicts that it expects; the symbol that it expects to be unused; what it says about the parser; what it
@@ -193,10 +204,11 @@ rule_named _ = None
 abbrev pub symbol_of : (List ℕ → Bool) → Token → Symbol
 symbol_of is_declared token = if token.quoted || is_declared token.name then TokenSymbol (word_of token) else RuleSymbol (word_of token)
 
+-- Of its `%prec`s the last counts.
 abbrev pub production_of : (List ℕ → Bool) → Body → Production
 production_of is_declared body = record {
   symbols = map (symbol_of is_declared) body.symbols;
-  precedence = body.precedence;
+  precedence = option_map (λ token. token.name) (last_of body.precedences);
   action = body.action;
   span = body.span;
 }
@@ -211,6 +223,19 @@ alternative (prefix, item) = finished (λ name. is_named word_name name (filter_
 
 unfoldable pub alternatives : List Item → List (List ℕ × Production)
 alternatives items = filter_map alternative (with_prefixes items)
+
+-- the token of a `%token` list, if such lists have it before
+abbrev pub declared_again : (List ℕ → Bool) → Item → Option Word
+declared_again is_declared (TokenDeclared word) = if is_declared word.name then Some word else None
+declared_again is_declared _ = None
+
+abbrev pub repeated_token : List Item × Item → Option Word
+repeated_token (prefix, item) = declared_again (λ name. is_named word_name name (filter_map token_declared prefix)) item
+
+-- the tokens of a production's `%prec`s before its last
+abbrev pub overridden : Item → List Word
+overridden (Alternative head body) = map word_of (without_last body.precedences)
+overridden _ = []
 
 unfoldable pub token_words : List Item → List Word
 token_words items = firsts word_name (filter_map token_named items)
@@ -253,10 +278,6 @@ rule_of alternatives head = (
   },
 )
 
--- the last of a list
-abbrev pub last_of : {A : Type 0} → List A → Option A
-last_of xs = slice_get xs (length xs - 1)
-
 -- Of the types and the numbers of conflicts the first counts, of everything else the last.
 unfoldable pub settings_of : List Item → Settings
 settings_of items = record {
@@ -292,5 +313,7 @@ syntax_of items = record {
   tables = tables_of items;
   settings = settings_of items;
   expect_unused = filter_map expected_unused items;
+  repeated_tokens = filter_map repeated_token (with_prefixes items);
+  overridden_precedences = flat_map overridden items;
   occurrences = filter_map declared_once items;
 }

@@ -110,6 +110,8 @@ syntax_view syntax = record {
   tables = tables_view syntax.tables;
   settings = settings_view syntax.settings;
   expect_unused = map symbol_view syntax.expect_unused.items;
+  repeated_tokens = map named_view syntax.repeated_tokens.items;
+  overridden_precedences = map named_view syntax.overridden_precedences.items;
   occurrences = map occurrence_view syntax.occurrences.items;
 }
 
@@ -131,7 +133,7 @@ head_view head = record { name = word_view head.name; action_type = option_map (
 abbrev pub body_view : Body → items.Body
 body_view body = record {
   symbols = map token_view body.symbols.now;
-  precedence = option_map (λ name. name.now) body.precedence;
+  precedences = map token_view body.precedences.now;
   action = option_map (λ action. (action.0.now, action.1)) body.action;
   span = body.span;
 }

@@ -12,7 +12,7 @@ ghost use Rattle.cfgast.specs.Building.{add, adds, with_first, with_rule, new_ru
 use crate::item::{Body, RuleHead};
 use crate::occurrence::{Occurrence, Unique, UniqueKind};
 use crate::precedence::{AssocKind, Precedence};
-use crate::production::Production;
+use crate::production::{Production, push_overridden};
 use crate::rule::{Rule, list_production_at, rule_index};
 use crate::symbol::Symbol;
 use crate::syntax::Syntax;
@@ -59,7 +59,10 @@ impl AstBuilder {
             ≡ add (syntax_built self.old) (TokenDeclared (word_view word.entry))) }
     {
         let index = self.put_token(alloc, word)?;
-        self.syntax.token_directives.insert(index)?;
+        if !self.syntax.token_directives.insert(index)? {
+            let name = String::from_str(alloc, word.name)?;
+            self.syntax.repeated_tokens.push((name, word.span))?;
+        }
         Ok(())
     }
 
@@ -300,6 +303,11 @@ impl AstBuilder {
             ≡ add (syntax_built self.old) (Alternative (head_view head.entry) (body_view body.entry))) }
     {
         let production = self.production_of(alloc, body)?;
+        push_overridden(
+            alloc,
+            &mut self.syntax.overridden_precedences,
+            body.precedences,
+        )?;
         let rule = self.put_rule(alloc, head)?;
         let index = self.syntax.prods.len();
         list_production_at(&mut self.syntax.rules, rule, index)?;
@@ -408,8 +416,8 @@ impl AstBuilder {
         ensures { IfOk result (λ made. production_view made
             ≡ production_of (is_declared (syntax_built self.now)) (body_view body.entry)) }
     {
-        let precedence = match body.precedence {
-            Some(name) => Some(String::from_str(alloc, name)?),
+        let precedence = match body.precedences.last() {
+            Some(token) => Some(String::from_str(alloc, token.name)?),
             None => None,
         };
         let action = match body.action {

@@ -15,8 +15,8 @@ pub struct RuleHead<'a> {
 pub struct Body<'t, 'a> {
     /// The symbols, in order.
     pub symbols: &'t [Token<'a>],
-    /// The name of the token that its `%prec` names.
-    pub precedence: Option<&'a str>,
+    /// The tokens of its `%prec`s, in order.
+    pub precedences: &'t [Token<'a>],
     /// The action's text, and its span.
     pub action: Option<(&'a str, Span)>,
     /// The production's span.

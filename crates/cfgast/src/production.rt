@@ -1,8 +1,12 @@
-ghost use Rattle.std.specs.Prelude.{◌≡◌};
+ghost use Rattle.std.specs.Prelude.{◌≡◌, ◌++◌, map, OnOk};
+ghost use Rattle.cfgwords.specs.FileWords.{word_of};
+ghost use Rattle.cfgast.specs.Syntax.{without_last};
+ghost use Rattle.cfgast.specs.SyntaxView.{named_view, token_view};
 
 use crate::symbol::Symbol;
 use cfgbase::Span;
-use std::alloc::AllocError;
+use cfgwords::words::Token;
+use std::alloc::{AllocError, Global};
 
 /// A production of a rule.
 #[derive(Debug, PartialEq, Eq, Drop)]
@@ -30,4 +34,22 @@ impl Clone for Production {
             prod_span: self.prod_span,
         })
     }
+}
+
+// Adds the tokens of a production's `%prec`s before its last.
+pub(crate) fn push_overridden(
+    alloc: Global,
+    overridden: &mut Vec<(String, Span)>,
+    precedences: &[Token<'_>],
+) -> Result<(), AllocError>
+    ensures { OnOk result (map named_view overridden.new.items ≡ map named_view overridden.old.items
+        ++ map word_of (without_last (map token_view precedences.now))) }
+{
+    let Some((_, earlier)) = precedences.split_last() else {
+        return Ok(());
+    };
+    for token in earlier {
+        overridden.push((String::from_str(alloc, token.name)?, token.span))?;
+    }
+    Ok(())
 }

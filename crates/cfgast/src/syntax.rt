@@ -35,6 +35,10 @@ pub struct Syntax {
     pub settings: Settings,
     /// The symbols of the `%expect-unused` lists, in order.
     pub expect_unused: Vec<Symbol>,
+    /// The tokens of `%token` lists that such lists have before, each with its span, in order.
+    pub repeated_tokens: Vec<(String, Span)>,
+    /// The tokens of `%prec`s that a later `%prec` of their production overrides, each with its span, in order.
+    pub overridden_precedences: Vec<(String, Span)>,
     /// Each declaration of what a file may declare only once, in order.
     pub occurrences: Vec<Occurrence>,
 }
@@ -59,6 +63,8 @@ impl Syntax {
             tables: Tables::none(alloc),
             settings: Settings::none(),
             expect_unused: Vec::new(alloc),
+            repeated_tokens: Vec::new(alloc),
+            overridden_precedences: Vec::new(alloc),
             occurrences: Vec::new(alloc),
         }
     }
