@@ -180,6 +180,20 @@ impl GrammarAST {
         &self.syntax.expect_unused
     }
 
+    /// The tokens of `%token` lists that such lists have before, each with its span, in order.
+    pub fn repeated_tokens(&self) -> &[(String, Span)]
+        ensures { map named_view result.now ≡ (syntax self.now).repeated_tokens }
+    {
+        &self.syntax.repeated_tokens
+    }
+
+    /// The tokens of `%prec`s that a later `%prec` of their production overrides, each with its span, in order.
+    pub fn overridden_precedences(&self) -> &[(String, Span)]
+        ensures { map named_view result.now ≡ (syntax self.now).overridden_precedences }
+    {
+        &self.syntax.overridden_precedences
+    }
+
     /// Each declaration of what a file may declare only once, in order.
     pub fn occurrences(&self) -> &[Occurrence]
         ensures { map occurrence_view result.now ≡ (syntax self.now).occurrences }
@@ -236,6 +250,12 @@ impl Refill for GrammarAST {
         self.syntax
             .expect_unused
             .clone_from(&from.syntax.expect_unused)?;
+        self.syntax
+            .repeated_tokens
+            .clone_from(&from.syntax.repeated_tokens)?;
+        self.syntax
+            .overridden_precedences
+            .clone_from(&from.syntax.overridden_precedences)?;
         self.syntax
             .occurrences
             .clone_from(&from.syntax.occurrences)?;

@@ -15,9 +15,12 @@ pub fn parts<'a>(ast: &'a GrammarAST, name: &str) -> Option<&'a Rule> {
     let tokens: &IndexSet<String> = ast.tokens();
     let spans: &[Span] = ast.spans();
     let expect_unused: &[Symbol] = ast.expect_unused();
+    let repeated_tokens: &[(String, Span)] = ast.repeated_tokens();
+    let overridden_precedences: &[(String, Span)] = ast.overridden_precedences();
     let is_small: bool = rules.len() <= prods.len()
         && token_directives.len() <= tokens.len()
-        && expect_unused.len() <= spans.len();
+        && expect_unused.len() <= spans.len()
+        && repeated_tokens.len() <= overridden_precedences.len();
     let rule: Option<&'a Rule> = ast.get_rule(name);
     if start.is_some() && is_small && ast.has_token(name) {
         None

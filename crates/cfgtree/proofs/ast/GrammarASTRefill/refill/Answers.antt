@@ -21,5 +21,7 @@ returns-clause-copied c =
       tables = c.in_ok-clone_from-8.ensures.ok i;
       settings = c.in_ok-clone_from-9.ensures.ok i;
       expect_unused = map-copies _ symbol_view (λ x y h. h) _ _ c.in_ok-clone_from-10.ensures.ok.0 i;
-      occurrences = map-copies _ occurrence_view (λ x y h. h) _ _ c.in_ok-clone_from-11.ensures.ok.0 i;
+      repeated_tokens = map-copies _ named_view (λ x y h. search rules) _ _ c.in_ok-clone_from-11.ensures.ok.0 i;
+      overridden_precedences = map-copies _ named_view (λ x y h. search rules) _ _ c.in_ok-clone_from-12.ensures.ok.0 i;
+      occurrences = map-copies _ occurrence_view (λ x y h. h) _ _ c.in_ok-clone_from-13.ensures.ok.0 i;
     }
