@@ -1,8 +1,8 @@
 -- What holds of all words, or of what each item says, holds of those that remain.
-use Rattle.std.proofs.Common.{ℕ, Bool, List, filter, not, All}
-use Rattle.std.specs.List.{list_any}
+use Rattle.std.proofs.Common.{ℕ, Bool, List, [], ◌∷◌, filter, not, All}
+use Rattle.std.specs.List.{flat_map, list_any}
 use Rattle.std.specs.Str.{bytes_eq}
-use Rattle.std.proofs.lemmas.List.Elements.{All-map, All-filter}
+use Rattle.std.proofs.lemmas.List.Elements.{All-append, All-filter, All-head, All-map, All-nil, All-tail}
 use Rattle.lemmas.proofs.Prefixes.{All-with_prefixes}
 use Rattle.lemmas.specs.Lists.{with_prefixes}
 use Rattle.cfgast.specs.Syntax.{firsts}
@@ -15,3 +15,9 @@ All-firsts {A} name_of P xs h = All-map P (λ x. x.1) (filter is_first (with_pre
   where
     is_first : List A × A → Bool
     is_first x = not (list_any (λ y. bytes_eq (name_of x.1) (name_of y)) x.0)
+
+-- of the lists that each element gives
+pub All-flat_map : {A B : Type 0} (P : B → Type 0) (f : A → List B) (xs : List A) → All (λ x. All P (f x)) xs → All P (flat_map f xs)
+All-flat_map P f [] all = All-nil P
+All-flat_map P f (x ∷ xs) all =
+    All-append P (f x) (flat_map f xs) (All-head (λ x. All P (f x)) x xs all) (All-flat_map P f xs (All-tail (λ x. All P (f x)) x xs all))

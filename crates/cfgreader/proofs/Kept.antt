@@ -36,7 +36,7 @@ IsItemAt whole (RuleNamed head) = IsNameAt whole head.name
 IsItemAt whole (TokenQuoted word) = IsWordAt whole word
 IsItemAt whole (PrecedenceUsed word) = IsWordAt whole word
 IsItemAt whole (Alternative head body) = IsNameAt whole head.name × All (λ token. IsWordAt whole (word_of token)) body.symbols
-    × IfSome body.action (λ action. IsWithin whole action.1) × IsPiece whole body.span
+    × All (λ token. IsWordAt whole (word_of token)) body.precedences × IfSome body.action (λ action. IsWithin whole action.1) × IsPiece whole body.span
 IsItemAt whole _ = Unit {0}
 
 module _ (whole : List ℕ) where

@@ -1,9 +1,10 @@
 -- What holds of everything that rules give, construct by construct, and of everything that a whole file gives.
-use Rattle.std.proofs.Common.{◌≡◌, ◌==◌, ℕ, suc, ◌-◌, ◌≤◌, Bool, true, false, List, [], ◌∷◌, filter_map, length, slice_get, option_map, unwrap_or, Option, Some, None, All, codes, refl, sym, ap, subst, arith}
+use Rattle.std.proofs.Common.{◌≡◌, ◌==◌, ℕ, suc, ◌-◌, ◌≤◌, Bool, true, false, List, [], ◌∷◌, ◌++◌, filter_map, length, slice_get, option_map, unwrap_or, Option, Some, None, All, codes, refl, sym, ap, subst, arith}
 use Rattle.std.specs.Prelude.{IfSome}
 use Rattle.std.specs.Str.{IsUtf8, IsCharBoundary}
 use Rattle.std.specs.Option.{option_or}
-use Rattle.std.proofs.lemmas.List.Elements.{All-append, All-cons, All-head, All-nil, All-tail, All-weaker}
+use Rattle.std.proofs.lemmas.List.Elements.{All-append, All-head, All-nil, All-tail, All-weaker}
+use Rattle.lemmas.proofs.Options.{All-filter_map}
 use Rattle.constructs.specs.Construct.{repeat, while_test, Says}
 use Rattle.constructs.proofs.Keeps.{Given, keeps, given_passes}
 use Rattle.constructs.proofs.Yields.{Yields}
@@ -18,7 +19,7 @@ use Rattle.cfgast.specs.Items.{Item, RuleHead}
 use Rattle.cfgast.specs.Syntax.{last_of}
 use Rattle.cfgkinds.specs.declared.kind.YaccKind.{YaccKind}
 use Rattle.cfgreader.specs.Here.{Turn}
-use Rattle.cfgreader.specs.Rules.{Part, SymbolPart, PrecedencePart, EmptyPart, Parts, no_parts, with_parts, part_end, symbol_in, end_of, parts_sequence, precedence, empty, misplaced_empty, prefix_part, symbol_part, part, brace_fault, end_fault, another, finish, production_end, production, rule_type, rule_body, rule}
+use Rattle.cfgreader.specs.Rules.{Part, SymbolPart, PrecedencePart, EmptyPart, Parts, no_parts, with_parts, part_end, symbol_in, precedence_in, end_of, parts_sequence, precedence, empty, misplaced_empty, prefix_part, symbol_part, part, brace_fault, end_fault, another, finish, production_end, production, rule_type, rule_body, rule}
 use Rattle.cfgreader.specs.FileGrammar.{programs, file}
 use Rattle.cfgreader.proofs.Kept.{IsNameAt, IsItemAt, IsAt, KeepsOffsets}
 use Rattle.cfgreader.proofs.KeptDeclarations.{declaration_kept, separator_fault_kept}
@@ -31,6 +32,7 @@ IsPartAt whole from (EmptyPart end) = (offset_of (length whole) from ≤ end) ×
 
 record ArePartsAt (whole from : List ℕ) (parts : Parts) : Type 0 where
   symbols : All (λ token. IsWordAt whole (word_of token)) parts.symbols
+  precedences : All (λ token. IsWordAt whole (word_of token)) parts.precedences
   end : IfSome parts.end (λ end. (offset_of (length whole) from ≤ end) × IsCharBoundary whole end)
 
 last_after : {A : Type 0} (x y : A) (ys : List A) → last_of (x ∷ y ∷ ys) ≡ last_of (y ∷ ys)
@@ -42,16 +44,25 @@ module _ (whole : List ℕ) (utf8 : IsUtf8 whole) where
   abbrev len : ℕ
   len = length whole
 
-  no_parts_at : (from : List ℕ) → ArePartsAt whole from no_parts
-  no_parts_at from = record { symbols = All-nil (λ token. IsWordAt whole (word_of token)); end = tt }
+  abbrev IsTokenAt : Token → Type 0
+  IsTokenAt token = IsWordAt whole (word_of token)
 
-  symbols_at : (from : List ℕ) (parts : List Part) → All (IsPartAt whole from) parts → All (λ token. IsWordAt whole (word_of token)) (filter_map symbol_in parts)
-  symbols_at from [] all = All-nil (λ token. IsWordAt whole (word_of token))
-  symbols_at from (SymbolPart token ∷ parts) all =
-      All-cons (λ (token : Token). IsWordAt whole (word_of token)) token (filter_map symbol_in parts) (All-head (IsPartAt whole from) (SymbolPart token) parts all).piece
-      (symbols_at from parts (All-tail (IsPartAt whole from) (SymbolPart token) parts all))
-  symbols_at from (PrecedencePart token ∷ parts) all = symbols_at from parts (All-tail (IsPartAt whole from) (PrecedencePart token) parts all)
-  symbols_at from (EmptyPart end ∷ parts) all = symbols_at from parts (All-tail (IsPartAt whole from) (EmptyPart end) parts all)
+  no_parts_at : (from : List ℕ) → ArePartsAt whole from no_parts
+  no_parts_at from = record { symbols = All-nil IsTokenAt; precedences = All-nil IsTokenAt; end = tt }
+
+  symbol_at : (from : List ℕ) (part : Part) → IsPartAt whole from part → IfSome (symbol_in part) IsTokenAt
+  symbol_at from (SymbolPart token) at = at.piece
+  symbol_at from _ at = tt
+
+  precedence_at : (from : List ℕ) (part : Part) → IsPartAt whole from part → IfSome (precedence_in part) IsTokenAt
+  precedence_at from (PrecedencePart token) at = at.piece
+  precedence_at from _ at = tt
+
+  -- the tokens of one kind of parts, after those before them
+  tokens_at : (from : List ℕ) (said : Part → Option Token) → ((part : Part) → IsPartAt whole from part → IfSome (said part) IsTokenAt)
+      → (before : List Token) (more : List Part) → All IsTokenAt before → All (IsPartAt whole from) more → All IsTokenAt (before ++ filter_map said more)
+  tokens_at from said each before more at all = All-append IsTokenAt before (filter_map said more) at
+      (All-filter_map IsTokenAt said more (All-weaker (IsPartAt whole from) (λ part. IfSome (said part) IsTokenAt) each more all))
 
   -- an end is at a character boundary of the text, not before the offset where its production begins
   abbrev IsEndAt : (from : List ℕ) → ℕ → Type 0
@@ -72,7 +83,8 @@ module _ (whole : List ℕ) (utf8 : IsUtf8 whole) where
 
   parts_at : (from : List ℕ) (before : Parts) (more : List Part) → ArePartsAt whole from before → All (IsPartAt whole from) more → ArePartsAt whole from (with_parts before more)
   parts_at from before more at all = record {
-    symbols = All-append (λ (token : Token). IsWordAt whole (word_of token)) before.symbols (filter_map symbol_in more) at.symbols (symbols_at from more all);
+    symbols = tokens_at from symbol_in (symbol_at from) before.symbols more at.symbols all;
+    precedences = tokens_at from precedence_in (precedence_at from) before.precedences more at.precedences all;
     end = end_at from before.end more at.end all;
   }
 
@@ -188,8 +200,8 @@ module _ (whole : List ℕ) (utf8 : IsUtf8 whole) where
   production_end_kept from head parts cut n at = λ after u. (
     λ text word rest t w.
         let it = action_is_at whole utf8 after text word rest t w in
-        (it.0, (blank_is_at whole utf8 true after, λ _. finish_kept after true _ (n, at.symbols, it.1, piece_to from after cut u))),
-    finish_kept after false _ (n, at.symbols, tt, parts_piece from after parts cut u at),
+        (it.0, (blank_is_at whole utf8 true after, λ _. finish_kept after true _ (n, at.symbols, at.precedences, it.1, piece_to from after cut u))),
+    finish_kept after false _ (n, at.symbols, at.precedences, tt, parts_piece from after parts cut u at),
   )
 
   production_kept : (from : List ℕ) (head : RuleHead) → IsNameAt whole head.name → KeepsOffsets whole (production len head) from (λ _. Unit {0})

@@ -3,12 +3,11 @@ use Rattle.std.proofs.Common.{◌≡◌, ℕ, ◌≤◌, List, [], ◌∷◌, �
 use Rattle.std.specs.Prelude.{IfSome}
 use Rattle.std.specs.Option.{option_or}
 use Rattle.std.proofs.lemmas.List.Elements.{filter_map-append}
-use Rattle.lemmas.specs.Lists.{pushed}
 use Rattle.lemmas.proofs.Elements.{slice_get_push}
-use Rattle.lemmas.proofs.Pushed.{filter_map-pushed}
 use Rattle.constructs.specs.Steps.{Fails}
 use Rattle.constructs.proofs.Agree.{leaves}
 use Rattle.constructs.proofs.Steps.{Gathers, gathers_start, gathers_on, turn_shorter, many_done, many_stops, returns_then, stops_then}
+use Rattle.cfgwords.specs.FileWords.{Token}
 use Rattle.cfgwords.specs.Text.{offset_of}
 use Rattle.cfgast.specs.Syntax.{last_of}
 use Rattle.cfgreader.specs.declared.bodies.Part.{Part as CodePart}
@@ -16,43 +15,27 @@ use Rattle.cfgreader.specs.declared.bodies.Parts.{Parts as CodeParts}
 use Rattle.cfgreader.specs.declared.reader.Reader.{Reader}
 use Rattle.cfgreader.specs.declared.reader.ReadFault.{ReadFault}
 use Rattle.cfgreader.specs.Here.{Turn}
-use Rattle.cfgreader.specs.Rules.{Part, Parts, SymbolPart, PrecedencePart, EmptyPart, part_end, precedence_in, parts_sequence, symbol_in, with_parts}
+use Rattle.cfgreader.specs.Rules.{Part, Parts, part_end, precedence_in, parts_sequence, symbol_in, with_parts}
 use Rattle.cfgreader.specs.Inner.Builds.{Builds, fault_of, file_reader, part_view, parts_view}
 
 -- the last of a list after a push
 last_of-push : {A : Type 0} (xs : List A) (x : A) → last_of (xs ++ x ∷ []) ≡ Some x
 last_of-push xs x = slice_get_push xs x _ (omega (arith, length-append xs (x ∷ [])))
 
-last_of-pushed : {A : Type 0} (xs : List A) (o : Option A) → last_of (pushed xs o) ≡ option_or o (last_of xs)
-last_of-pushed xs None = refl
-last_of-pushed xs (Some x) = last_of-push xs x
-
 -- with no more parts
 with_none : (before : Parts) → with_parts before [] ≡ before
-with_none before = λ i. record { symbols = append-nil before.symbols i; precedence = before.precedence; end = before.end }
+with_none before = λ i. record { symbols = append-nil before.symbols i; precedences = append-nil before.precedences i; end = before.end }
 
 -- Adding parts one by one, as the code does, gives the summary of the whole list.
 with_push : (before : Parts) (parts : List Part) (part : Part) → with_parts before (parts ++ part ∷ []) ≡ with_parts (with_parts before parts) (part ∷ [])
-with_push before parts part = λ i. record { symbols = symbols i; precedence = precedence i; end = ap (λ o. option_or (option_map part_end o) before.end) (last_of-push parts part) i }
+with_push before parts part = λ i. record {
+  symbols = added symbol_in before.symbols i;
+  precedences = added precedence_in before.precedences i;
+  end = ap (λ o. option_or (option_map part_end o) before.end) (last_of-push parts part) i;
+}
   where
-    symbols : before.symbols ++ filter_map symbol_in (parts ++ part ∷ []) ≡ (before.symbols ++ filter_map symbol_in parts) ++ filter_map symbol_in (part ∷ [])
-    symbols = ap (λ xs. before.symbols ++ xs) (filter_map-append symbol_in parts (part ∷ [])) ∙ sym (append_assoc before.symbols (filter_map symbol_in parts) (filter_map symbol_in (part ∷ [])))
-
-    either : (o p : Option (List ℕ)) → option_or (option_or o p) before.precedence ≡ option_or o (option_or p before.precedence)
-    either None p = refl
-    either (Some x) p = refl
-
-    last_one : (part : Part) → last_of (filter_map precedence_in (part ∷ [])) ≡ precedence_in part
-    last_one (SymbolPart token) = refl
-    last_one (PrecedencePart token) = refl
-    last_one (EmptyPart end) = refl
-
-    precedence : option_or (last_of (filter_map precedence_in (parts ++ part ∷ []))) before.precedence
-        ≡ option_or (last_of (filter_map precedence_in (part ∷ []))) (option_or (last_of (filter_map precedence_in parts)) before.precedence)
-    precedence =
-        ap (λ o. option_or o before.precedence) (ap last_of (filter_map-pushed precedence_in parts part) ∙ last_of-pushed (filter_map precedence_in parts) (precedence_in part))
-        ∙ either (precedence_in part) (last_of (filter_map precedence_in parts))
-        ∙ ap (λ o. option_or o (option_or (last_of (filter_map precedence_in parts)) before.precedence)) (sym (last_one part))
+    added : (said : Part → Option Token) (tokens : List Token) → tokens ++ filter_map said (parts ++ part ∷ []) ≡ (tokens ++ filter_map said parts) ++ filter_map said (part ∷ [])
+    added said tokens = ap (λ xs. tokens ++ xs) (filter_map-append said parts (part ∷ [])) ∙ sym (append_assoc tokens (filter_map said parts) (filter_map said (part ∷ [])))
 
 -- the parts so far: no part of the loop ends before its start, so if no earlier part ends before an offset up to there, none does
 pub record InParts (c : ℕ → Turn Part) (before : Parts) (start now : Reader) (parts : CodeParts) : Type 0 where

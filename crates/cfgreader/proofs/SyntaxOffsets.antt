@@ -1,7 +1,7 @@
 -- The spans of the syntax are those of the items that it is built from.
-use Rattle.std.proofs.Common.{◌||◌, ℕ, Bool, true, false, List, [], ◌∷◌, filter_map, All, Option, option_map, if◌then◌else◌}
+use Rattle.std.proofs.Common.{◌||◌, ℕ, ◌-◌, Bool, true, false, List, [], ◌∷◌, filter_map, length, All, Option, Some, None, option_map, if◌then◌else◌}
 use Rattle.std.specs.Prelude.{IfSome}
-use Rattle.std.proofs.lemmas.List.Elements.{All-map, All-weaker}
+use Rattle.std.proofs.lemmas.List.Elements.{All-map, All-nil, All-take, All-weaker}
 use Rattle.lemmas.specs.Lists.{with_prefixes}
 use Rattle.lemmas.proofs.Prefixes.{All-with_prefixes}
 use Rattle.lemmas.proofs.Options.{All-slice_get, All-filter_map}
@@ -10,8 +10,8 @@ use Rattle.cfgwords.specs.FileWords.{Word, Token, word_of}
 use Rattle.cfgast.specs.declared.precedence.Precedence.{Precedence}
 use Rattle.cfgast.specs.Items.{Item, TokenDeclared, StartDeclared, ActionTypeDeclared, PrintedFormDeclared, ExpectDeclared, ExpectReduceReduceDeclared, ExpectedUnused, AvoidInsertBegun, AvoidInsertDeclared, ImplicitTokensBegun, ImplicitTokenDeclared, PrecedenceDeclared, RuleBegun, RuleNamed, TokenQuoted, PrecedenceUsed, Alternative}
 use Rattle.cfgast.specs.Occurrences.{declared_once}
-use Rattle.cfgast.specs.Syntax.{Production, RuleSymbol, TokenSymbol, EachProductionSpan, EachTableSpan, EachSpan, symbol_word, word_name, head_name, entry_name, word_entry, firsts, token_named, start_named, printed_form_declared, expected, expected_reduce_reduce, expected_unused, avoid_insert_said, implicit_tokens_said, precedence_declared, precedence_at, marked, rule_named, typed, typed_rule, symbol_of, finished, alternative, alternatives, token_words, rule_heads, rule_of, settings_of, tables_of, syntax_of}
-use Rattle.cfgast.proofs.Keeps.{All-firsts}
+use Rattle.cfgast.specs.Syntax.{Production, RuleSymbol, TokenSymbol, EachProductionSpan, EachTableSpan, EachSpan, symbol_word, word_name, head_name, entry_name, word_entry, firsts, token_named, start_named, printed_form_declared, expected, expected_reduce_reduce, expected_unused, avoid_insert_said, implicit_tokens_said, precedence_declared, precedence_at, marked, rule_named, typed, typed_rule, symbol_of, finished, alternative, alternatives, declared_again, repeated_token, overridden, without_last, token_words, rule_heads, rule_of, settings_of, tables_of, syntax_of}
+use Rattle.cfgast.proofs.Keeps.{All-firsts, All-flat_map}
 use Rattle.cfgwords.specs.TextSpans.{IsPiece, IsWithin}
 use Rattle.cfgwords.proofs.WordOffsets.{IsWordAt}
 use Rattle.cfgwords.proofs.NameStarts.{begins_as_name}
@@ -42,6 +42,19 @@ module _ (whole : List ℕ) where
   unused_located : (item : Item) → IsItemAt whole item → IfSome (expected_unused item) (λ symbol. IsWordAt whole (symbol_word symbol))
   unused_located (ExpectedUnused symbol) h = h
   unused_located _ h = tt
+
+  repeated_located : (is_declared : List ℕ → Bool) (item : Item) → IsItemAt whole item → IfSome (declared_again is_declared item) (IsWordAt whole)
+  repeated_located is_declared (TokenDeclared word) h = go (is_declared word.name)
+    where
+      go : (b : Bool) → IfSome (if b then Some word else None) (IsWordAt whole)
+      go true = h
+      go false = tt
+  repeated_located is_declared _ h = tt
+
+  overridden_located : (item : Item) → IsItemAt whole item → All (IsWordAt whole) (overridden item)
+  overridden_located (Alternative head body) h =
+      All-map (IsWordAt whole) word_of (without_last body.precedences) (All-take (λ token. IsWordAt whole (word_of token)) (length body.precedences - 1) body.precedences h.2)
+  overridden_located _ h = All-nil (IsWordAt whole)
 
   occurrence_located : (item : Item) → IsItemAt whole item → IfSome (declared_once item) (λ occurrence. IsPiece whole occurrence.span)
   occurrence_located (StartDeclared word) h = h
@@ -94,10 +107,10 @@ module _ (whole : List ℕ) where
 
   production_located : (is_declared : List ℕ → Bool) (item : Item) → IsItemAt whole item → IfSome (finished is_declared item) IsProductionAt
   production_located is_declared (Alternative head body) h = record {
-    itself = h.3;
+    itself = h.4;
     symbols = All-map (λ symbol. IsWordAt whole (symbol_word symbol)) (symbol_of is_declared) body.symbols
         (All-weaker (λ token. IsWordAt whole (word_of token)) (λ token. IsWordAt whole (symbol_word (symbol_of is_declared token))) (symbol_located is_declared) body.symbols h.1);
-    action = h.2;
+    action = h.3;
   }
   production_located is_declared _ h = tt
 
@@ -155,6 +168,8 @@ module _ (whole : List ℕ) where
           (all_located (λ number. IsPiece whole number.1) expected_reduce_reduce expected_reduce_reduce_located items all);
     };
     expect_unused = all_located (λ symbol. IsWordAt whole (symbol_word symbol)) expected_unused unused_located items all;
+    repeated_tokens = after_located (IsWordAt whole) repeated_token (λ prefix. repeated_located _) items all;
+    overridden_precedences = All-flat_map (IsWordAt whole) overridden items (All-weaker (IsItemAt whole) (λ item. All (IsWordAt whole) (overridden item)) overridden_located items all);
     occurrences = all_located (λ occurrence. IsPiece whole occurrence.span) declared_once occurrence_located items all;
   }
 

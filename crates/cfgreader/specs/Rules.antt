@@ -29,28 +29,28 @@ part_end (SymbolPart token) = token.end
 part_end (PrecedencePart token) = token.end
 part_end (EmptyPart end) = end
 
--- what was read of a production: its symbols, the token after its last `%prec`, and the offset where its last part ends
+-- what was read of a production: its symbols, the tokens after its `%prec`s, and the offset where its last part ends
 pub record Parts : Type 0 where
   pub symbols : List Token
-  pub precedence : Option (List ℕ)
+  pub precedences : List Token
   pub end : Option ℕ
 
 abbrev pub no_parts : Parts
-no_parts = record { symbols = []; precedence = None; end = None }
+no_parts = record { symbols = []; precedences = []; end = None }
 
 abbrev pub symbol_in : Part → Option Token
 symbol_in (SymbolPart token) = Some token
 symbol_in _ = None
 
-abbrev pub precedence_in : Part → Option (List ℕ)
-precedence_in (PrecedencePart token) = Some token.name
+abbrev pub precedence_in : Part → Option Token
+precedence_in (PrecedencePart token) = Some token
 precedence_in _ = None
 
--- with more parts added: the symbols among them, the last precedence among them, and the end of the last one
+-- with more parts added: the symbols and the tokens after `%prec`s among them, and the end of the last one
 abbrev pub with_parts : Parts → List Part → Parts
 with_parts before more = record {
   symbols = before.symbols ++ filter_map symbol_in more;
-  precedence = option_or (last_of (filter_map precedence_in more)) before.precedence;
+  precedences = before.precedences ++ filter_map precedence_in more;
   end = option_or (option_map part_end (last_of more)) before.end;
 }
 
@@ -59,7 +59,7 @@ abbrev pub end_of : Parts → ℕ → ℕ
 end_of parts offset_of = unwrap_or parts.end offset_of
 
 abbrev pub body_of : Parts → Option (List ℕ × Span) → Span → Body
-body_of parts action span = record { symbols = parts.symbols; precedence = parts.precedence; action = action; span = span }
+body_of parts action span = record { symbols = parts.symbols; precedences = parts.precedences; action = action; span = span }
 
 -- what may follow an `%empty`: `|`, `;`, an action or a `%prec`
 abbrev pub may_follow_empty : List ℕ → Bool

@@ -4,13 +4,13 @@ ghost use Rattle.std.specs.Prelude.{◌≡◌, ◌≤◌, ℕ, [], ◌∷◌, If
 ghost use Rattle.constructs.specs.Construct.{again, then};
 ghost use Rattle.cfgwords.specs.Text.{offset_of};
 ghost use Rattle.cfgreader.specs.Inner.Builds.{part_view, parts_view};
-ghost use Rattle.cfgreader.specs.Rules.{empty, prefix_part, prefix_parts, may_follow_empty, more_parts, part, part_end};
-ghost use Rattle.cfgreader.specs.Rules.{precedence, symbol_part, with_parts};
+ghost use Rattle.cfgreader.specs.Rules.{empty, prefix_part, prefix_parts, may_follow_empty, more_parts, no_parts};
+ghost use Rattle.cfgreader.specs.Rules.{part, part_end, precedence, symbol_part, with_parts};
 
 use super::reader::{ReadFault, Reader};
 use cfgwords::fault::FaultKind;
 use cfgwords::words::Token;
-use std::alloc::AllocError;
+use std::alloc::{AllocError, Global};
 
 /// A part of a production.
 #[derive(Clone, Copy)]
@@ -28,13 +28,33 @@ pub(super) enum Part<'a> {
 pub(super) struct Parts<'a> {
     /// Its symbols, in order.
     pub(super) symbols: Vec<Token<'a>>,
-    /// The name of the token after its last `%prec`.
-    pub(super) precedence: Option<&'a str>,
+    /// The tokens after its `%prec`s, in order.
+    pub(super) precedences: Vec<Token<'a>>,
     /// The offset in bytes where its last part ends.
     pub(super) end: Option<usize>,
 }
 
 impl<'a> Parts<'a> {
+    /// No parts.
+    pub(super) fn new(alloc: Global) -> Self
+        ensures { parts_view result ≡ no_parts }
+    {
+        Parts {
+            symbols: Vec::new(alloc),
+            precedences: Vec::new(alloc),
+            end: None,
+        }
+    }
+
+    /// Removes all parts.
+    fn clear(&mut self)
+        ensures { parts_view self.new ≡ no_parts }
+    {
+        self.symbols.clear();
+        self.precedences.clear();
+        self.end = None;
+    }
+
     /// Adds a part.
     ///
     /// # Errors
@@ -50,7 +70,7 @@ impl<'a> Parts<'a> {
             }
             Part::Precedence(token) => {
                 self.end = Some(token.end);
-                self.precedence = Some(token.name);
+                self.precedences.push(token)?;
             }
             Part::Nullable(end) => self.end = Some(end),
         }
@@ -153,19 +173,15 @@ impl<'a> Reader<'a> {
         }
     }
 
-    /// Passes the parts of a production before its first symbol. The symbols after them will be added to this list,
-    /// which is cleared.
-    pub(super) fn prefix_parts(&mut self, symbols: Vec<Token<'a>>) -> Result<Parts<'a>, ReadFault>
+    /// Passes the parts of a production before its first symbol. They replace those in `parts`, whose lists are used
+    /// again.
+    pub(super) fn prefix_parts(&mut self, parts: Parts<'a>) -> Result<Parts<'a>, ReadFault>
         ensures read { Builds parts_view self.old self.new result (prefix_parts self.old.len) }
         ensures ends { IfOk result (λ parts. IfSome parts.end (λ end. offset_of self.old.len self.old.rest.now ≤ end)) }
         ensures shorter { OnOk result (length self.new.rest.now ≤ length self.old.rest.now) }
     {
-        let mut parts = Parts {
-            symbols,
-            precedence: None,
-            end: None,
-        };
-        parts.symbols.clear();
+        let mut parts = parts;
+        parts.clear();
         while let Some(part) = self.prefix_part()? {
             parts.add(part)?;
         }

@@ -8,6 +8,7 @@ ghost use Rattle.cfgwords.specs.Text.{offset_of, fault_at};
 ghost use Rattle.cfgreader.specs.Here.{is_open, holds, blank_here, name_here, token_here, integer_here};
 ghost use Rattle.cfgreader.specs.Here.{line_rest_here, epp_string_here, colon_text_here};
 
+use super::bodies::Parts;
 use cfgast::{AstBuilder, Syntax};
 use cfgbase::Span;
 use cfgwords::blank::Prefix;
@@ -44,8 +45,8 @@ pub(crate) struct Reader<'a> {
     pub(crate) len: usize,
     pub(crate) rest: &'a str,
     pub(crate) tree: AstBuilder,
-    /// The list that the symbols of one production after another are read into.
-    pub(crate) symbols: Vec<Token<'a>>,
+    /// The lists that the parts of one production after another are read into.
+    pub(crate) parts: Parts<'a>,
     ghost within: { length rest.now ≤ len },
 }
 
@@ -65,7 +66,7 @@ impl<'a> Reader<'a> {
             len,
             rest,
             tree: AstBuilder::new(alloc),
-            symbols: Vec::new(alloc),
+            parts: Parts::new(alloc),
         }
     }
 

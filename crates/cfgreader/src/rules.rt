@@ -100,7 +100,7 @@ impl<'a> Reader<'a> {
         }
         let body = Body {
             symbols: &parts.symbols,
-            precedence: parts.precedence,
+            precedences: &parts.precedences,
             action,
             span: Span::new(start, end),
         };
@@ -113,11 +113,11 @@ impl<'a> Reader<'a> {
         ensures { Builds goes_on self.old self.new result (production self.old.len (head_view head.entry)) }
     {
         let start = self.offset();
-        let symbols = mem::replace(&mut self.symbols, Vec::new(self.alloc));
-        let prefix = self.prefix_parts(symbols)?;
+        let parts = mem::replace(&mut self.parts, Parts::new(self.alloc));
+        let prefix = self.prefix_parts(parts)?;
         let parts = self.more_parts(prefix)?;
         let follows = self.production_end(head, start, &parts)?;
-        self.symbols = parts.symbols;
+        self.parts = parts;
         Ok(follows)
     }
 

@@ -83,7 +83,7 @@ part_view (code_parts.Nullable end) = EmptyPart end
 abbrev pub parts_view : CodeParts → Parts
 parts_view parts = record {
   symbols = map token_view parts.symbols.items;
-  precedence = option_map (λ name. name.now) parts.precedence;
+  precedences = map token_view parts.precedences.items;
   end = parts.end;
 }
 

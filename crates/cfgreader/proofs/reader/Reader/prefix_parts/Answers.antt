@@ -1,13 +1,12 @@
-use Rattle.std.proofs.Common.{map, ap, arith}
+use Rattle.std.proofs.Common.{arith}
 use Rattle.cfgwords.specs.Text.{offset_of}
 use Rattle.std.proofs.lemmas.Result.{err_from_is_err_and}
-use Rattle.cfgast.specs.SyntaxView.{token_view}
 use Rattle.cfgreader.specs.Rules.{prefix_part, no_parts}
 use Rattle.cfgreader.proofs.Parts.{parts_start, parts_on, parts_smaller, parts_done, parts_fail, parts_shorter}
 use Rattle.cfgreader.proofs.reader.Reader.prefix_parts.Goals as goal
 
 pub loop-parts-init : goal.loop-parts-init
-loop-parts-init c = parts_start prefix_part no_parts c.args.self.now _ (ap (λ tokens. record no_parts { symbols = map token_view tokens }) c.clear.ensures.items)
+loop-parts-init c = parts_start prefix_part no_parts c.args.self.now _ c.clear.ensures
 
 pub loop-parts-smaller : goal.loop-parts-smaller
 loop-parts-smaller c = parts_smaller prefix_part no_parts c.args.self.now c.loop-parts.self c.loop-parts.parts c.loop-parts.invariant c.prefix_part.new.self
