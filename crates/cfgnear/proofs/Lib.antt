@@ -1,0 +1,2 @@
+pub mod FirstNearest
+pub mod Lengths
