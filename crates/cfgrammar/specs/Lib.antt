@@ -120,6 +120,7 @@ pub use Rattle.cfgnumbers.specs.Numbered
 pub use Rattle.cfgnumbers.specs.Accessors
 pub use Rattle.cfgnumbers.specs.TablesView
 pub use Rattle.cfgnumbers.specs.WellNumbered
+pub use Rattle.cfgsyntax.specs.EveryError
 pub use Rattle.cfgsyntax.specs.Faults
 pub use Rattle.cfgsyntax.specs.OfItself
 pub use Rattle.cfgsyntax.specs.Parsed

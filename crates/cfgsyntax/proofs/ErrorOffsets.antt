@@ -1,5 +1,5 @@
 -- Each error of a text has a span, and its spans begin and end at character boundaries of the text.
-use Rattle.std.proofs.Common.{◌≡◌, ℕ, ◌<◌, Bool, true, false, not, ◌||◌, List, [], ◌∷◌, ◌++◌, map, length, All, get_or, slice_get, option_map, Option, Some, None, Ok, Err, Result, sym, subst, arith, if◌then◌else◌}
+use Rattle.std.proofs.Common.{ℕ, ◌<◌, Bool, true, false, not, List, [], ◌∷◌, ◌++◌, map, length, All, get_or, slice_get, option_map, Option, Some, None, Ok, Err, Result, sym, subst, arith, if◌then◌else◌}
 use Rattle.std.specs.Prelude.{IfSome}
 use Rattle.std.specs.Option.{option_or, option_and_then, option_to_list}
 use Rattle.std.specs.Str.{IsUtf8, IsCharBoundary}

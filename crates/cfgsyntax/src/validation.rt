@@ -2,7 +2,7 @@
 
 ghost use Rattle.std.specs.Prelude.{◌≡◌, IfOk, map, option_map, string_bytes};
 ghost use Rattle.cfgast.specs.Building.{has_entry, has_name, has_rule};
-ghost use Rattle.cfgast.specs.SyntaxView.{symbol_view, production_view};
+ghost use Rattle.cfgast.specs.SyntaxView.{symbol_view, text_view, production_view};
 ghost use Rattle.cfgtree.specs.TreeView.{syntax};
 ghost use Rattle.cfgtree.specs.Check.{start_error, symbol_error};
 ghost use Rattle.cfgtree.specs.Check.{precedence_error, production_error, printed_error, locate_error, rule_error};
@@ -85,7 +85,7 @@ fn has_token(ast: &GrammarAST, name: &str) -> bool
     ast.has_token(name)
 }
 
-fn check_start(ast: &GrammarAST) -> Result<(), ValidationError<'_>>
+pub(crate) fn check_start(ast: &GrammarAST) -> Result<(), ValidationError<'_>>
     ensures { found result ≡ start_error (syntax ast.now) (syntax ast.now).start }
 {
     match ast.start() {
@@ -95,7 +95,10 @@ fn check_start(ast: &GrammarAST) -> Result<(), ValidationError<'_>>
     }
 }
 
-fn check_symbol<'a>(ast: &GrammarAST, symbol: &'a Symbol) -> Result<(), ValidationError<'a>>
+pub(crate) fn check_symbol<'a>(
+    ast: &GrammarAST,
+    symbol: &'a Symbol,
+) -> Result<(), ValidationError<'a>>
     ensures { found result ≡ symbol_error (syntax ast.now) (symbol_view symbol.now) }
 {
     match symbol {
@@ -112,7 +115,7 @@ fn has_precedence(ast: &GrammarAST, name: &str) -> bool
     ast.precs().contains_key(name)
 }
 
-fn check_precedence<'a>(
+pub(crate) fn check_precedence<'a>(
     ast: &GrammarAST,
     token: &'a Option<String>,
 ) -> Result<(), ValidationError<'a>>
@@ -174,13 +177,27 @@ fn check_rules(ast: &GrammarAST) -> Result<(), ValidationError<'_>>
     Ok(())
 }
 
+/// Checks the key of an `%epp`.
+pub(crate) fn check_printed_form<'a>(
+    ast: &GrammarAST,
+    name: &'a str,
+    printed: &(Span, (String, Span)),
+) -> Result<(), ValidationError<'a>>
+    ensures { found result
+        ≡ printed_error (syntax ast.now) (name.now, (printed.now.0, text_view printed.now.1)) }
+{
+    if has_token(ast, name) {
+        Ok(())
+    } else {
+        Err(ValidationError::PrintedForm(name, printed.0))
+    }
+}
+
 fn check_printed_forms(ast: &GrammarAST) -> Result<(), ValidationError<'_>>
     ensures { found result ≡ first_error (printed_error (syntax ast.now)) (syntax ast.now).tables.printed_forms }
 {
-    for (name, (span, _)) in ast.epp() {
-        if !has_token(ast, name.as_str()) {
-            return Err(ValidationError::PrintedForm(name.as_str(), *span));
-        }
+    for (name, printed) in ast.epp() {
+        check_printed_form(ast, name.as_str(), printed)?;
     }
     Ok(())
 }

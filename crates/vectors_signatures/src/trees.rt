@@ -1,8 +1,8 @@
 //! The syntax tree.
 
 use cfgrammar::Span;
-use cfgrammar::yacc::ast::{GrammarAST, Production, Rule, Symbol};
-use cfgrammar::yacc::{AssocKind, Precedence, PrecedenceLevel};
+use cfgrammar::yacc::ast::{GrammarAST, Production, Rule, Symbol, every_error};
+use cfgrammar::yacc::{AssocKind, Precedence, PrecedenceLevel, YaccGrammarError};
 use indexmap::{IndexMap, IndexSet};
 use std::alloc::{AllocError, Global};
 
@@ -131,4 +131,10 @@ pub fn written(
 pub fn with_programs(ast: &mut GrammarAST, programs: (String, String)) {
     ast.set_programs(programs.0);
     ast.add_programs(programs.1);
+}
+
+/// Every check of validation that a tree fails.
+pub fn failed(alloc: Global, ast: &GrammarAST) -> Result<Vec<YaccGrammarError>, AllocError> {
+    let errors: Vec<YaccGrammarError> = every_error(alloc, ast)?;
+    Ok(errors)
 }

@@ -1,6 +1,7 @@
 //! The syntax of a Yacc file, and whether it is valid.
 
 mod errors;
+mod every_check;
 mod fault;
 mod source;
 mod start;
@@ -33,6 +34,7 @@ use cfgsection::named::{kind_if_named, kind_named};
 pub use cfgtree::GrammarAST;
 use cfgtree::{clone_with_start, tree_with};
 use errors::{errors_found, fault_of};
+pub use every_check::every_error;
 pub use source::KindSource;
 pub use start::{ASTModificationError, StartFault};
 use std::alloc::{AllocError, Global};
