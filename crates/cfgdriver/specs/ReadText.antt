@@ -27,9 +27,15 @@ pub data IsReadAs (default : YaccKind) (text : List ℕ) : Option KindArg → Ki
   itself : (NamesNoKind text → ⊥) → IsReadAs default text None Section false
   taken : NamesNoKind text → IsReadAs default text None (Named default) true
 
--- A text that is found to be this is refused, and this is made of the errors.
-abbrev pub IsMadeOfErrors : {Made : Type 0} → (List GrammarError → Made → Type 0) → Found → Made → Type 0
-IsMadeOfErrors OfErrors found made = (errors : List GrammarError) × IsRefused greatest found errors × OfErrors errors made
+-- the syntax that was read, unless the text names no kind
+abbrev pub syntax_read : Found → Option Syntax
+syntax_read (Unnamed errors) = None
+syntax_read (WasRead parsed) = Some parsed.syntax
+
+-- A text that is found to be this is refused, and this is made of the errors, and of the syntax that was read.
+abbrev pub IsMadeOfErrors : {Made : Type 0} → (Option Syntax → List GrammarError → Made → Type 0) → Found → Made → Type 0
+IsMadeOfErrors OfErrors found made =
+    (errors : List GrammarError) × IsRefused greatest found errors × OfErrors (syntax_read found) errors made
 
 -- It is a grammar, namely what was read, if that has no errors and fits; and this is made of its syntax, and of its numbered form.
 abbrev pub IsMadeOfGrammar : {Made : Type 0} → (Syntax → Numbered → Made → Type 0) → Found → Made → Type 0
@@ -38,5 +44,5 @@ IsMadeOfGrammar OfGrammar (WasRead parsed) made =
     (parsed.errors ≡ []) × Fits greatest (in_numbers parsed) × OfGrammar parsed.syntax (in_numbers parsed) made
 
 -- one of the two
-abbrev pub IsMadeOf : {Made : Type 0} → (List GrammarError → Made → Type 0) → (Syntax → Numbered → Made → Type 0) → Found → Made → Type 0
+abbrev pub IsMadeOf : {Made : Type 0} → (Option Syntax → List GrammarError → Made → Type 0) → (Syntax → Numbered → Made → Type 0) → Found → Made → Type 0
 IsMadeOf OfErrors OfGrammar found made = IsMadeOfErrors OfErrors found made ⊎ IsMadeOfGrammar OfGrammar found made

@@ -2,7 +2,7 @@
 //! errors, or of its grammar.
 #![tactic(auto)]
 
-ghost use Rattle.std.specs.Prelude.{All, IfOk, IfSome, None};
+ghost use Rattle.std.specs.Prelude.{All, IfOk, IfSome, None, option_map};
 ghost use Rattle.std.specs.Fn.{FnOnceReturnsAt, FnOnceTakesAt};
 ghost use Rattle.cfgrammar.specs.Answer.{Found, IsGrammar, WasRead, in_numbers};
 ghost use Rattle.cfgrammar.specs.ErrorSpans.{EachErrorSpan, EachParsedSpan};
@@ -20,18 +20,18 @@ use std::alloc::{AllocError, Global};
 
 /// What makes something of a text: of its errors, or of its grammar.
 pub trait TextReader<R> {
-    ghost use Rattle.std.specs.Prelude.{ℕ, List};
+    ghost use Rattle.std.specs.Prelude.{ℕ, List, Option};
     ghost use Rattle.cfgrammar.specs.Errors.{GrammarError};
     ghost use Rattle.cfgrammar.specs.Numbered.{Numbered};
     ghost use Rattle.cfgrammar.specs.Syntax.{Syntax};
 
-    // What may be made of a text that has these errors.
-    ghost of_errors: { Self → List ℕ → List GrammarError → R → Type 0 };
+    // What may be made of a text that was read as this syntax, unless it names no kind, and has these errors.
+    ghost of_errors: { Self → List ℕ → Option Syntax → List GrammarError → R → Type 0 };
 
     // What may be made of a text that has this syntax and this numbered grammar.
     ghost of_grammar: { Self → List ℕ → Syntax → Numbered → R → Type 0 };
 
-    /// Makes the result for a text that has these errors.
+    /// Makes the result for a text that was read as this tree, unless it names no kind, and has these errors.
     ///
     /// # Errors
     ///
@@ -40,10 +40,11 @@ pub trait TextReader<R> {
         &self,
         alloc: Global,
         text: &str,
+        ast: Option<&GrammarAST>,
         errors: &[YaccGrammarError],
     ) -> Result<R, AllocError>
         requires { All (EachErrorSpan (IsPiece text.now)) errors.now }
-        ensures { IfOk result (of_errors self.now text.now errors.now) };
+        ensures { IfOk result (of_errors self.now text.now (option_map (λ ast. syntax ast.now) ast.entry) errors.now) };
 
     /// Makes the result for a text that has this tree, if it is the same whatever the grammar; the grammar's tables are
     /// then not made.
@@ -132,7 +133,7 @@ fn read_unrequested<R, T: TextReader<R>>(
     match ASTWithValidityInfo::from_str_or(alloc, default, text) {
         Ok((parsed, KindSource::Section)) => Ok((made_of(alloc, text, parsed, reader)?, false)),
         Ok((parsed, KindSource::Default)) => Ok((made_of(alloc, text, parsed, reader)?, true)),
-        Err(YaccFault::Errors(errors)) => Ok((reader.errors(alloc, text, &errors)?, false)),
+        Err(YaccFault::Errors(errors)) => Ok((reader.errors(alloc, text, None, &errors)?, false)),
         Err(YaccFault::OutOfMemory) => Err(AllocError),
     }
 }
@@ -158,7 +159,7 @@ fn read_itself<R, T: TextReader<R>>(alloc: Global, text: &str, reader: &T) -> Re
 {
     match ASTWithValidityInfo::from_str(alloc, text) {
         Ok(parsed) => made_of(alloc, text, parsed, reader),
-        Err(YaccFault::Errors(errors)) => reader.errors(alloc, text, &errors),
+        Err(YaccFault::Errors(errors)) => reader.errors(alloc, text, None, &errors),
         Err(YaccFault::OutOfMemory) => Err(AllocError),
     }
 }
@@ -190,7 +191,7 @@ fn made_of_parsed<R, T: TextReader<R>>(
 {
     match YaccGrammar::<u32>::check_ast(alloc, parsed) {
         Ok(()) => made_of_valid(alloc, text, parsed, reader),
-        Err(YaccFault::Errors(errors)) => reader.errors(alloc, text, &errors),
+        Err(YaccFault::Errors(errors)) => reader.errors(alloc, text, Some(parsed.ast()), &errors),
         Err(YaccFault::OutOfMemory) => Err(AllocError),
     }
 }

@@ -16,7 +16,7 @@ module _ (AreLines : Syntax → Numbered → List ℕ → Type 0) (text : List �
   -- what is made for a text
   abbrev pub IsMadeReport : Found → Outcome × String Global → Type 0
   IsMadeReport found report =
-      IsMadeOf (λ errors. IsReported Refused (λ lines. lines ≡ error_lines text errors)) (λ s g. IsReported Done (AreLines s g)) found report
+      IsMadeOf (λ _ errors. IsReported Refused (λ lines. lines ≡ error_lines text errors)) (λ s g. IsReported Done (AreLines s g)) found report
 
   -- is its report
   reported : (found : Found) (report : Outcome × String Global) → IsMadeReport found report → IsReport AreLines text found report.0 (string_bytes report.1)

@@ -49,7 +49,7 @@ module _ (AreLines : Syntax → Numbered → List ℕ → Type 0) where
   -- has errors, and these are.
   abbrev pub IsReport : List ℕ → Found → Outcome → List ℕ → Type 0
   IsReport text found Done lines = IsMadeOfGrammar AreLines found lines
-  IsReport text found Refused lines = IsMadeOfErrors (λ errors lines. lines ≡ error_lines text errors) found lines
+  IsReport text found Refused lines = IsMadeOfErrors (λ _ errors lines. lines ≡ error_lines text errors) found lines
 
   -- What a report adds to the known bytes of its sink: the lines of how it ended; nothing if memory ran out; if the sink counted a fault, a
   -- prefix of the lines of how it would have ended.

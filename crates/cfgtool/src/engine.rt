@@ -85,7 +85,7 @@ impl TextReader<(Outcome, String)> for Request<'_> {
     ghost use Rattle.cfgtool.specs.Report.{AreRequestedLines, IsReported};
     ghost use Rattle.cfgtool.specs.ReportLines.{error_lines};
 
-    ghost of_errors = { λ request text errors. IsReported Refused (λ lines. lines ≡ error_lines text errors) };
+    ghost of_errors = { λ request text _ errors. IsReported Refused (λ lines. lines ≡ error_lines text errors) };
 
     ghost of_grammar = { λ request text s g. IsReported Done (AreRequestedLines request text s g) };
 
@@ -93,6 +93,7 @@ impl TextReader<(Outcome, String)> for Request<'_> {
         &self,
         alloc: Global,
         text: &str,
+        _ast: Option<&GrammarAST>,
         errors: &[YaccGrammarError],
     ) -> Result<(Outcome, String), AllocError> {
         Ok((Outcome::Refused, error_lines(alloc, text, errors)?))

@@ -1,8 +1,10 @@
-use Rattle.std.proofs.Common.{All, inl, inr, sym, subst}
+use Rattle.std.proofs.Common.{Some, All, inl, inr, sym, subst}
 use Rattle.std.proofs.lemmas.Result.{IfOk-weaker}
 use Rattle.cfgrammar.specs.Answer.{WasRead}
 use Rattle.cfgrammar.specs.ErrorSpans.{EachErrorSpan}
+use Rattle.cfgrammar.specs.Syntax.{Syntax}
 use Rattle.cfgrammar.specs.TextSpans.{IsPiece}
+use Rattle.cfgrammar.specs.TreeView.{syntax}
 use Rattle.cfgdriver.specs.ReadText.{IsMadeOf, IsMadeOfGrammar}
 use Rattle.cfgdriver.proofs.made_of_parsed.Goals as goal
 
@@ -25,5 +27,11 @@ returns-in-Err-Errors g c =
     let errors = rw c.in-Err-Errors.errors-is at c.deref.ensures.value in
     let OfErrors = g.T.TextReader.of_errors c.args.reader.now c.args.text.now in
     let OfGrammar = g.T.TextReader.of_grammar c.args.reader.now c.args.text.now in
-    IfOk-weaker c.errors.result (OfErrors c.deref.result.now) (IsMadeOf OfErrors OfGrammar (WasRead c.args.parsed.now))
-    (λ made of. inl (c.in-Err-Errors.errors.items, refused, subst (λ errors. OfErrors errors made) errors of)) c.errors.ensures
+    let parsed = c.args.parsed.now in
+    IfOk-weaker c.errors.result (OfErrors (Some (syntax c.ast.result.now)) c.deref.result.now) (IsMadeOf OfErrors OfGrammar (WasRead parsed))
+    (λ made of. inl (
+      c.in-Err-Errors.errors.items,
+      refused,
+      subst (λ (s : Syntax). OfErrors (Some s) c.in-Err-Errors.errors.items made) c.ast.ensures.value
+          (subst (λ errors. OfErrors (Some (syntax c.ast.result.now)) errors made) errors of),
+    )) c.errors.ensures

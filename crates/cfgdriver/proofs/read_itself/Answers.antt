@@ -1,11 +1,11 @@
-use Rattle.std.proofs.Common.{All, inl, refl, sym, subst}
+use Rattle.std.proofs.Common.{None, All, inl, refl, sym, subst}
 use Rattle.std.proofs.lemmas.Result.{IfOk-weaker}
 use Rattle.cfgrammar.specs.Answer.{WasRead, Found, IsRefused}
 use Rattle.cfgrammar.specs.ErrorSpans.{EachErrorSpan}
 use Rattle.cfgrammar.specs.TextSpans.{IsPiece}
 use Rattle.cfgrammar.specs.YaccFault.TheVariants as faults
 use Rattle.cfgrammar.proofs.OfItself.{parsed_itself, refused_itself}
-use Rattle.cfgdriver.specs.ReadText.{IsMadeOf, greatest}
+use Rattle.cfgdriver.specs.ReadText.{IsMadeOf, greatest, syntax_read}
 use Rattle.cfgdriver.proofs.read_itself.Goals as goal
 
 pub errors-requires : goal.errors-requires
@@ -29,8 +29,12 @@ returns-in-Err-Errors g c =
     let OfGrammar = g.T.TextReader.of_grammar c.args.reader.now c.args.text.now in (
       it.0,
       it.1,
-      IfOk-weaker c.errors.result (OfErrors c.deref.result.now) (IsMadeOf OfErrors OfGrammar it.0)
-          (λ made of. inl (reported, subst (λ (found : Found). IsRefused greatest found reported) (sym it.2) refl, subst (λ errors. OfErrors errors made) errors of)) c.errors.ensures,
+      IfOk-weaker c.errors.result (OfErrors None c.deref.result.now) (IsMadeOf OfErrors OfGrammar it.0)
+          (λ made of. inl (
+            reported,
+            subst (λ (found : Found). IsRefused greatest found reported) (sym it.2) refl,
+            subst (λ (found : Found). OfErrors (syntax_read found) reported made) (sym it.2) (subst (λ errors. OfErrors None errors made) errors of),
+          )) c.errors.ensures,
     )
 
 pub returns-in-Err-OutOfMemory : goal.returns-in-Err-OutOfMemory

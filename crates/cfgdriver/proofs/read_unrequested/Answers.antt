@@ -1,9 +1,9 @@
-use Rattle.std.proofs.Common.{Ok, Err, inl, refl, sym, subst}
+use Rattle.std.proofs.Common.{None, Ok, Err, inl, refl, sym, subst}
 use Rattle.cfgrammar.specs.Answer.{Found, WasRead, IsRefused}
 use Rattle.cfgrammar.specs.YaccFault.TheVariants as faults
 use Rattle.cfgrammar.proofs.OfItself.{parsed_itself, refused_itself}
 use Rattle.cfgprogram.specs.declared.kinds.KindArg.TheVariants.{Named, Section}
-use Rattle.cfgdriver.specs.ReadText.{greatest, itself, taken}
+use Rattle.cfgdriver.specs.ReadText.{greatest, itself, syntax_read, taken}
 use Rattle.cfgdriver.proofs.ByNaming.{for_each}
 use Rattle.cfgdriver.proofs.read_unrequested.Goals as goal
 
@@ -35,6 +35,7 @@ returns-in_ok-errors-in-Err-Errors g c =
       inl (
         reported.items,
         subst (λ (found : Found). IsRefused greatest found reported.items) (sym it.2) refl,
-        subst (λ errors. g.T.TextReader.of_errors c.args.reader.now text errors c.in_ok-errors-in-Err-Errors.field-0) errors c.in_ok-errors-in-Err-Errors.ensures,
+        subst (λ (found : Found). g.T.TextReader.of_errors c.args.reader.now text (syntax_read found) reported.items c.in_ok-errors-in-Err-Errors.field-0) (sym it.2)
+            (subst (λ errors. g.T.TextReader.of_errors c.args.reader.now text None errors c.in_ok-errors-in-Err-Errors.field-0) errors c.in_ok-errors-in-Err-Errors.ensures),
       ),
     )
