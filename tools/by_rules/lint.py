@@ -116,18 +116,16 @@ class Tally:
     """What was printed: the lines on texts, the lines on files without one, and the counts of the summary."""
 
     def __init__(self):
-        self.lines, self.faults, self.texts, self.defaults, self.errors, self.warnings = '', '', 0, 0, 0, 0
+        self.lines, self.faults, self.texts, self.kinds, self.errors, self.warnings = '', '', 0, [], 0, 0
 
     def add_text(self, options, name, t, is_printed):
-        kind = options.kind
-        values, errors, _ = section(t, False)
-        is_default = kind is None and not errors and 'yacckind' not in values
         self.texts += 1
-        self.defaults += is_default
-        kind, refused = read_kind('original-noaction' if is_default else kind or 'section', t)
-        if kind is None:
+        word, refused = read_kind(options.kind, t)
+        if word is None:
             return self.add_errors(options, name, t, refused)
-        tree, errors = errors_of(kind, t)
+        if options.kind in (None, 'section'):
+            self.kinds.append(word)
+        tree, errors = errors_of(word.partition('-')[0].capitalize(), t)
         if errors:
             return self.add_errors(options, name, t, errors)
         grammar = Grammar(tree)
@@ -165,9 +163,10 @@ class Tally:
         self.lines += ''.join(line + '\n' for line in lines)
 
     def summary(self):
-        defaults = '; %s read as original-noaction' % counted(self.defaults, 'file') if self.defaults else ''
+        counts = [(word, self.kinds.count(word)) for word in KINDS[:-1]]
+        kinds = ', '.join('%s read as %s' % (counted(n, 'file'), word) for word, n in counts if n)
         return '%s: %s, %s%s\n' % (counted(self.texts, 'file'), counted(self.errors, 'error'),
-                                   counted(self.warnings, 'warning'), defaults)
+                                   counted(self.warnings, 'warning'), kinds and '; ' + kinds)
 
     def status(self, denies):
         if self.faults:
@@ -180,12 +179,15 @@ def stops_reading(error):
     return not repeats and error.kind not in VALIDATION and error.kind != 'StorageTooSmall'
 
 
-def read_kind(kind, t):
-    """The kind as which the text is read (Original, Grmtools or Eco), or None with the errors that are then printed."""
-    if kind == 'section':
-        kind, errors = named_kind(t)
-        return kind and kind.partition('(')[0], errors
-    return kind.partition('-')[0].capitalize(), []
+def read_kind(option, t):
+    """The word of the kind as which the text is read, or None with the errors that are then printed."""
+    if option not in (None, 'section'):
+        return option, []
+    values, errors, _ = section(t, False)
+    if option is None and not errors and 'yacckind' not in values:
+        return 'original-noaction', []
+    kind, errors = named_kind(t)
+    return kind and kind.replace('(', '-').rstrip(')').lower(), errors
 
 
 def counted(n, word):

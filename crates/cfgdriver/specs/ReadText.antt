@@ -1,5 +1,5 @@
 -- What is made of a text: of the errors for which it is refused, or of its grammar.
-use Rattle.std.specs.Prelude.{◌≡◌, ℕ, ◌⊎◌, Bool, true, false, List, [], Option, Some, None}
+use Rattle.std.specs.Prelude.{◌≡◌, ℕ, ◌⊎◌, List, [], Option, Some, None}
 use Rattle.cfgrammar.specs.Answer.{Found, Unnamed, WasRead, IsRefused, in_numbers}
 use Rattle.cfgrammar.specs.Errors.{GrammarError}
 use Rattle.cfgrammar.specs.Fits.{Fits}
@@ -21,11 +21,16 @@ abbrev pub greatest : ℕ
 greatest = 4294967295
 
 -- What kind a text is read as, if this kind is requested, or none: as a file of the requested kind; without one, as a file of the kind that
--- it names, and if it names none, as a file of the default kind. The last argument says whether that was so.
-pub data IsReadAs (default : YaccKind) (text : List ℕ) : Option KindArg → KindArg → Bool → Type 0 where
-  requested : {kind : KindArg} → IsReadAs default text (Some kind) kind false
-  itself : (NamesNoKind text → ⊥) → IsReadAs default text None Section false
-  taken : NamesNoKind text → IsReadAs default text None (Named default) true
+-- it names, and if it names none, as a file of the default kind.
+pub data IsReadAs (default : YaccKind) (text : List ℕ) : Option KindArg → KindArg → Type 0 where
+  requested : {kind : KindArg} → IsReadAs default text (Some kind) kind
+  itself : (NamesNoKind text → ⊥) → IsReadAs default text None Section
+  taken : NamesNoKind text → IsReadAs default text None (Named default)
+
+-- the kind that a text was read as, if it was read: not if its section names none
+abbrev pub kind_read : Found → Option YaccKind
+kind_read (Unnamed errors) = None
+kind_read (WasRead parsed) = Some parsed.kind
 
 -- the syntax that was read, unless the text names no kind
 abbrev pub syntax_read : Found → Option Syntax
@@ -46,3 +51,13 @@ IsMadeOfGrammar OfGrammar (WasRead parsed) made =
 -- one of the two
 abbrev pub IsMadeOf : {Made : Type 0} → (Option Syntax → List GrammarError → Made → Type 0) → (Syntax → Numbered → Made → Type 0) → Found → Made → Type 0
 IsMadeOf OfErrors OfGrammar found made = IsMadeOfErrors OfErrors found made ⊎ IsMadeOfGrammar OfGrammar found made
+
+module _ {Made : Type 0} (OfErrors : Option Syntax → List GrammarError → Made → Type 0) (OfGrammar : Syntax → Numbered → Made → Type 0) where
+  -- what is returned for a text that is found to be this: what is made of it, and the kind that it was read as
+  abbrev pub IsMadeOfRead : Found → Made × Option YaccKind → Type 0
+  IsMadeOfRead found read = IsMadeOf OfErrors OfGrammar found read.0 × (read.1 ≡ kind_read found)
+
+  -- the same if this kind is requested, or none, and there is a default kind
+  abbrev pub IsMadeOfReadOr : Option KindArg → YaccKind → List ℕ → Made × Option YaccKind → Type 0
+  IsMadeOfReadOr wanted default text read =
+      (kind : KindArg) × (found : Found) × IsReadAs default text wanted kind × IsFound kind text found × IsMadeOfRead found read

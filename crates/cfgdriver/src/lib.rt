@@ -10,11 +10,11 @@ ghost use Rattle.cfgrammar.specs.GrammarOf.{IsFoundAs, IsFoundItself};
 ghost use Rattle.cfgrammar.specs.TextSpans.{IsPiece, IsWithin};
 ghost use Rattle.cfgrammar.specs.Syntax.{EachSpan};
 ghost use Rattle.cfgrammar.specs.TreeView.{syntax};
-ghost use Rattle.cfgprogram.specs.declared.kinds.KindArg.{KindArg};
-ghost use Rattle.cfgdriver.specs.ReadText.{IsFound, IsMadeOf, IsMadeOfGrammar, IsReadAs, greatest};
+ghost use Rattle.cfgdriver.specs.ReadText.{IsFound, IsMadeOf, IsMadeOfGrammar, IsMadeOfRead};
+ghost use Rattle.cfgdriver.specs.ReadText.{IsMadeOfReadOr, greatest};
 
 use cfgprogram::KindArg;
-use cfgrammar::yacc::ast::{ASTWithValidityInfo, GrammarAST, KindSource};
+use cfgrammar::yacc::ast::{ASTWithValidityInfo, GrammarAST};
 use cfgrammar::yacc::{YaccFault, YaccGrammar, YaccGrammarError, YaccKind};
 use std::alloc::{AllocError, Global};
 
@@ -90,14 +90,13 @@ pub fn read_text<R, T: TextReader<R>>(
     ensures { (found : Found) × IsFound kind text.now found
         × IfOk result (IsMadeOf (T.of_errors reader.now text.now) (T.of_grammar reader.now text.now) found) }
 {
-    match kind {
-        KindArg::Named(kind) => read_as(alloc, kind, text, reader),
-        KindArg::Section => read_itself(alloc, text, reader),
-    }
+    let (made, _) = read_requested(alloc, kind, text, reader)?;
+    Ok(made)
 }
 
 /// Reads a text as [`read_text`] does, except that no kind need be requested: a text that then names none is read as a
-/// file of the default kind. The second part of the result says whether it was.
+/// file of the default kind. The second part of the result is the kind that the text was read as, unless its section
+/// keeps it from naming one.
 ///
 /// # Errors
 ///
@@ -108,32 +107,45 @@ pub fn read_text_or<R, T: TextReader<R>>(
     default: YaccKind,
     text: &str,
     reader: &T,
-) -> Result<(R, bool), AllocError>
-    ensures { IfOk result (λ made. (read_kind : KindArg) × (found : Found)
-        × IsReadAs default text.now kind read_kind made.1 × IsFound read_kind text.now found
-        × IsMadeOf (T.of_errors reader.now text.now) (T.of_grammar reader.now text.now) found made.0) }
+) -> Result<(R, Option<YaccKind>), AllocError>
+    ensures { IfOk result (IsMadeOfReadOr (T.of_errors reader.now text.now) (T.of_grammar reader.now text.now)
+        kind default text.now) }
 {
     match kind {
-        Some(kind) => Ok((read_text(alloc, kind, text, reader)?, false)),
+        Some(kind) => read_requested(alloc, kind, text, reader),
         None => read_unrequested(alloc, default, text, reader),
     }
 }
 
-/// What is made of a text for which no kind is requested, and whether it was read as a file of the default kind.
+/// What is made of a text as a file of the requested kind, and the kind that it was read as.
+fn read_requested<R, T: TextReader<R>>(
+    alloc: Global,
+    kind: KindArg,
+    text: &str,
+    reader: &T,
+) -> Result<(R, Option<YaccKind>), AllocError>
+    ensures { (found : Found) × IsFound kind text.now found
+        × IfOk result (IsMadeOfRead (T.of_errors reader.now text.now) (T.of_grammar reader.now text.now) found) }
+{
+    match kind {
+        KindArg::Named(kind) => read_as(alloc, kind, text, reader),
+        KindArg::Section => read_itself(alloc, text, reader),
+    }
+}
+
+/// What is made of a text for which no kind is requested, and the kind that it was read as.
 fn read_unrequested<R, T: TextReader<R>>(
     alloc: Global,
     default: YaccKind,
     text: &str,
     reader: &T,
-) -> Result<(R, bool), AllocError>
-    ensures { IfOk result (λ made. (read_kind : KindArg) × (found : Found)
-        × IsReadAs default text.now None read_kind made.1 × IsFound read_kind text.now found
-        × IsMadeOf (T.of_errors reader.now text.now) (T.of_grammar reader.now text.now) found made.0) }
+) -> Result<(R, Option<YaccKind>), AllocError>
+    ensures { IfOk result (IsMadeOfReadOr (T.of_errors reader.now text.now) (T.of_grammar reader.now text.now)
+        None default text.now) }
 {
     match ASTWithValidityInfo::from_str_or(alloc, default, text) {
-        Ok((parsed, KindSource::Section)) => Ok((made_of(alloc, text, parsed, reader)?, false)),
-        Ok((parsed, KindSource::Default)) => Ok((made_of(alloc, text, parsed, reader)?, true)),
-        Err(YaccFault::Errors(errors)) => Ok((reader.errors(alloc, text, None, &errors)?, false)),
+        Ok((parsed, _source)) => made_of(alloc, text, parsed, reader),
+        Err(YaccFault::Errors(errors)) => Ok((reader.errors(alloc, text, None, &errors)?, None)),
         Err(YaccFault::OutOfMemory) => Err(AllocError),
     }
 }
@@ -144,38 +156,44 @@ fn read_as<R, T: TextReader<R>>(
     kind: YaccKind,
     text: &str,
     reader: &T,
-) -> Result<R, AllocError>
+) -> Result<(R, Option<YaccKind>), AllocError>
     ensures { (found : Found) × IsFoundAs kind text.now found
-        × IfOk result (IsMadeOf (T.of_errors reader.now text.now) (T.of_grammar reader.now text.now) found) }
+        × IfOk result (IsMadeOfRead (T.of_errors reader.now text.now) (T.of_grammar reader.now text.now) found) }
 {
     let parsed = ASTWithValidityInfo::new(alloc, kind, text)?;
     made_of(alloc, text, parsed, reader)
 }
 
-/// What is made of a text as a file of the kind that it names.
-fn read_itself<R, T: TextReader<R>>(alloc: Global, text: &str, reader: &T) -> Result<R, AllocError>
+/// What is made of a text as a file of the kind that it names, and that kind.
+fn read_itself<R, T: TextReader<R>>(
+    alloc: Global,
+    text: &str,
+    reader: &T,
+) -> Result<(R, Option<YaccKind>), AllocError>
     ensures { (found : Found) × IsFoundItself text.now found
-        × IfOk result (IsMadeOf (T.of_errors reader.now text.now) (T.of_grammar reader.now text.now) found) }
+        × IfOk result (IsMadeOfRead (T.of_errors reader.now text.now) (T.of_grammar reader.now text.now) found) }
 {
     match ASTWithValidityInfo::from_str(alloc, text) {
         Ok(parsed) => made_of(alloc, text, parsed, reader),
-        Err(YaccFault::Errors(errors)) => reader.errors(alloc, text, None, &errors),
+        Err(YaccFault::Errors(errors)) => Ok((reader.errors(alloc, text, None, &errors)?, None)),
         Err(YaccFault::OutOfMemory) => Err(AllocError),
     }
 }
 
-/// What is made of a text that reads as this.
+/// What is made of a text that reads as this, and the kind that it was read as.
 fn made_of<R, T: TextReader<R>>(
     alloc: Global,
     text: &str,
     parsed: ASTWithValidityInfo,
     reader: &T,
-) -> Result<R, AllocError>
+) -> Result<(R, Option<YaccKind>), AllocError>
     requires { EachParsedSpan (IsPiece text.now) (IsWithin text.now) parsed }
-    ensures { IfOk result (IsMadeOf (T.of_errors reader.now text.now) (T.of_grammar reader.now text.now)
+    ensures { IfOk result (IsMadeOfRead (T.of_errors reader.now text.now) (T.of_grammar reader.now text.now)
         (WasRead parsed)) }
 {
-    lend(parsed, |parsed| made_of_parsed(alloc, text, parsed, reader))
+    let kind = parsed.yacc_kind();
+    let made = lend(parsed, |parsed| made_of_parsed(alloc, text, parsed, reader))?;
+    Ok((made, Some(kind)))
 }
 
 /// What is made of a text that reads as this.

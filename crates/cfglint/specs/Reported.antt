@@ -14,7 +14,7 @@ use Rattle.cfgrammar.specs.Answer.{Found}
 use Rattle.cfgrammar.specs.Numbered.{Numbered}
 use Rattle.cfgrammar.specs.Syntax.{Syntax}
 use Rattle.cfgprogram.specs.declared.kinds.KindArg.{KindArg}
-use Rattle.cfgdriver.specs.ReadText.{IsFound, IsMadeOf, IsReadAs}
+use Rattle.cfgdriver.specs.ReadText.{IsFound, IsMadeOfRead, IsReadAs}
 use Rattle.cfgjson.specs.Objects.{AreJsonLines, ShownDiagnostic, diagnostic_object}
 use Rattle.cfglint_shell.specs.declared.format.Format.{Format}
 use Rattle.cfglint_shell.specs.declared.format.Format.TheVariants.{Text, Json}
@@ -160,10 +160,10 @@ module _ (format : Format) (name text : List ℕ) where
       × (reported.errors + reported.warnings ≡ length (reported_by levels all))
 
 -- What is reported for a text in a file with this name, read as the options' kind if they have one: its errors if it has any, and otherwise
--- its findings.
+-- its findings; and the kind that it was read as.
 pub record ReportsText (options : LintOptions) (name text : List ℕ) (reported : Printed) : Type 0 where
   pub read_kind : KindArg
   pub found : Found
-  pub read_as : IsReadAs (Original NoAction) text options.kind read_kind reported.is_taken
+  pub read_as : IsReadAs (Original NoAction) text options.kind read_kind
   pub is_found : IsFound read_kind text found
-  pub reports : IsMadeOf (ReportsErrors options.format name text) (ReportsFindings options.format name text options.levels) found reported
+  pub reports : IsMadeOfRead (ReportsErrors options.format name text) (ReportsFindings options.format name text options.levels) found (reported, reported.kind)

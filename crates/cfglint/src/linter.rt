@@ -41,12 +41,12 @@ impl Linter for Lints {
             levels: options.levels,
             format: options.format,
         };
-        let (report, is_taken) = read_text_or(alloc, options.kind, default, text, &reporter)?;
-        Ok(Report { is_taken, ..report })
+        let (report, kind) = read_text_or(alloc, options.kind, default, text, &reporter)?;
+        Ok(Report { kind, ..report })
     }
 }
 
-/// Reports the errors or the findings for a text in the file with this name. No kind counts as taken.
+/// Reports the errors or the findings for a text in the file with this name, without the kind that it was read as.
 #[derive(Clone, Copy)]
 struct FileReporter<'a> {
     name: &'a str,
@@ -71,7 +71,7 @@ impl TextReader<Report> for FileReporter<'_> {
         let lines = lines_of_errors(alloc, self.format, self.name, text, &reported)?;
         Ok(Report {
             lines,
-            is_taken: false,
+            kind: None,
             errors: reported.len(),
             warnings: 0,
         })
@@ -90,7 +90,7 @@ impl TextReader<Report> for FileReporter<'_> {
         let errors = error_count(&reported);
         Ok(Report {
             lines,
-            is_taken: false,
+            kind: None,
             errors,
             warnings: reported.len() - errors,
         })

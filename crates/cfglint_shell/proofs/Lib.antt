@@ -1,3 +1,4 @@
 pub mod RequestedArguments
 pub mod FilesInTurn
 pub mod Words
+pub mod KindsListed

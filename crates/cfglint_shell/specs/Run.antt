@@ -42,7 +42,7 @@ ending_faults NoMemory = 0
 -- the result of a run through files
 abbrev pub answer_of : Options → Tally → Answer
 answer_of options tally = record {
-  output = tally.lines ++ (if has_summary options then summary tally else []);
+  output = tally.lines ++ (if has_summary options then summary options.lint.kind tally else []);
   errors = tally.faults;
   status = status_of options.denies tally;
 }

@@ -1,14 +1,20 @@
 -- What is reported about files, one by one, and the summary at the end.
-use Rattle.std.specs.Prelude.{ℕ, ◌+◌, ◌==◌, ◌||◌, nat_lt, Bool, true, false, ◌&&◌, List, [], ◌++◌, codes, if◌then◌else◌}
+use Rattle.std.specs.Prelude.{ℕ, ◌+◌, ◌==◌, ◌||◌, nat_lt, Bool, true, false, ◌&&◌, List, [], ◌∷◌, ◌++◌, codes, if◌then◌else◌, Option, Some, None}
 use Rattle.std.specs.Fmt.{decimal}
+use Rattle.cfgprogram.specs.Kinds.{kind_name}
+use Rattle.cfgprogram.specs.YaccKind.{YaccKind}
+use Rattle.cfgprogram.specs.declared.kinds.KindArg.{KindArg}
+use Rattle.cfgprogram.specs.declared.kinds.KindArg.TheVariants.{Named, Section}
 use Rattle.cfgprogram.specs.declared.source.ReadError.{ReadError}
 use Rattle.cfgprogram.specs.declared.source.ReadError.TheVariants.{NotFound, IsADirectory, PermissionDenied, Other}
+use Rattle.cfglint_shell.specs.declared.kind_counts.KindCounts.{KindCounts}
+use Rattle.cfglint_shell.specs.KindCounts.{count_of, kinds, no_kinds, with_kind}
 
--- What is reported about a text: lines as people read them, whether the text names no kind, so that one was assumed, and how many errors
--- and warnings are reported.
+-- What is reported about a text: lines as people read them, the kind that the text was read as, if it was read, and how many errors and
+-- warnings are reported.
 pub record Printed : Type 0 where
   pub lines : List ℕ
-  pub is_taken : Bool
+  pub kind : Option YaccKind
   pub errors : ℕ
   pub warnings : ℕ
 
@@ -18,19 +24,19 @@ pub data FileOutcome : Type 0 where
   NoText : FileOutcome
   Linted : Printed → FileOutcome
 
--- What was reported about files: lines about their texts, and lines about those without text; how many texts there were, and how many of
--- these name no kind; how many errors and warnings there are; whether there was a file without text.
+-- What was reported about files: lines about their texts, and lines about those without text; how many texts there were, and how many were
+-- read as each kind; how many errors and warnings there are; whether there was a file without text.
 pub record Tally : Type 0 where
   pub lines : List ℕ
   pub faults : List ℕ
   pub texts : ℕ
-  pub taken : ℕ
+  pub kinds_read : KindCounts
   pub errors : ℕ
   pub warnings : ℕ
   pub is_short : Bool
 
 abbrev pub no_files : Tally
-no_files = record { lines = []; faults = []; texts = 0; taken = 0; errors = 0; warnings = 0; is_short = false }
+no_files = record { lines = []; faults = []; texts = 0; kinds_read = no_kinds; errors = 0; warnings = 0; is_short = false }
 
 -- why a file could not be read, if that is known
 abbrev pub reason_text : ReadError → List ℕ
@@ -53,7 +59,7 @@ with_file name NoText t = record t { faults = t.faults ++ no_text_line name; is_
 with_file name (Linted printed) t = record t {
   lines = t.lines ++ printed.lines;
   texts = t.texts + 1;
-  taken = t.taken + (if printed.is_taken then 1 else 0);
+  kinds_read = with_kind t.kinds_read printed.kind;
   errors = t.errors + printed.errors;
   warnings = t.warnings + printed.warnings;
 }
@@ -62,14 +68,30 @@ with_file name (Linted printed) t = record t {
 abbrev pub counted : ℕ → List ℕ → List ℕ
 counted n argument = decimal n ++ (codes " " ++ (argument ++ (if n == 1 then [] else codes "s")))
 
--- how many texts name no kind, if some do
-abbrev pub taken_text : ℕ → List ℕ
-taken_text n = if n == 0 then [] else codes "; " ++ (counted n (codes "file") ++ codes " read as original-noaction")
+-- `2 files read as eco`
+abbrev pub read_as : ℕ → YaccKind → List ℕ
+read_as n kind = counted n (codes "file") ++ (codes " read as " ++ kind_name kind)
 
--- the last line
-abbrev pub summary : Tally → List ℕ
-summary t = counted t.texts (codes "file") ++ (codes ": " ++ (counted t.errors (codes "error") ++ (codes ", "
-    ++ (counted t.warnings (codes "warning") ++ (taken_text t.taken ++ codes "\n")))))
+-- the same for each of these kinds as which files were read: the first of all after a semicolon, the others after commas
+abbrev pub separator : Bool → List ℕ
+separator is_first = if is_first then codes "; " else codes ", "
+
+unfoldable pub listed : Bool → KindCounts → List YaccKind → List ℕ
+listed is_first counts [] = []
+listed is_first counts (kind ∷ more) =
+    if count_of counts kind == 0 then listed is_first counts more
+    else separator is_first ++ (read_as (count_of counts kind) kind ++ listed false counts more)
+
+-- as which kinds the files were read, unless this kind is requested by its name
+abbrev pub kinds_text : Option KindArg → KindCounts → List ℕ
+kinds_text (Some (Named kind)) counts = []
+kinds_text (Some Section) counts = listed true counts kinds
+kinds_text None counts = listed true counts kinds
+
+-- the last line, where this kind is requested
+abbrev pub summary : Option KindArg → Tally → List ℕ
+summary requested t = counted t.texts (codes "file") ++ (codes ": " ++ (counted t.errors (codes "error") ++ (codes ", "
+    ++ (counted t.warnings (codes "warning") ++ (kinds_text requested t.kinds_read ++ codes "\n")))))
 
 -- whether there are errors, or warnings that are denied
 abbrev pub fails : Bool → Tally → Bool

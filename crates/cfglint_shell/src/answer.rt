@@ -71,7 +71,7 @@ impl Answer {
     {
         let status = tally.status(options.denies);
         let last = if options.has_summary() {
-            summary(alloc, &tally)?
+            summary(alloc, &tally, options.lint.kind)?
         } else {
             String::new(alloc)
         };

@@ -6,6 +6,7 @@ mod arguments;
 mod files;
 mod finding_kind;
 mod format;
+mod kind_counts;
 pub mod laws;
 mod levels;
 mod linter;

@@ -5,6 +5,7 @@ ghost use Rattle.std.specs.Prelude.{IfOk};
 use crate::format::Format;
 use crate::levels::Levels;
 use cfgprogram::KindArg;
+use cfgprogram::kinds::YaccKind;
 use std::alloc::{AllocError, Global};
 use std::marker::Model;
 
@@ -24,8 +25,8 @@ pub struct LintOptions {
 pub struct Report {
     /// Its errors, or the findings about its grammar, in the format that the options name.
     pub lines: String,
-    /// Whether the text names no kind, so that one was assumed.
-    pub is_taken: bool,
+    /// The kind that the text was read as, if it was read.
+    pub kind: Option<YaccKind>,
     /// How many errors are reported.
     pub errors: usize,
     /// How many warnings are reported.
@@ -40,7 +41,7 @@ impl Model for Report {
 
     ghost view = { λ x. record {
       lines = string_bytes x.lines;
-      is_taken = x.is_taken;
+      kind = x.kind;
       errors = x.errors;
       warnings = x.warnings;
     } };

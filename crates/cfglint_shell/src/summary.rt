@@ -1,14 +1,32 @@
 //! The last line of the report.
 
-ghost use Rattle.std.specs.Prelude.{◌≡◌, ◌++◌, IfOk, OnOk, string_bytes};
-ghost use Rattle.cfglint_shell.specs.Tally.{counted, summary, taken_text};
+ghost use Rattle.std.specs.Prelude.{◌≡◌, ◌++◌, IfOk, OnOk, string_bytes, true};
+ghost use Rattle.cfglint_shell.specs.KindCounts.{kinds};
+ghost use Rattle.cfglint_shell.specs.Tally.{counted, kinds_text, listed, read_as, separator, summary};
 
+use crate::kind_counts::KindCounts;
 use crate::tally::Tally;
+use cfgprogram::KindArg;
+use cfgprogram::kinds::{YaccKind, YaccOriginalActionKind, kind_name};
 use std::alloc::{AllocError, Global};
 
-/// How many files there were, and what was found in them.
-pub(crate) fn summary(alloc: Global, tally: &Tally) -> Result<String, AllocError>
-    ensures { IfOk result (λ text. string_bytes text ≡ summary tally.now) }
+/// The kinds, in the order of the summary.
+const KINDS: [YaccKind; 5] = [
+    YaccKind::Original(YaccOriginalActionKind::NoAction),
+    YaccKind::Original(YaccOriginalActionKind::UserAction),
+    YaccKind::Original(YaccOriginalActionKind::GenericParseTree),
+    YaccKind::Grmtools,
+    YaccKind::Eco,
+];
+
+/// How many files there were, and what was found in them; and as which kinds they were read, unless this kind is
+/// requested by its name.
+pub(crate) fn summary(
+    alloc: Global,
+    tally: &Tally,
+    requested: Option<KindArg>,
+) -> Result<String, AllocError>
+    ensures { IfOk result (λ text. string_bytes text ≡ summary requested tally.now) }
 {
     let mut text = String::new(alloc);
     write_counted(&mut text, u128::from(tally.texts), "file")?;
@@ -16,21 +34,56 @@ pub(crate) fn summary(alloc: Global, tally: &Tally) -> Result<String, AllocError
     write_counted(&mut text, tally.errors, "error")?;
     text.push_str(", ")?;
     write_counted(&mut text, tally.warnings, "warning")?;
-    write_taken(&mut text, tally.taken)?;
+    write_kinds(&mut text, &tally.kinds_read, requested)?;
     text.push_str("\n")?;
     Ok(text)
 }
 
-/// Writes how many texts name no kind, if some do.
-fn write_taken(text: &mut String, taken: u64) -> Result<(), AllocError>
-    ensures { OnOk result (string_bytes text.new ≡ string_bytes text.old ++ taken_text taken) }
+/// Writes as which kinds the files were read, unless this kind is requested by its name.
+fn write_kinds(
+    text: &mut String,
+    counts: &KindCounts,
+    requested: Option<KindArg>,
+) -> Result<(), AllocError>
+    ensures { OnOk result (string_bytes text.new ≡ string_bytes text.old ++ kinds_text requested counts.now) }
 {
-    if taken == 0 {
-        return Ok(());
+    match requested {
+        Some(KindArg::Named(_)) => Ok(()),
+        _ => write_listed(text, counts),
     }
-    text.push_str("; ")?;
-    write_counted(text, u128::from(taken), "file")?;
-    text.push_str(" read as original-noaction")
+}
+
+/// Writes how many files were read as each kind, for those as which some were.
+fn write_listed(text: &mut String, counts: &KindCounts) -> Result<(), AllocError>
+    ensures { OnOk result (string_bytes text.new ≡ string_bytes text.old ++ listed true counts.now kinds) }
+{
+    let mut is_first = true;
+    for kind in &KINDS {
+        let count = counts.of(*kind);
+        if count == 0 {
+            continue;
+        }
+        write_kind(text, is_first, count, *kind)?;
+        is_first = false;
+    }
+    Ok(())
+}
+
+/// Writes how many files were read as this kind, given whether it is the first of which this is written.
+fn write_kind(
+    text: &mut String,
+    is_first: bool,
+    count: u64,
+    kind: YaccKind,
+) -> Result<(), AllocError>
+    ensures { OnOk result (string_bytes text.new
+        ≡ string_bytes text.old ++ (separator is_first ++ read_as count kind)) }
+{
+    let separator = if is_first { "; " } else { ", " };
+    let name = kind_name(kind);
+    text.push_str(separator)?;
+    write_counted(text, u128::from(count), "file")?;
+    write!(text, " read as {name}")
 }
 
 /// Writes a count of things of this name: `1 file`, `2 files`.

@@ -4,6 +4,7 @@ ghost use Rattle.std.specs.Prelude.{◌≡◌, ◌++◌, ◌-◌, ◌^◌, ◌<�
 ghost use Rattle.cfglint_shell.specs.Tally.{Linted, NoText, Unread, fails, no_files};
 ghost use Rattle.cfglint_shell.specs.Tally.{reason_text, status_of, unread_line, with_file};
 
+use crate::kind_counts::KindCounts;
 use crate::linter::Report;
 use cfgprogram::ReadError;
 use std::alloc::{AllocError, Global};
@@ -15,7 +16,7 @@ pub(crate) struct Tally {
     pub(crate) lines: String,
     pub(crate) faults: String,
     pub(crate) texts: u64,
-    pub(crate) taken: u64,
+    pub(crate) kinds_read: KindCounts,
     /// A sum of list lengths, one per text.
     pub(crate) errors: u128,
     pub(crate) warnings: u128,
@@ -24,6 +25,7 @@ pub(crate) struct Tally {
 
 impl Model for Tally {
     ghost use Rattle.std.specs.Prelude.{◌*◌, ◌^◌, ◌≤◌, string_bytes};
+    ghost use Rattle.cfglint_shell.specs.KindCounts.{all_counted};
     ghost use Rattle.cfglint_shell.specs.Tally as printed;
 
     ghost Value = { printed.Tally };
@@ -32,13 +34,14 @@ impl Model for Tally {
       lines = string_bytes x.lines;
       faults = string_bytes x.faults;
       texts = x.texts;
-      taken = x.taken;
+      kinds_read = x.kinds_read;
       errors = x.errors;
       warnings = x.warnings;
       is_short = x.is_short;
     } };
 
-    ghost invariant = { λ x. (x.taken ≤ x.texts) × (x.errors ≤ x.texts * 2 ^ 64) × (x.warnings ≤ x.texts * 2 ^ 64) };
+    ghost invariant = { λ x. (all_counted x.kinds_read ≤ x.texts)
+        × (x.errors ≤ x.texts * 2 ^ 64) × (x.warnings ≤ x.texts * 2 ^ 64) };
 }
 
 impl Tally {
@@ -50,7 +53,7 @@ impl Tally {
             lines: String::new(alloc),
             faults: String::new(alloc),
             texts: 0,
-            taken: 0,
+            kinds_read: KindCounts::new(),
             errors: 0,
             warnings: 0,
             is_short: false,
@@ -64,7 +67,7 @@ impl Tally {
     {
         self.lines.push_str(&report.lines)?;
         self.texts += 1;
-        self.taken += u64::from(report.is_taken);
+        self.kinds_read.add(report.kind);
         self.errors += report.errors as u128;
         self.warnings += report.warnings as u128;
         Ok(())

@@ -1,6 +1,7 @@
 -- The kinds of Yacc that arguments name.
 use Rattle.std.specs.Prelude.{ℕ, List, Option, Some, None, if◌then◌else◌, codes}
 use Rattle.std.specs.Str.{bytes_eq}
+use Rattle.cfgrammar.specs.YaccKind.{YaccKind}
 use Rattle.cfgrammar.specs.YaccKind.TheVariants.{Original, Grmtools, Eco}
 use Rattle.cfgrammar.specs.YaccOriginalActionKind.TheVariants.{NoAction, UserAction, GenericParseTree}
 use Rattle.cfgprogram.specs.declared.kinds.KindArg.{KindArg}
@@ -16,3 +17,11 @@ kind_named argument =
     else if bytes_eq argument (codes "eco") then Some (Named Eco)
     else if bytes_eq argument (codes "section") then Some Section
     else None
+
+-- the argument that names a kind
+abbrev pub kind_name : YaccKind → List ℕ
+kind_name (Original NoAction) = codes "original-noaction"
+kind_name (Original UserAction) = codes "original-useraction"
+kind_name (Original GenericParseTree) = codes "original-genericparsetree"
+kind_name Grmtools = codes "grmtools"
+kind_name Eco = codes "eco"

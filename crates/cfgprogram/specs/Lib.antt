@@ -1,1 +1,4 @@
 pub mod Kinds
+-- The kinds, for crates that don't list cfgrammar.
+pub use Rattle.cfgrammar.specs.YaccKind
+pub use Rattle.cfgrammar.specs.YaccOriginalActionKind

@@ -1,9 +1,10 @@
 //! The arguments that name a kind of Yacc.
 
 ghost use Rattle.std.specs.Prelude.{◌≡◌};
-ghost use Rattle.cfgprogram.specs.Kinds.{kind_named};
+ghost use Rattle.cfgprogram.specs.Kinds.{kind_name, kind_named};
+ghost use Rattle.cfgprogram.specs.declared.kinds.KindArg.TheVariants.{Named};
 
-use cfgrammar::yacc::{YaccKind, YaccOriginalActionKind};
+pub use cfgrammar::yacc::{YaccKind, YaccOriginalActionKind};
 
 /// The kind of Yacc that a text is read as.
 #[derive(Clone, Copy, Debug, PartialEq, Eq)]
@@ -28,4 +29,18 @@ pub fn kind_of(argument: &str) -> Option<KindArg>
         _ => return None,
     };
     Some(KindArg::Named(kind))
+}
+
+/// The argument that names this kind.
+pub fn kind_name(kind: YaccKind) -> &'static str
+    ensures name { result.now ≡ kind_name kind }
+    ensures named { kind_named result.now ≡ Some (Named kind) }
+{
+    match kind {
+        YaccKind::Original(YaccOriginalActionKind::NoAction) => "original-noaction",
+        YaccKind::Original(YaccOriginalActionKind::UserAction) => "original-useraction",
+        YaccKind::Original(YaccOriginalActionKind::GenericParseTree) => "original-genericparsetree",
+        YaccKind::Grmtools => "grmtools",
+        YaccKind::Eco => "eco",
+    }
 }

@@ -1,24 +1,19 @@
-use Rattle.std.proofs.Common.{None, Ok, Err, inl, refl, sym, subst}
-use Rattle.cfgrammar.specs.Answer.{Found, WasRead, IsRefused}
+use Rattle.std.proofs.Common.{None, Err, subst}
+use Rattle.cfgrammar.specs.Answer.{WasRead}
 use Rattle.cfgrammar.specs.YaccFault.TheVariants as faults
-use Rattle.cfgrammar.proofs.OfItself.{parsed_itself, refused_itself}
-use Rattle.cfgprogram.specs.declared.kinds.KindArg.TheVariants.{Named, Section}
-use Rattle.cfgdriver.specs.ReadText.{greatest, itself, syntax_read, taken}
-use Rattle.cfgdriver.proofs.ByNaming.{for_each}
+use Rattle.cfgrammar.proofs.OfItself.{refused_itself}
+use Rattle.cfgprogram.specs.declared.kinds.KindArg.TheVariants.{Section}
+use Rattle.cfgdriver.specs.ReadText.{itself}
+use Rattle.cfgdriver.proofs.ByNaming.{for_each, found_or, made_or, made_unnamed}
 use Rattle.cfgdriver.proofs.read_unrequested.Goals as goal
 
-pub returns-in_ok-made_of-in-Ok-default-Section : goal.returns-in_ok-made_of-in-Ok-default-Section
-returns-in_ok-made_of-in-Ok-default-Section g c =
-    let text = c.args.text.now in
-    let one = c.from_str_or.ensures.one in
-    let parsed = c.in-Ok-default-Section.parsed in
-    let results = rw c.in-Ok-default-Section.field-0-1-is at c.in-Ok-default-Section.ensures.answer in
-    (Section, WasRead parsed, itself results.0, parsed_itself text one parsed (for_each text (Ok parsed) one results), c.in_ok-made_of-in-Ok-default-Section.ensures)
-
-pub returns-in_ok-made_of-in-Ok-default-Default : goal.returns-in_ok-made_of-in-Ok-default-Default
-returns-in_ok-made_of-in-Ok-default-Default g c =
-    let results = rw c.in-Ok-default-Default.field-0-1-is at c.in-Ok-default-Default.ensures.answer in
-    (Named c.args.default, WasRead c.in-Ok-default-Default.parsed, taken results.0, results.1, c.in_ok-made_of-in-Ok-default-Default.ensures)
+pub returns-in-Ok : goal.returns-in-Ok
+returns-in-Ok g c =
+    let parsed = c.in-Ok.parsed in
+    let (kind, read_as, is_found) = found_or c.args.default c.args.text.now c.from_str_or.ensures.one parsed c.in-Ok._source c.in-Ok.ensures.answer in
+    let OfErrors = g.T.TextReader.of_errors c.args.reader.now c.args.text.now in
+    let OfGrammar = g.T.TextReader.of_grammar c.args.reader.now c.args.text.now in
+    made_or OfErrors OfGrammar c.made_of.result None c.args.default c.args.text.now kind (WasRead parsed) read_as is_found c.made_of.ensures
 
 pub returns-in_ok-errors-in-Err-Errors : goal.returns-in_ok-errors-in-Err-Errors
 returns-in_ok-errors-in-Err-Errors g c =
@@ -27,15 +22,8 @@ returns-in_ok-errors-in-Err-Errors g c =
     let reported = c.in-Err-Errors.errors in
     let results = rw c.in-Err-Errors.field-0-is at c.in-Err-Errors.ensures.answer in
     let errors = rw c.in-Err-Errors.errors-is at c.deref.ensures.value in
-    let it = refused_itself text one (faults.Errors reported) (for_each text (Err (faults.Errors reported)) one results) in (
-      Section,
-      it.0,
-      itself results.0,
-      it.1,
-      inl (
-        reported.items,
-        subst (λ (found : Found). IsRefused greatest found reported.items) (sym it.2) refl,
-        subst (λ (found : Found). g.T.TextReader.of_errors c.args.reader.now text (syntax_read found) reported.items c.in_ok-errors-in-Err-Errors.field-0) (sym it.2)
-            (subst (λ errors. g.T.TextReader.of_errors c.args.reader.now text None errors c.in_ok-errors-in-Err-Errors.field-0) errors c.in_ok-errors-in-Err-Errors.ensures),
-      ),
-    )
+    let it = refused_itself text one (faults.Errors reported) (for_each text (Err (faults.Errors reported)) one results) in
+    let OfErrors = g.T.TextReader.of_errors c.args.reader.now text in
+    let OfGrammar = g.T.TextReader.of_grammar c.args.reader.now text in
+    let made = c.in_ok-errors-in-Err-Errors.field-0 in
+    (Section, it.0, itself results.0, it.1, made_unnamed OfErrors OfGrammar it.0 reported.items it.2 made (subst (λ errors. OfErrors None errors made) errors c.in_ok-errors-in-Err-Errors.ensures))
