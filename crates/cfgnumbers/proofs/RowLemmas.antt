@@ -1,7 +1,8 @@
 -- The rows of the tables are what the syntax says of its rules and tokens.
-use Rattle.std.proofs.Common.{◌≡◌, ℕ, false, cond, List, [], ◌∷◌, ◌++◌, map, String, Global, string_bytes, string_eq, refl, ap, ◌∙◌, ◌+◌, Bool, true, get_or, option_map, Option, Some, None, Bor, Iter, sym}
+use Rattle.std.proofs.Common.{◌≡◌, ℕ, false, cond, List, [], ◌∷◌, ◌++◌, map, String, Global, string_bytes, string_eq, refl, ap, ◌∙◌, ◌+◌, Bool, true, get_or, option_map, Option, Some, None, Bor, Iter, sym, length}
 use Rattle.cfgwords.specs.declared.bytes.ByteClass.TheVariants as bytes
 use Rattle.derivation.specs.Grammar as numbers
+use Rattle.cfgast.specs.declared.precedence.Precedence.{Precedence}
 use Rattle.cfgast.specs.declared.production.Production as source_production
 use Rattle.cfgast.specs.declared.rule.Rule as source
 use Rattle.std.specs.List.{list_any, range_with_len, zip, AllByRecursion, IsDistinct}
@@ -21,6 +22,7 @@ use Rattle.std.proofs.lemmas.List.Elements.{recursion_from_All, All-map}
 use Rattle.std.proofs.lemmas.List.FromFn.{map-range_with_len_more}
 use Rattle.std.proofs.lemmas.Map.Keys.{IsDistinct-cons}
 use Rattle.std.proofs.lemmas.Simd.{map-map}
+use Rattle.std.proofs.lemmas.Slice.Zip.{firsts-zip}
 use Rattle.indexmap.specs.IndexMap.{insert_entry, IndexMap}
 use Rattle.lemmas.proofs.Ended.{somes_same}
 use Rattle.lemmas.proofs.Roads.{shown}
@@ -57,9 +59,6 @@ rule_seen item = rule_entry (deref_pair item)
 abbrev pub token_seen : Bor (String Global) × Bor Span → List ℕ × Span
 token_seen item = (string_bytes item.0.now, item.1.now)
 
-abbrev pub key_seen : Bor (String Global) → List ℕ
-key_seen key = string_bytes key.now
-
 abbrev pub name_seen : {V : Type 0} → Bor (String Global) × Bor V → List ℕ
 name_seen item = string_bytes item.0.now
 
@@ -81,10 +80,6 @@ pub tokens_road : (s : Syntax) (it : Zip (List (String Global)) (Iter Span)) (ke
     → YieldsList (zips (TakesFirst deref) fronts) token_seen it (zip s.tokens s.spans)
 tokens_road s it keys same names_are spans_are =
     YieldsList-from_zip (shown string_bytes keys s.tokens same (YieldsList-from_rest keys names_are)) (YieldsList-from_slice s.spans spans_are)
-
-pub keys_road : {it : List (String Global)} (s : Syntax) (keys : List (String Global)) → map string_bytes keys ≡ s.tokens → it ≡ keys
-    → YieldsList (TakesFirst deref) key_seen it s.tokens
-keys_road s keys same is = shown string_bytes keys s.tokens same (YieldsList-from_rest keys is)
 
 pub names_road : {V : Type 0} {it : List (String Global × V)} (entries : List (String Global × V)) → it ≡ entries → YieldsList (TakesFirst deref_pair) name_seen it (names entries)
 names_road entries is = shown (λ entry. string_bytes entry.0) entries (names entries) refl (YieldsList-from_rest entries is)
@@ -180,6 +175,18 @@ token_put s es new key row token is span precedence printed avoid_insert absent 
     let form = ap (option_map_or string_bytes row.printed) is ∙ printed in
     entry_put token_view es new key token.0 row is absent grown
     ∙ (λ i. map token_view es ++ record { name = Some (is i); span = Some (span i); precedence = precedence i; printed = Some (form i); avoid_insert = avoid_insert i } ∷ [])
+
+-- the precedences of all tokens
+abbrev precedence_shown : NumberedToken → Option Precedence
+precedence_shown token = token.precedence
+
+pub precedences_shown : (s : Syntax) (es : List (String Global × TokenRow)) → length s.spans ≡ length s.tokens → map token_view es ≡ map (file_token s) (zip s.tokens s.spans)
+    → map (λ token. token.1.precedence) es ≡ map (precedence_of_token s) s.tokens
+precedences_shown s es long are =
+    sym (map-map precedence_shown token_view es) ∙ ap (map precedence_shown) are
+    ∙ map-map precedence_shown (file_token s) (zip s.tokens s.spans)
+    ∙ sym (map-map (precedence_of_token s) (λ (token : List ℕ × Span). token.0) (zip s.tokens s.spans))
+    ∙ ap (map (precedence_of_token s)) (firsts-zip s.tokens s.spans long)
 
 -- the production of the rule for implicit tokens that begins with a token
 abbrev pub implicit_row : Syntax → List ℕ → NumberedProduction

@@ -7,10 +7,12 @@ ghost use Rattle.cfgtree.specs.TreeView.{syntax};
 ghost use Rattle.cfgnumbers.specs.Numbered.{precedence_of_token, precedence_of, last_token, printed_form};
 ghost use Rattle.cfgnumbers.specs.Numbered.{avoids_insert};
 
+use crate::rows::TokenRow;
 use cfgast::{Precedence, Production};
 use cfgindex::{Storage, TIdx};
 use cfgtree::GrammarAST;
-use std::alloc::{AllocError, Global};
+use indexmap::IndexMap;
+use std::alloc::AllocError;
 
 /// The precedence of a token.
 pub(super) fn precedence_of_token(ast: &GrammarAST, name: &str) -> Option<Precedence>
@@ -43,50 +45,34 @@ pub(super) fn avoids_insert(ast: &GrammarAST, name: &str) -> bool
     }
 }
 
-/// The precedence of each token.
-///
-/// # Errors
-///
-/// Out of memory.
-pub(super) fn token_precedences(
-    alloc: Global,
-    ast: &GrammarAST,
-) -> Result<Vec<Option<Precedence>>, AllocError>
-    ensures { IfOk result (λ precedences. precedences.items
-        ≡ map (precedence_of_token (syntax ast.now)) (syntax ast.now).tokens) }
-{
-    let mut precedences = Vec::with_capacity(alloc, ast.tokens().len())?;
-    for name in ast.tokens() {
-        precedences.push(precedence_of_token(ast, name.as_str()))?;
-    }
-    Ok(precedences)
-}
-
 /// The precedence of a production: that of the token after its `%prec`, or else of its last token (POSIX yacc), given
-/// the precedences of all tokens, and the last token.
+/// the rows of all tokens, and the last token.
 pub(super) fn precedence_of<S: Storage>(
     ast: &GrammarAST,
-    precedences: &[Option<Precedence>],
+    tokens: &IndexMap<String, TokenRow>,
     production: &Production,
     last: Option<TIdx<S>>,
 ) -> Option<Precedence>
-    requires precedences { precedences.now ≡ map (precedence_of_token (syntax ast.now)) (syntax ast.now).tokens }
+    requires tokens { map (λ token. token.1.precedence) tokens.now.entries
+        ≡ map (precedence_of_token (syntax ast.now)) (syntax ast.now).tokens }
     requires last { option_map (λ token. slice_get (syntax ast.now).tokens (S.number token.0)) last
         ≡ option_map Some (last_token (production_view production.now).symbols) }
     ensures { result ≡ precedence_of (syntax ast.now) (production_view production.now) }
 {
     match &production.precedence {
         Some(name) => precedence_of_token(ast, name.as_str()),
-        None => precedence_at(precedences, last),
+        None => precedence_at(tokens, last),
     }
 }
 
 /// The precedence of the token, if there is one.
 fn precedence_at<S: Storage>(
-    precedences: &[Option<Precedence>],
+    tokens: &IndexMap<String, TokenRow>,
     token: Option<TIdx<S>>,
 ) -> Option<Precedence>
-    ensures { result ≡ option_and_then (λ token. option_flatten (slice_get precedences.now (S.number token.0))) token }
+    ensures { result ≡ option_and_then (λ token. option_flatten
+        (slice_get (map (λ token. token.1.precedence) tokens.now.entries) (S.number token.0))) token }
 {
-    *precedences.get(usize::from(token?))?
+    let (_, row) = tokens.get_index(usize::from(token?))?;
+    row.precedence
 }

@@ -10,23 +10,23 @@ ghost use Rattle.cfgast.specs.SyntaxView.{production_view as plain_production};
 ghost use Rattle.cfgtree.specs.Sound.{IsSound};
 ghost use Rattle.cfgnumbers.specs.Fits.{LeavesRoom};
 ghost use Rattle.cfgnumbers.specs.Numbered.{added_production, added_productions, file_production, token_index};
-ghost use Rattle.cfgnumbers.specs.Numbered.{precedence_of_token};
+ghost use Rattle.cfgnumbers.specs.Numbered.{file_token, precedence_of_token};
 ghost use Rattle.cfgnumbers.specs.Inner.Resolved.{AreTokens, IsResolved, Resolves};
-ghost use Rattle.cfgnumbers.specs.TablesView.{names, file_of, implicit_in};
+ghost use Rattle.cfgnumbers.specs.TablesView.{names, file_of, implicit_in, token_view};
 ghost use Rattle.cfgtables.specs.NumberedSymbols.{sym_of};
 
 use super::Numbering;
-use super::marks::{precedence_of, token_precedences};
+use super::marks::precedence_of;
 use crate::production_rows::ProductionRows;
-use crate::rows::ProductionRow;
-use cfgast::{Precedence, Production};
+use crate::rows::{ProductionRow, TokenRow};
+use cfgast::Production;
 use cfgbase::Span;
 use cfgindex::{RIdx, Storage, Symbol, to_storage};
 use indexmap::IndexMap;
 use std::alloc::{AllocError, Global};
 
 impl Numbering<'_> {
-    /// The productions: those of the file, and then the added ones.
+    /// The productions: those of the file, and then the added ones. The tokens have these rows.
     ///
     /// # Errors
     ///
@@ -34,8 +34,11 @@ impl Numbering<'_> {
     pub fn production_rows<S: Storage>(
         &self,
         alloc: Global,
+        tokens: &IndexMap<String, TokenRow>,
     ) -> Result<ProductionRows<S>, AllocError>
         requires sound { IsSound (file_of self.now) [] }
+        requires tokens { map token_view tokens.now.entries
+            ≡ map (file_token (file_of self.now)) (zip (file_of self.now).tokens (file_of self.now).spans) }
         requires resolved { IsResolved (file_of self.now) }
         requires implicit { AreTokens (file_of self.now) (implicit_in self.now) }
         requires room { LeavesRoom S.MAX (implicit_in self.now) (file_of self.now) }
@@ -46,7 +49,7 @@ impl Numbering<'_> {
     {
         let of_file = self.ast.prods().len();
         let mut rows = ProductionRows::with_capacity(alloc, of_file.saturating_add(1))?;
-        self.push_file_rows(alloc, &mut rows)?;
+        self.push_file_rows(alloc, &mut rows, tokens)?;
         self.push_added(alloc, &mut rows)?;
         Ok(rows)
     }
@@ -56,8 +59,11 @@ impl Numbering<'_> {
         &self,
         alloc: Global,
         rows: &mut ProductionRows<S>,
+        tokens: &IndexMap<String, TokenRow>,
     ) -> Result<(), AllocError>
         requires empty { rows.old ≡ [] }
+        requires tokens { map (λ token. token.1.precedence) tokens.now.entries
+            ≡ map (precedence_of_token (file_of self.now)) (file_of self.now).tokens }
         requires sound { IsSound (file_of self.now) [] }
         requires resolved { IsResolved (file_of self.now) }
         requires room { LeavesRoom S.MAX (implicit_in self.now) (file_of self.now) }
@@ -65,25 +71,24 @@ impl Numbering<'_> {
             ≡ map (file_production (implicit_in self.now) (file_of self.now))
             (zip (file_of self.now).production_rules (file_of self.now).productions)) }
     {
-        let precedences = token_precedences(alloc, self.ast)?;
         let mut symbols = Vec::new(alloc);
         for (rule, production) in self.ast.prods_rules().iter().zip(self.ast.prods()) {
-            self.push_file_row(rows, &mut symbols, &precedences, *rule, production)?;
+            self.push_file_row(rows, &mut symbols, tokens, *rule, production)?;
         }
         Ok(())
     }
 
     /// Adds a production of the file to the rows; its rule has this index. Its symbols are numbered in `symbols`. The
-    /// tokens have these precedences.
+    /// tokens have these rows.
     fn push_file_row<S: Storage>(
         &self,
         rows: &mut ProductionRows<S>,
         symbols: &mut Vec<Symbol<S>>,
-        precedences: &[Option<Precedence>],
+        tokens: &IndexMap<String, TokenRow>,
         rule: usize,
         production: &Production,
     ) -> Result<(), AllocError>
-        requires precedences { precedences.now
+        requires tokens { map (λ token. token.1.precedence) tokens.now.entries
             ≡ map (precedence_of_token (file_of self.now)) (file_of self.now).tokens }
         requires rule { rule < length (file_of self.now).rules }
         requires resolved { Resolves (file_of self.now) (plain_production production.now) }
@@ -95,7 +100,7 @@ impl Numbering<'_> {
         let (action, action_span) = action_parts(production)?;
         let row = ProductionRow {
             span: production.prod_span,
-            precedence: precedence_of(self.ast, precedences, production, last),
+            precedence: precedence_of(self.ast, tokens, production, last),
             action,
             action_span,
         };

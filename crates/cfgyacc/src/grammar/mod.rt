@@ -3,6 +3,7 @@
 mod analysed;
 mod fault;
 mod iter;
+mod printed;
 mod tables;
 
 pub use cfganalysis::{CountedTables, Productions, Tables};

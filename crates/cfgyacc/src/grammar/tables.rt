@@ -18,9 +18,7 @@ ghost use Rattle.cfgyacc.specs.Counting.{YieldsNumbersInOrder};
 ghost use Rattle.cfgnumbers.specs.Fits.{LeavesRoom};
 ghost use Rattle.cfgyacc.specs.GrammarOf.{IsGrammarOf, IsGrammarOfItself};
 ghost use Rattle.cfgnumbers.specs.Numbered.{implicit_of, numbered};
-ghost use Rattle.cfgnumbers.specs.Accessors.{IsSymbolWithin, has_token_name, production_part, production_text};
-ghost use Rattle.cfgnumbers.specs.Accessors.{rule_part};
-ghost use Rattle.cfgnumbers.specs.Accessors.{token_part};
+ghost use Rattle.cfgnumbers.specs.Accessors.{IsSymbolWithin, has_token_name, production_part, rule_part, token_part};
 ghost use Rattle.cfgyacc.specs.GrammarSpans.{EachAnswerSpan};
 ghost use Rattle.cfgnumbers.specs.WellNumbered.{IsWellNumbered};
 
@@ -207,10 +205,15 @@ impl<S: Storage> YaccGrammar<S> {
         ensures { IfOk result (λ grammar. grammar ≡ numbered kind (syntax ast.now)) }
     {
         let numbering = Numbering::new(kind, ast);
+        let tokens = numbering.token_rows(alloc);
+        let prods = match &tokens {
+            Ok(tokens) => numbering.production_rows(alloc, tokens),
+            Err(AllocError) => Err(AllocError),
+        };
         let (rules, prods, tokens, settings) = all(
             numbering.rule_rows(alloc),
-            numbering.production_rows(alloc),
-            numbering.token_rows(alloc),
+            prods,
+            tokens,
             ast.settings().clone(),
         )?;
         Ok(YaccGrammar {
@@ -566,23 +569,5 @@ impl<S: Storage> YaccGrammar<S> {
         ensures { option_map string_bytes result.now ≡ self.now.settings.programs }
     {
         &self.settings.programs
-    }
-
-    /// A production as text: the rule's name and a colon, and for each symbol a space and the name in double quotes.
-    pub fn pp_prod(&self, alloc: Global, pidx: PIdx<S>) -> Result<String, AllocError>
-        requires { S.number pidx.0 < length self.now.productions }
-        ensures { IfOk result (λ text. production_part (production_text self.now) self.now (S.number pidx.0)
-            ≡ Some (string_bytes text)) }
-    {
-        let mut text = String::from_str(alloc, self.rule_name_str(self.prod_to_rule(pidx)))?;
-        text.push_str(":")?;
-        for symbol in self.prod(pidx) {
-            let name = match *symbol {
-                Symbol::Rule(ridx) => self.rule_name_str(ridx),
-                Symbol::Token(tidx) => self.token_name(tidx).unwrap(),
-            };
-            write!(text, " \"{name}\"")?;
-        }
-        Ok(text)
     }
 }

@@ -22,7 +22,7 @@ push_file_row-requires g c =
     let known = item_holds road c.loop-rule.yielded c.loop-rule.rule-iterator c.loop-rule.yielded_by _ c.next.new.self (c.in-Some.rule, c.in-Some.production) c.in-Some.is c.next.ensures.steps
     (λ (pair : ℕ × Production). (pair.0 < length s.rules) × Resolves s pair.1)
     (All-zip (λ r. r < length s.rules) (Resolves s) s.production_rules s.productions c.requires.sound.well_formed.production_rules_within c.requires.resolved.symbols) in
-    record { precedences = c.deref.ensures.value ∙ c.in_ok-precedences.ensures; rule = known.0; resolved = known.1; room = c.requires.room }
+    record { tokens = c.requires.tokens; rule = known.0; resolved = known.1; room = c.requires.room }
 
 pub loop-rule-preserved : goal.loop-rule-preserved
 loop-rule-preserved g c =

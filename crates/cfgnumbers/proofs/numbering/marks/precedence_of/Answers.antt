@@ -10,5 +10,5 @@ pub returns-in-None : goal.returns-in-None
 returns-in-None g c =
     rw c.in-None.is
     (c.precedence_at.ensures
-    ∙ precedence_at (λ (token : TIdx g.row.S.Denot). g.S.Storage.number token.0) (syntax c.args.ast.now) c.args.precedences.now c.requires.precedences c.args.last
+    ∙ precedence_at (λ (token : TIdx g.row.S.Denot). g.S.Storage.number token.0) (syntax c.args.ast.now) _ c.requires.tokens c.args.last
     (last_token (production_view c.args.production.now).symbols) c.requires.last)

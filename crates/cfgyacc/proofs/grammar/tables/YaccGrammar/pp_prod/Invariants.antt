@@ -5,4 +5,4 @@ use Rattle.cfgtables.specs.NumberedSymbols.{sym_of}
 use Rattle.cfgyacc.proofs.grammar.tables.YaccGrammar.pp_prod.Given as goal
 
 abbrev pub invariant-loop-symbol : goal.invariant-loop-symbol
-invariant-loop-symbol g l = string_bytes l.text ≡ string_bytes l.initial.text ++ concat (map (sym_text l.self) (map (sym_of g.S.Storage.number) (take l.symbol-index l.symbol-items)))
+invariant-loop-symbol g l = string_bytes l.text ≡ string_bytes l.initial.text ++ concat (map (sym_text l.self) (map (sym_of g.S.Storage.number) (take l.symbol-index l.symbols)))
