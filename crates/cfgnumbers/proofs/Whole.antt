@@ -1,10 +1,10 @@
 -- What a grammar refers to exists: its rules and tokens, and the symbols of its productions.
 use Rattle.std.proofs.Common.{◌≡◌, ℕ, ◌+◌, ◌<◌, Bool, true, false, cond, List, [], ◌∷◌, length, get_or, Option, Some, None, All, option_map, refl, sym, subst, ◌∙◌, arith, ltb-true, ◌↔◌, ◌==◌, ◌≤◌, ◌++◌, map, slice_get, IfSome, ap}
 use Rattle.cfgast.specs.Syntax as file
-use Rattle.std.specs.List.{flat_map, zip}
+use Rattle.std.specs.List.{zip}
 use Rattle.std.specs.Option.{option_to_list}
 use Rattle.std.specs.Str.{bytes_eq}
-use Rattle.std.proofs.lemmas.List.Elements.{All-nil, All-cons, All-append, All-head, All-tail, All-map}
+use Rattle.std.proofs.lemmas.List.Elements.{All-nil, All-cons, All-append, All-map}
 use Rattle.std.proofs.lemmas.List.{length-map, map-append}
 use Rattle.std.proofs.lemmas.Simd.{map-map}
 use Rattle.std.proofs.lemmas.Option.{slice_get-map, slice_get-get_or}
@@ -16,6 +16,7 @@ use Rattle.lemmas.proofs.Passing.{positions_from-within}
 use Rattle.lemmas.proofs.Zips.{All-zip}
 use Rattle.cfgwords.specs.FileWords.{Word}
 use Rattle.derivation.specs.Grammar.{Sym, Rule, Token, Grammar, IsSymbolOf}
+use Rattle.cfgast.proofs.Keeps.{All-flat_map}
 use Rattle.cfgast.specs.Building.{has_name, has_rule}
 use Rattle.cfgast.specs.Syntax.{Syntax, Production, Symbol, RuleSymbol, TokenSymbol}
 use Rattle.cfgtree.specs.Check.{symbol_error}
@@ -35,11 +36,6 @@ use Rattle.cfgnumbers.proofs.RowLemmas.{name_shown}
 none_wrong : (b : Bool) (e : GrammarError) → cond b None (Some e) ≡ None → b ≡ true
 none_wrong true e h = refl
 none_wrong false e h = let no : Some e ≡ None = h in cc
-
-All-flat_map : {A B : Type 0} (P : B → Type 0) (f : A → List B) (xs : List A) → All (λ x. All P (f x)) xs → All P (flat_map f xs)
-All-flat_map P f [] all = All-nil P
-All-flat_map P f (x ∷ xs) all =
-    All-append P (f x) (flat_map f xs) (All-head (λ x. All P (f x)) x xs all) (All-flat_map P f xs (All-tail (λ x. All P (f x)) x xs all))
 
 -- symbols of a grammar that has the rules and tokens of the file, and the added ones
 module _ (s : Syntax) (sound : IsSound s []) (g : Grammar) (tokens_are : g.tokens ≡ length s.tokens + 1) where
