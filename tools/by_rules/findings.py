@@ -11,7 +11,8 @@ class Finding:
         self.kind, self.spans, self.text = kind, spans, text
 
     def spans_kind(self):
-        return 'DuplicationError' if self.kind in ('ShadowedRule', 'CyclicRule', 'RepeatedProduction') else 'Error'
+        several = ('ShadowedRule', 'StartWithoutSentence', 'NoSentence', 'CyclicRule', 'RepeatedProduction')
+        return 'DuplicationError' if self.kind in several else 'Error'
 
 
 def findings_of(tree, grammar, is_printed):
@@ -51,19 +52,38 @@ def least_costs(grammar):
     return Costs(grammar, [1] * (len(grammar.tokens) + 1)).least
 
 
-def without_sentence(tree, rule):
-    """The finding that a rule is unproductive: the start rule has one of its own."""
-    if rule.name == tree.start[0]:
-        text = "No sentence can be derived from the start rule '%s'"
-        return Finding('StartWithoutSentence', [rule.span], text % rule.name)
-    return Finding('NoSentence', [rule.span], "Rule '%s' has no sentence" % rule.name)
+def depended(grammar, least, rule):
+    """The unproductive rules that an unproductive one depends on, with itself: what was found grows until nothing is new."""
+    found = {rule}
+    while (after := found.union(*({index for what, index in p.symbols if what == 'rule' and least[index] is None}
+                                  for p in grammar.productions if p.rule in found))) != found:
+        found = after
+    return found
+
+
+def without_sentence(tree, grammar, rule, lack):
+    """What is reported at an unproductive rule, if anything is. `lack` has what each unproductive rule depends on."""
+    name, is_start = grammar.rules[rule].name, lambda it: grammar.rules[it].name == tree.start[0]
+    is_root = all(rule in lack[it] for it in lack[rule])
+    group = [it for it in rules_of_file(grammar) if is_root and it in lack[rule]]
+    spans = [grammar.rules[it].span for it in [rule] + [it for it in group if it != rule]]
+    if is_start(rule):
+        return [Finding('StartWithoutSentence', spans, "No sentence can be derived from the start rule '%s'" % name)]
+    if not is_root:
+        text = "Unusable rule '%s': each of its productions has a rule without a sentence"
+        return [Finding('UnusableRule', spans, text % name)]
+    if rule != group[0] or any(map(is_start, group)):
+        return []
+    return [Finding('NoSentence', spans, "Rule '%s' has no sentence" % name)]
 
 
 def unproductive(tree, grammar):
     """Unproductive rules, and then unusable productions of productive rules."""
     least = least_costs(grammar)
     name = lambda rule: grammar.rules[rule].name
-    found = [without_sentence(tree, grammar.rules[rule]) for rule in rules_of_file(grammar) if least[rule] is None]
+    lack = {rule: depended(grammar, least, rule) for rule in range(len(grammar.rules)) if least[rule] is None}
+    found = [finding for rule in lack if rule in rules_of_file(grammar)
+             for finding in without_sentence(tree, grammar, rule, lack)]
     for p in grammar.productions[:grammar.start_production]:
         inside = [index for what, index in p.symbols if what == 'rule' and least[index] is None]
         if inside and least[p.rule] is not None:

@@ -21,6 +21,7 @@ usage: cfglint [OPTION..] [--] FILE..
                      names none is read as original-noaction.
   --format FORMAT    text, the default, or json: a line with a JSON object for each error and warning, and no summary.
   --allow FINDING    Findings of this kind aren't reported.
+  --warn FINDING     Findings of this kind are warnings.
   --deny FINDING     Findings of this kind are errors.
   --deny-warnings    Warnings end with status 1 too.
   --quiet            Writes no summary.
@@ -30,17 +31,21 @@ usage: cfglint [OPTION..] [--] FILE..
   --                 What follows are files.
   FILE               A path, or - for standard input.
 
-FINDING is unused-rule, unused-token, shadowed-rule, start-without-sentence, no-sentence, unusable-production,
-useless-symbol, cyclic-rule, repeated-production or unused-precedence. Without these options start-without-sentence
-is an error, and the others are warnings; of several --allow and --deny with the same one the last counts.
+FINDING is unused-rule, unused-token, shadowed-rule, start-without-sentence, no-sentence, unusable-rule,
+unusable-production, useless-symbol, cyclic-rule, repeated-production or unused-precedence. Without these options
+start-without-sentence is an error; unusable-rule, unusable-production and useless-symbol, which only follow from a
+rule without a sentence, aren't reported; and the others are warnings. Of several --allow, --warn and --deny with the
+same one the last counts.
 --kind=KIND is --kind KIND, and so on.
 
 status: 0 without errors or denied warnings; 1 with either; 2 if the arguments are wrong, a file can't be read or
 the output can't be written; 3 if there is no memory left
 '''
 KINDS = ('original-noaction', 'original-useraction', 'original-genericparsetree', 'grmtools', 'eco', 'section')
-FINDINGS = ('unused-rule', 'unused-token', 'shadowed-rule', 'start-without-sentence', 'no-sentence', 'unusable-production',
-            'useless-symbol', 'cyclic-rule', 'repeated-production', 'unused-precedence')
+FINDINGS = ('unused-rule', 'unused-token', 'shadowed-rule', 'start-without-sentence', 'no-sentence', 'unusable-rule',
+            'unusable-production', 'useless-symbol', 'cyclic-rule', 'repeated-production', 'unused-precedence')
+CONSEQUENCES = ('unusable-rule', 'unusable-production', 'useless-symbol')
+LEVELS = {'--allow': None, '--warn': 'warning', '--deny': 'error'}
 VALIDATION = ('NoStartRule', 'InvalidStartRule', 'UnknownRuleRef', 'UnknownToken', 'NoPrecForToken', 'UnknownEPP')
 FORMATS = ('text', 'json')
 GREATEST = 4294967295
@@ -63,7 +68,7 @@ class Wrong(Exception):
 class Options:
     def __init__(self):
         self.kind, self.denies, self.is_quiet, self.stdin_name, self.files = None, False, False, '-', []
-        self.levels = dict.fromkeys(FINDINGS, 'warning') | {'start-without-sentence': 'error'}
+        self.levels = dict.fromkeys(FINDINGS, 'warning') | dict.fromkeys(CONSEQUENCES) | {'start-without-sentence': 'error'}
         self.format = 'text'
 
     def set(self, option, value):
@@ -74,7 +79,7 @@ class Options:
         elif option == '--format':
             self.format = named(value, 'format', 'formats', FORMATS)
         else:
-            self.levels[named(value, 'finding', 'findings', FINDINGS)] = 'error' if option == '--deny' else None
+            self.levels[named(value, 'finding', 'findings', FINDINGS)] = LEVELS[option]
 
 
 def named(value, one, several, values):
@@ -99,7 +104,7 @@ def options_of(arguments):
             options.denies = True
         elif argument == '--quiet':
             options.is_quiet = True
-        elif option in ('--kind', '--format', '--allow', '--deny', '--stdin-name'):
+        elif option in ('--kind', '--format', *LEVELS, '--stdin-name'):
             if not equals and not left:
                 raise Wrong("option '%s' needs a value" % option)
             options.set(option, value if equals else left.pop(0))

@@ -2,11 +2,14 @@ pub mod FirstAlike
 pub mod TargetTexts
 pub mod Lacking
 pub mod Marking
+pub mod Needs
 pub mod OwnCycles
 pub mod Reached
 pub mod Read
 pub mod Reporting
+pub mod RootGroups
 pub mod Shadowing
 pub mod Texts
+pub mod UnproductiveRules
 pub mod Unusable
 pub mod UsedRules

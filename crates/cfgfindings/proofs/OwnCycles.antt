@@ -21,6 +21,19 @@ use Rattle.cfgfindings.specs.Findings.{DeriveEachOther, IsCyclicGroup, ReportsGr
 use Rattle.cfgfindings.specs.Shown.{ShownFinding, cyclic_finding}
 use Rattle.cfgfindings.specs.Inner.CyclicRules.{AreOwnGroups, IsSomeStep}
 
+-- paths after others
+module _ (Has : ℕ → Step → Type 0) where
+  leads_through : (a : ℕ) (path : List Step) (b : ℕ) (more : List Step) (c : ℕ) → Leads Has a path b → Leads Has b more c → Leads Has a (path ++ more) c
+  leads_through a [] b more c same l = subst (λ n. Leads Has n more c) (sym same) l
+  leads_through a (step ∷ path) b more c l m = (l.0, leads_through step.rule path b more c l.1 m)
+
+  pub leads_to_through : (a b c : ℕ) → LeadsTo Has a b → LeadsTo Has b c → LeadsTo Has a c
+  leads_to_through a b c l m = record {
+    path = l.path ++ m.path;
+    some = let some = l.some in omega (arith, some, length-append l.path m.path);
+    leads = leads_through a l.path b m.path c l.leads m.leads;
+  }
+
 -- steps that are also others
 module _ (Has Has' : ℕ → Step → Type 0) (to : (rule : ℕ) (step : Step) → Has rule step → Has' rule step) where
   leads_as : (a : ℕ) (path : List Step) (b : ℕ) → Leads Has a path b → Leads Has' a path b
@@ -87,7 +100,7 @@ found_at g shown same groups are rule within found entry is read =
 
 -- the elements that pass a test
 module _ (test : ℕ → Bool) where
-  kept : (xs : List ℕ) (x : ℕ) → Contains xs x → test x ≡ true → Contains (filter test xs) x
+  pub kept : (xs : List ℕ) (x : ℕ) → Contains xs x → test x ≡ true → Contains (filter test xs) x
   kept [] x c t = absurd (contains_none x c)
   kept (y ∷ xs) x c t = elim (contains_cases y x xs c) [
     | inl same ↦ subst (λ b. Contains (cond b (y ∷ filter test xs) (filter test xs)) x) (sym (ap test same ∙ t))
@@ -99,7 +112,7 @@ module _ (test : ℕ → Bool) where
       go true c = contains_later y x (filter test xs) c
       go false c = c
 
-  passed : (xs : List ℕ) (x : ℕ) → Contains (filter test xs) x → Contains xs x × (test x ≡ true)
+  pub passed : (xs : List ℕ) (x : ℕ) → Contains (filter test xs) x → Contains xs x × (test x ≡ true)
   passed [] x c = absurd (contains_none x c)
   passed (y ∷ xs) x c = go (test y) refl (passed xs x) c
     where
@@ -193,15 +206,5 @@ module _ (law : (g : Grammar) (a b : ℕ) → LeadsTo (IsStep g) a b ↔ Derives
     pub own_cycle : (r : ℕ) → slice_get own 0 ≡ Some r → (path : List Step) × IsCycle (IsStep (core g)) r path
     own_cycle r head =
         let h = (common r (head_in r head)).1 in
-        let some = h.back.some in (
-          h.back.path ++ h.there.path,
-          record {
-            some = omega (arith, some, length-append h.back.path h.there.path);
-            leads = through r h.back.path first h.there.path r h.back.leads h.there.leads;
-          },
-        )
-      where
-        through : (a : ℕ) (path : List Step) (b : ℕ) (more : List Step) (c : ℕ) → Leads (IsStep (core g)) a path b → Leads (IsStep (core g)) b more c
-            → Leads (IsStep (core g)) a (path ++ more) c
-        through a [] b more c same l = subst (λ n. Leads (IsStep (core g)) n more c) (sym same) l
-        through a (step ∷ path) b more c l m = (l.0, through step.rule path b more c l.1 m)
+        let l = leads_to_through (IsStep (core g)) r first r h.back h.there in
+        (l.path, record { some = l.some; leads = l.leads })

@@ -6,38 +6,39 @@ use Rattle.cfgrammar.specs.Check.{nowhere}
 use Rattle.cfgrammar.specs.Numbered.{Numbered, NumberedToken}
 use Rattle.cfgrammar.specs.Accessors.{production_part, rule_part, token_part}
 use Rattle.cfgrammar.proofs.Shows.{rule_named, token_named}
-use Rattle.cfgfindings.specs.Shown.{ShownFinding, no_sentence, production_span, quoted, rule_name, rule_span, start_without_sentence, token_name, token_span, unusable, useless_rule, useless_token}
+use Rattle.cfgfindings.specs.Shown.{ShownFinding, production_span, quoted, rule_name, rule_span, token_name, token_span, unusable, unusable_rule, useless_rule, useless_token}
 use Rattle.cfglint_shell.specs.declared.finding_kind.FindingKind.{FindingKind}
-use Rattle.cfglint_shell.specs.declared.finding_kind.FindingKind.TheVariants.{NoSentence, StartWithoutSentence, UnusableProduction, UselessSymbol}
+use Rattle.cfglint_shell.specs.declared.finding_kind.FindingKind.TheVariants.{UnusableProduction, UnusableRule, UselessSymbol}
 
 -- what comes after a name in quotes
 pub after_quoted : (name prefix back : List ℕ) → prefix ++ (codes "'" ++ (name ++ (codes "'" ++ back))) ≡ prefix ++ (quoted name ++ back)
 after_quoted name prefix back = ap (λ t. prefix ++ (codes "'" ++ t)) (sym (append_assoc name (codes "'") back))
 
--- a finding at one span
+-- a finding at some spans, and at one
+abbrev pub shown_with : FindingKind → List Span → List ℕ → ShownFinding
+shown_with kind spans text = record { kind = kind; spans = spans; text = text }
+
 abbrev pub shown_at : FindingKind → Span → List ℕ → ShownFinding
-shown_at kind span text = record { kind = kind; spans = span ∷ []; text = text }
+shown_at kind span text = shown_with kind (span ∷ []) text
 
 module _ (g : Numbered) where
-  module _ (r : ℕ) (name : List ℕ) (span : Span) (named : rule_part (λ rule. rule.name) g r ≡ Some name) where
-    pub no_sentence_reported : rule_part (λ rule. rule.span) g r ≡ Some span
-        → shown_at NoSentence span (codes "Rule '" ++ (name ++ codes "' has no sentence")) ≡ no_sentence g r
-    no_sentence_reported located =
-        let index : span ≡ rule_span g r = ap (λ o. unwrap_or o nowhere) (sym located) in
-        let text : codes "Rule '" ++ (name ++ codes "' has no sentence") ≡ codes "Rule " ++ (quoted (rule_name g r) ++ codes " has no sentence") =
+  module _ (r : ℕ) (name : List ℕ) (named : rule_part (λ rule. rule.name) g r ≡ Some name) where
+    pub no_sentence_text : codes "Rule '" ++ (name ++ codes "' has no sentence") ≡ codes "Rule " ++ (quoted (rule_name g r) ++ codes " has no sentence")
+    no_sentence_text =
         after_quoted name (codes "Rule ") (codes " has no sentence")
-        ∙ ap (λ n. codes "Rule " ++ (quoted n ++ codes " has no sentence")) (sym (rule_named g r name named)) in
-        λ i. shown_at NoSentence (index i) (text i)
+        ∙ ap (λ n. codes "Rule " ++ (quoted n ++ codes " has no sentence")) (sym (rule_named g r name named))
 
-    pub start_reported : rule_part (λ rule. rule.span) g r ≡ Some span
-        → shown_at StartWithoutSentence span (codes "No sentence can be derived from the start rule '" ++ (name ++ codes "'")) ≡ start_without_sentence g r
-    start_reported located =
+    pub unusable_rule_reported : (span : Span) → rule_part (λ rule. rule.span) g r ≡ Some span
+        → shown_at UnusableRule span (codes "Unusable rule '" ++ (name ++ codes "': each of its productions has a rule without a sentence")) ≡ unusable_rule g r
+    unusable_rule_reported span located =
         let index : span ≡ rule_span g r = ap (λ o. unwrap_or o nowhere) (sym located) in
-        let text : codes "No sentence can be derived from the start rule '" ++ (name ++ codes "'")
-        ≡ codes "No sentence can be derived from the start rule " ++ quoted (rule_name g r) =
-        ap (λ n. codes "No sentence can be derived from the start rule " ++ quoted n) (sym (rule_named g r name named)) in
-        λ i. shown_at StartWithoutSentence (index i) (text i)
+        let text : codes "Unusable rule '" ++ (name ++ codes "': each of its productions has a rule without a sentence")
+        ≡ codes "Unusable rule " ++ (quoted (rule_name g r) ++ codes ": each of its productions has a rule without a sentence") =
+        after_quoted name (codes "Unusable rule ") (codes ": each of its productions has a rule without a sentence")
+        ∙ ap (λ n. codes "Unusable rule " ++ (quoted n ++ codes ": each of its productions has a rule without a sentence")) (sym (rule_named g r name named)) in
+        λ i. shown_at UnusableRule (index i) (text i)
 
+  module _ (r : ℕ) (name : List ℕ) (span : Span) (named : rule_part (λ rule. rule.name) g r ≡ Some name) where
     pub unusable_reported : (p : ℕ) → production_part (λ production. production.span) g p ≡ Some span
         → shown_at UnusableProduction span (codes "Unusable production: rule '" ++ (name ++ codes "' has no sentence")) ≡ unusable g p r
     unusable_reported p located =

@@ -17,7 +17,8 @@ use Rattle.cfgrammar.specs.Precedence.{Precedence}
 use Rattle.cfgrammar.specs.Unused.{IsStart, IsUnused, RuleName, TokenName, entry_token, name_of}
 use Rattle.cfgrammar.specs.Openings.{nth_production}
 use Rattle.cfgrammar.specs.Numbered.{Numbered, core}
-use Rattle.cfgfindings.specs.Shown.{ShownFinding, cyclic_finding, no_sentence, offset_of, repeated, rule_name, shadowed_rule, start_without_sentence, unusable, unused_precedence, unused_rule, unused_token, useless_rule, useless_token}
+use Rattle.cfgfindings.specs.Roots.{DependsOn, IsRoot}
+use Rattle.cfgfindings.specs.Shown.{ShownFinding, cyclic_finding, no_sentence, offset_of, repeated, rule_name, shadowed_rule, start_without_sentence, unusable, unusable_rule, unused_precedence, unused_rule, unused_token, useless_rule, useless_token}
 use Rattle.cfgfindings.specs.Useless.{IsUseless}
 
 -- The findings for the numbers below this one, in order: `Reports n (Some finding)` says that this is the finding for n, and `Reports n None`
@@ -38,6 +39,12 @@ module _ (g : Numbered) where
   pub record IsUnproductiveRule (r : ℕ) : Type 0 where
     pub ours : rules_added ≤ r
     pub none : HasNone (HasProduction (core g)) r
+
+  -- if the rule is a root, exactly the other rules of the file in its group, in ascending order; otherwise none
+  pub record AreOthers (r : ℕ) (others : List ℕ) : Type 0 where
+    pub ascending : IsStrictlyIncreasing others
+    pub all : (q : ℕ) → Contains others q
+        ↔ ((rules_added ≤ q) × (q ≡ r → ⊥) × IsRoot (HasProduction (core g)) r × DependsOn (HasProduction (core g)) r q)
 
   -- a production of the file that no sentence of its rule uses, although the rule has one
   pub record IsUnusable (p : ℕ) : Type 0 where
@@ -113,11 +120,34 @@ module _ (g : Numbered) where
 abbrev pub IsStartRule : Syntax → Numbered → ℕ → Type 0
 IsStartRule s g r = IsStart s (RuleName (rule_name g r))
 
--- unproductive rules, of which the start rule has a finding of its own
-abbrev pub ReportsNoSentence : Syntax → Numbered → ℕ → Option ShownFinding → Type 0
-ReportsNoSentence s g r (Some finding) = IsUnproductiveRule g r
-    × ((IsStartRule s g r × (finding ≡ start_without_sentence g r)) ⊎ ((IsStartRule s g r → ⊥) × (finding ≡ no_sentence g r)))
-ReportsNoSentence s g r None = IsUnproductiveRule g r → ⊥
+module _ (s : Syntax) (g : Numbered) where
+  -- the unproductive start rule, which has a finding of its own
+  pub record IsUnproductiveStart (r : ℕ) : Type 0 where
+    pub unproductive : IsUnproductiveRule g r
+    pub start : IsStartRule s g r
+
+  -- a root, the first rule of the file in its group, which doesn't have the start rule
+  pub record IsFirstRoot (r : ℕ) : Type 0 where
+    pub ours : rules_added g ≤ r
+    pub root : IsRoot (HasProduction (core g)) r
+    pub first : (q : ℕ) → rules_added g ≤ q → DependsOn (HasProduction (core g)) r q → r ≤ q
+    pub no_start : (q : ℕ) → rules_added g ≤ q → DependsOn (HasProduction (core g)) r q → IsStartRule s g q → ⊥
+
+  -- one finding for each group of roots, and one for an unproductive start rule
+  abbrev pub ReportsNoSentence : ℕ → Option ShownFinding → Type 0
+  ReportsNoSentence r (Some finding) = (others : List ℕ) × AreOthers g r others
+      × ((IsUnproductiveStart r × (finding ≡ start_without_sentence g r others)) ⊎ (IsFirstRoot r × (finding ≡ no_sentence g r others)))
+  ReportsNoSentence r None = (IsUnproductiveStart r → ⊥) × (IsFirstRoot r → ⊥)
+
+  -- any other unproductive rule, unless it is in such a group
+  pub record IsUnusableRule (r : ℕ) : Type 0 where
+    pub unproductive : IsUnproductiveRule g r
+    pub no_root : IsRoot (HasProduction (core g)) r → ⊥
+    pub no_start : IsStartRule s g r → ⊥
+
+  abbrev pub ReportsUnusableRule : ℕ → Option ShownFinding → Type 0
+  ReportsUnusableRule r (Some finding) = IsUnusableRule r × (finding ≡ unusable_rule g r)
+  ReportsUnusableRule r None = IsUnusableRule r → ⊥
 
 module _ (s : Syntax) where
   -- a production contains the rule with this name
@@ -194,6 +224,7 @@ pub record AreReportedInTurn (s : Syntax) (g : Numbered) (reported : List ShownF
   pub unused_tokens : List ShownFinding
   pub shadowed : List ShownFinding
   pub without : List ShownFinding
+  pub unusable_rules : List ShownFinding
   pub unusable_productions : List ShownFinding
   pub useless_rules : List ShownFinding
   pub useless_tokens : List ShownFinding
@@ -204,6 +235,7 @@ pub record AreReportedInTurn (s : Syntax) (g : Numbered) (reported : List ShownF
   pub are_unused_tokens : ReportsBelow (ReportsUnusedToken s) (length s.tokens) unused_tokens
   pub are_shadowed : ReportsBelow (ReportsShadowedRule s) (length s.rules) shadowed
   pub are_without : ReportsBelow (ReportsNoSentence s g) (length g.rules) without
+  pub are_unusable_rules : ReportsBelow (ReportsUnusableRule s g) (length g.rules) unusable_rules
   pub are_unusable_productions : ReportsBelow (ReportsUnusable g) g.start_production unusable_productions
   pub are_useless_rules : ReportsBelow (ReportsUselessRule g) (length g.rules) useless_rules
   pub are_useless_tokens : ReportsBelow (ReportsUselessToken g) (length g.tokens) useless_tokens
@@ -211,7 +243,7 @@ pub record AreReportedInTurn (s : Syntax) (g : Numbered) (reported : List ShownF
   pub are_repeats : ReportsBelow (ReportsRepeated g) g.start_production repeats
   pub are_precedences : ReportsBelow (ReportsPrecedence s) (length s.tables.precedences) precedences
   pub is : reported ≡ unused_rules ++ (unused_tokens ++ (shadowed
-      ++ (without ++ (unusable_productions ++ (useless_rules ++ (useless_tokens ++ (cycles ++ (repeats ++ precedences))))))))
+      ++ (without ++ (unusable_rules ++ (unusable_productions ++ (useless_rules ++ (useless_tokens ++ (cycles ++ (repeats ++ precedences)))))))))
 
 -- the same findings sorted by offset; those at the same offset stay in their order
 pub record AreByOffset (reported all : List ShownFinding) : Type 0 where

@@ -12,7 +12,7 @@ use Rattle.cfgrammar.specs.Numbered.{Numbered, core}
 use Rattle.cfgrammar.specs.Accessors.{production_part, rule_part, sym_name}
 use Rattle.cfgrammar.specs.Openings.{nth_production}
 use Rattle.cfglint_shell.specs.declared.finding_kind.FindingKind.{FindingKind}
-use Rattle.cfglint_shell.specs.declared.finding_kind.FindingKind.TheVariants.{IsCyclic, NoSentence, RepeatedProduction, ShadowedRule, StartWithoutSentence, UnusableProduction, UnusedPrecedence, UnusedRule, UnusedToken, UselessSymbol}
+use Rattle.cfglint_shell.specs.declared.finding_kind.FindingKind.TheVariants.{IsCyclic, NoSentence, RepeatedProduction, ShadowedRule, StartWithoutSentence, UnusableProduction, UnusableRule, UnusedPrecedence, UnusedRule, UnusedToken, UselessSymbol}
 
 -- the kind of finding, its spans and its text
 pub record ShownFinding : Type 0 where
@@ -20,9 +20,11 @@ pub record ShownFinding : Type 0 where
   pub spans : List Span
   pub text : List ℕ
 
--- what the spans mean: for a shadowed rule, for cyclic rules and for a repeated production, all are shown
+-- what the spans mean: for the kinds whose findings may be about several places, all are shown
 abbrev pub spanskind_of : FindingKind → SpansKind
 spanskind_of ShadowedRule = DuplicationError
+spanskind_of StartWithoutSentence = DuplicationError
+spanskind_of NoSentence = DuplicationError
 spanskind_of IsCyclic = DuplicationError
 spanskind_of RepeatedProduction = DuplicationError
 spanskind_of _ = Error
@@ -66,20 +68,28 @@ module _ (g : Numbered) where
   abbrev pub production_span : ℕ → Span
   production_span p = unwrap_or (production_part (λ production. production.span) g p) nowhere
 
-  -- that the rule, which is the start rule, has no sentence
-  abbrev pub start_without_sentence : ℕ → ShownFinding
-  start_without_sentence r = record {
+  -- that the rule, which is the start rule, has no sentence, nor have these others
+  abbrev pub start_without_sentence : ℕ → List ℕ → ShownFinding
+  start_without_sentence r others = record {
     kind = StartWithoutSentence;
-    spans = rule_span r ∷ [];
+    spans = map rule_span (r ∷ others);
     text = codes "No sentence can be derived from the start rule " ++ quoted (rule_name r);
   }
 
-  -- that the rule has no sentence
-  abbrev pub no_sentence : ℕ → ShownFinding
-  no_sentence r = record {
+  -- that the rule has no sentence, nor have these others
+  abbrev pub no_sentence : ℕ → List ℕ → ShownFinding
+  no_sentence r others = record {
     kind = NoSentence;
-    spans = rule_span r ∷ [];
+    spans = map rule_span (r ∷ others);
     text = codes "Rule " ++ (quoted (rule_name r) ++ codes " has no sentence");
+  }
+
+  -- that the rule can't be used, since others have no sentence
+  abbrev pub unusable_rule : ℕ → ShownFinding
+  unusable_rule r = record {
+    kind = UnusableRule;
+    spans = rule_span r ∷ [];
+    text = codes "Unusable rule " ++ (quoted (rule_name r) ++ codes ": each of its productions has a rule without a sentence");
   }
 
   -- that the production can't be used, since this rule in it has no sentence

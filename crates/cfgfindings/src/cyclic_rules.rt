@@ -157,7 +157,7 @@ fn cyclic_group(
 }
 
 /// The spans of the rules' names.
-fn name_spans(
+pub(crate) fn name_spans(
     alloc: Global,
     grammar: &YaccGrammar<u32>,
     rules: &[usize],

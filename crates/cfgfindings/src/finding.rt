@@ -116,9 +116,11 @@ impl Spanned for Finding {
 
     fn spanskind(&self) -> SpansKind {
         match self.kind {
-            FindingKind::ShadowedRule | FindingKind::IsCyclic | FindingKind::RepeatedProduction => {
-                SpansKind::DuplicationError
-            }
+            FindingKind::ShadowedRule
+            | FindingKind::StartWithoutSentence
+            | FindingKind::NoSentence
+            | FindingKind::IsCyclic
+            | FindingKind::RepeatedProduction => SpansKind::DuplicationError,
             _ => SpansKind::Error,
         }
     }

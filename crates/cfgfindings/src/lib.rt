@@ -10,7 +10,9 @@ mod names;
 mod precedences;
 mod repeats;
 mod reporter;
+mod roots;
 mod sentences;
+mod unproductive_rules;
 mod unused;
 mod useless;
 

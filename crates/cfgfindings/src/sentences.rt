@@ -1,4 +1,4 @@
-//! Unproductive rules, and productions that no sentence uses.
+//! Which rules are unproductive, and productions that no sentence uses.
 
 ghost use Rattle.std.specs.Prelude.{◌≡◌, ◌↔◌, ◌++◌, ◌<◌, ℕ, false, true, IsTrue, List, All, Contains, length, map};
 ghost use Rattle.std.specs.Prelude.{IfOk, IfSome, MatchOption, OnOk};
@@ -6,53 +6,33 @@ ghost use Rattle.cfgrammar.specs.Grammar.{Rule};
 ghost use Rattle.cfgrammar.specs.Numbered.{core};
 ghost use Rattle.cfgrammar.specs.Accessors.{IsSymbolWithin};
 ghost use Rattle.cfgrammar.specs.NumberedSymbols.{sym_of};
-ghost use Rattle.cfgrammar.specs.TreeView.{syntax};
-ghost use Rattle.cfgfindings.specs.Findings.{IsFirstWithout, ReportsBelow, ReportsNoSentence, ReportsUnusable};
+ghost use Rattle.cfgfindings.specs.Findings.{IsFirstWithout, ReportsBelow, ReportsUnusable};
 ghost use Rattle.cfgfindings.specs.Inner.Reached.{IsFollowedAt};
 ghost use Rattle.cfgfindings.specs.Inner.Unproductive.{AreUnproductive, UnproductiveOrNot};
 ghost use Rattle.cfgfindings.specs.Shown.{ShownFinding};
 
-use crate::added::rules_added;
 use crate::finding::{Finding, FindingKind};
-use crate::names::is_start;
 use crate::reporter::{Reporter, push_reported};
 use cfgrammar::laws::usable_productions_hold_sentences;
 use cfgrammar::storage::to_storage;
 use cfgrammar::yacc::YaccGrammar;
-use cfgrammar::yacc::ast::GrammarAST;
 use cfgrammar::yacc::sentences::{CostError, SentenceGenerator};
 use cfgrammar::{PIdx, RIdx, Symbol};
 use std::alloc::{AllocError, Global};
 use std::marker::Model;
 
-/// Adds the unproductive rules of the file to the findings, and then its productions that can't be used.
-pub(crate) fn push_sentences(
+/// Adds the productions of the file that can't be used to the findings.
+pub(crate) fn push_unusable(
     alloc: Global,
     all: &mut Vec<Finding>,
-    ast: &GrammarAST,
     unproductive: &Unproductive<'_>,
 ) -> Result<(), AllocError>
-    ensures { OnOk result ((without unusable : List ShownFinding)
-        × ReportsBelow (ReportsNoSentence (syntax ast.now) unproductive.now) (length unproductive.now.rules) without
+    ensures { OnOk result ((unusable : List ShownFinding)
         × ReportsBelow (ReportsUnusable unproductive.now) unproductive.now.start_production unusable
-        × (all.new.items ≡ all.old.items ++ (without ++ unusable))) }
+        × (all.new.items ≡ all.old.items ++ unusable)) }
 {
-    let grammar = unproductive.grammar();
-    push_reported(
-        alloc,
-        all,
-        &Rules {
-            ast,
-            misses: unproductive,
-        },
-        usize::from(grammar.rules_len()),
-    )?;
-    push_reported(
-        alloc,
-        all,
-        &Productions(unproductive),
-        usize::from(grammar.start_prod()),
-    )
+    let count = usize::from(unproductive.grammar().start_prod());
+    push_reported(alloc, all, &Productions(unproductive), count)
 }
 
 /// A grammar, and for each of its rules whether it is unproductive.
@@ -134,35 +114,6 @@ impl<'a> Unproductive<'a> {
         None
     }
 
-    /// The finding that a rule is unproductive, if it is one of the file, whose tree is `ast`.
-    fn report_rule(
-        &self,
-        alloc: Global,
-        ast: &GrammarAST,
-        number: usize,
-    ) -> Result<Option<Finding>, AllocError>
-        requires { number < length self.now.rules }
-        ensures { IfOk result (ReportsNoSentence (syntax ast.now) self.now number) }
-    {
-        let grammar = self.grammar;
-        grammar.invariant_holds();
-        let rule = RIdx(to_storage(number));
-        if number < rules_added(grammar) || !self.misses(rule) {
-            return Ok(None);
-        }
-        let name = grammar.rule_name_str(rule);
-        let span = grammar.rule_name_span(rule);
-        if is_start(ast, name) {
-            let text = format!(in alloc;
-                "No sentence can be derived from the start rule '{name}'"
-            )?;
-            let kind = FindingKind::StartWithoutSentence;
-            return Ok(Some(Finding::at(alloc, kind, span, text)?));
-        }
-        let text = format!(in alloc; "Rule '{name}' has no sentence")?;
-        Ok(Some(Finding::at(alloc, FindingKind::NoSentence, span, text)?))
-    }
-
     /// The finding that a production of the file can't be used, if its rule is productive.
     fn report_production(&self, alloc: Global, number: usize) -> Result<Option<Finding>, AllocError>
         requires { number < self.now.start_production }
@@ -223,27 +174,6 @@ fn has_none(
         Ok(_) => false,
         Err(CostError::CostTooLarge) => false,
         Err(CostError::NoSentence) => true,
-    }
-}
-
-/// Reports the unproductive rules of a grammar.
-#[derive(Drop)]
-struct Rules<'a, 'g> {
-    ast: &'a GrammarAST,
-    misses: &'g Unproductive<'g>,
-}
-
-impl<'a, 'g> Reporter for Rules<'a, 'g> {
-    ghost use Rattle.std.specs.Prelude.{length};
-    ghost use Rattle.cfgrammar.specs.TreeView.{syntax};
-    ghost use Rattle.cfgfindings.specs.Findings.{ReportsNoSentence};
-
-    ghost count = { λ x. length x.misses.now.rules };
-
-    ghost reports = { λ x. ReportsNoSentence (syntax x.ast.now) x.misses.now };
-
-    fn report(&self, alloc: Global, number: usize) -> Result<Option<Finding>, AllocError> {
-        self.misses.report_rule(alloc, self.ast, number)
     }
 }
 

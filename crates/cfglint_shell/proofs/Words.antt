@@ -4,7 +4,7 @@ use Rattle.std.specs.Prelude.{◌↔◌}
 use Rattle.std.specs.Str.{bytes_eq}
 use Rattle.std.proofs.lemmas.Slice.Eq.{bytes_eq-Decides}
 use Rattle.cfglint_shell.specs.declared.finding_kind.FindingKind.{FindingKind}
-use Rattle.cfglint_shell.specs.declared.finding_kind.FindingKind.TheVariants.{UnusedRule, UnusedToken, ShadowedRule, StartWithoutSentence, NoSentence, UnusableProduction, UselessSymbol, IsCyclic, RepeatedProduction, UnusedPrecedence}
+use Rattle.cfglint_shell.specs.declared.finding_kind.FindingKind.TheVariants.{UnusedRule, UnusedToken, ShadowedRule, StartWithoutSentence, NoSentence, UnusableRule, UnusableProduction, UselessSymbol, IsCyclic, RepeatedProduction, UnusedPrecedence}
 use Rattle.cfglint_shell.specs.declared.levels.Level.{Level}
 use Rattle.cfglint_shell.specs.declared.levels.Levels.{Levels}
 use Rattle.cfglint_shell.specs.FindingKinds.{finding_named, level_of, with_level, word_of}
@@ -15,6 +15,7 @@ word_names UnusedToken = refl
 word_names ShadowedRule = refl
 word_names StartWithoutSentence = refl
 word_names NoSentence = refl
+word_names UnusableRule = refl
 word_names UnusableProduction = refl
 word_names UselessSymbol = refl
 word_names IsCyclic = refl
@@ -33,8 +34,8 @@ module _ (word : List ℕ) (kind : FindingKind) where
 
   pub named_by_word : finding_named word ≡ Some kind → word ≡ word_of kind
   named_by_word = by_test UnusedRule _ (by_test UnusedToken _ (by_test ShadowedRule _ (by_test StartWithoutSentence _ (by_test NoSentence _
-      (by_test UnusableProduction _ (by_test UselessSymbol _ (by_test IsCyclic _ (by_test RepeatedProduction _
-      (by_test UnusedPrecedence None (λ is. let no : None ≡ Some kind = is in cc))))))))))
+      (by_test UnusableRule _ (by_test UnusableProduction _ (by_test UselessSymbol _ (by_test IsCyclic _ (by_test RepeatedProduction _
+      (by_test UnusedPrecedence None (λ is. let no : None ≡ Some kind = is in cc)))))))))))
 
 pub words_name_kinds : (word : List ℕ) (kind : FindingKind) → (finding_named word ≡ Some kind) ↔ (word ≡ word_of kind)
 words_name_kinds word kind = (named_by_word word kind, λ is. ap finding_named is ∙ word_names kind)
@@ -45,6 +46,7 @@ given_level levels UnusedToken level = refl
 given_level levels ShadowedRule level = refl
 given_level levels StartWithoutSentence level = refl
 given_level levels NoSentence level = refl
+given_level levels UnusableRule level = refl
 given_level levels UnusableProduction level = refl
 given_level levels UselessSymbol level = refl
 given_level levels IsCyclic level = refl
@@ -58,6 +60,7 @@ other_level levels UnusedToken UnusedToken level differ = absurd (differ refl)
 other_level levels ShadowedRule ShadowedRule level differ = absurd (differ refl)
 other_level levels StartWithoutSentence StartWithoutSentence level differ = absurd (differ refl)
 other_level levels NoSentence NoSentence level differ = absurd (differ refl)
+other_level levels UnusableRule UnusableRule level differ = absurd (differ refl)
 other_level levels UnusableProduction UnusableProduction level differ = absurd (differ refl)
 other_level levels UselessSymbol UselessSymbol level differ = absurd (differ refl)
 other_level levels IsCyclic IsCyclic level differ = absurd (differ refl)

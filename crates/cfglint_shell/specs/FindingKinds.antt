@@ -2,9 +2,9 @@
 use Rattle.std.specs.Prelude.{ℕ, List, Option, Some, None, if◌then◌else◌, codes}
 use Rattle.std.specs.Str.{bytes_eq}
 use Rattle.cfglint_shell.specs.declared.finding_kind.FindingKind.{FindingKind}
-use Rattle.cfglint_shell.specs.declared.finding_kind.FindingKind.TheVariants.{UnusedRule, UnusedToken, ShadowedRule, StartWithoutSentence, NoSentence, UnusableProduction, UselessSymbol, IsCyclic, RepeatedProduction, UnusedPrecedence}
+use Rattle.cfglint_shell.specs.declared.finding_kind.FindingKind.TheVariants.{UnusedRule, UnusedToken, ShadowedRule, StartWithoutSentence, NoSentence, UnusableRule, UnusableProduction, UselessSymbol, IsCyclic, RepeatedProduction, UnusedPrecedence}
 use Rattle.cfglint_shell.specs.declared.levels.Level.{Level}
-use Rattle.cfglint_shell.specs.declared.levels.Level.TheVariants.{Warn, Deny}
+use Rattle.cfglint_shell.specs.declared.levels.Level.TheVariants.{Allow, Warn, Deny}
 use Rattle.cfglint_shell.specs.declared.levels.Levels.{Levels}
 
 -- the word that names a kind
@@ -14,6 +14,7 @@ word_of UnusedToken = codes "unused-token"
 word_of ShadowedRule = codes "shadowed-rule"
 word_of StartWithoutSentence = codes "start-without-sentence"
 word_of NoSentence = codes "no-sentence"
+word_of UnusableRule = codes "unusable-rule"
 word_of UnusableProduction = codes "unusable-production"
 word_of UselessSymbol = codes "useless-symbol"
 word_of IsCyclic = codes "cyclic-rule"
@@ -28,6 +29,7 @@ finding_named word =
     else if bytes_eq word (codes "shadowed-rule") then Some ShadowedRule
     else if bytes_eq word (codes "start-without-sentence") then Some StartWithoutSentence
     else if bytes_eq word (codes "no-sentence") then Some NoSentence
+    else if bytes_eq word (codes "unusable-rule") then Some UnusableRule
     else if bytes_eq word (codes "unusable-production") then Some UnusableProduction
     else if bytes_eq word (codes "useless-symbol") then Some UselessSymbol
     else if bytes_eq word (codes "cyclic-rule") then Some IsCyclic
@@ -35,7 +37,8 @@ finding_named word =
     else if bytes_eq word (codes "unused-precedence") then Some UnusedPrecedence
     else None
 
--- a start rule without a sentence is an error, and every other finding is a warning
+-- A start rule without a sentence is an error, and every other finding is a warning, except for those that only follow from a rule without a
+-- sentence: they aren't reported.
 abbrev pub default_levels : Levels
 default_levels = record {
   unused_rule = Warn;
@@ -43,8 +46,9 @@ default_levels = record {
   shadowed_rule = Warn;
   start_without_sentence = Deny;
   no_sentence = Warn;
-  unusable_production = Warn;
-  useless_symbol = Warn;
+  unusable_rule = Allow;
+  unusable_production = Allow;
+  useless_symbol = Allow;
   cyclic_rule = Warn;
   repeated_production = Warn;
   unused_precedence = Warn;
@@ -57,6 +61,7 @@ level_of levels UnusedToken = levels.unused_token
 level_of levels ShadowedRule = levels.shadowed_rule
 level_of levels StartWithoutSentence = levels.start_without_sentence
 level_of levels NoSentence = levels.no_sentence
+level_of levels UnusableRule = levels.unusable_rule
 level_of levels UnusableProduction = levels.unusable_production
 level_of levels UselessSymbol = levels.useless_symbol
 level_of levels IsCyclic = levels.cyclic_rule
@@ -70,6 +75,7 @@ with_level levels UnusedToken level = record levels { unused_token = level }
 with_level levels ShadowedRule level = record levels { shadowed_rule = level }
 with_level levels StartWithoutSentence level = record levels { start_without_sentence = level }
 with_level levels NoSentence level = record levels { no_sentence = level }
+with_level levels UnusableRule level = record levels { unusable_rule = level }
 with_level levels UnusableProduction level = record levels { unusable_production = level }
 with_level levels UselessSymbol level = record levels { useless_symbol = level }
 with_level levels IsCyclic level = record levels { cyclic_rule = level }

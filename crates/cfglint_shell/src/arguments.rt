@@ -198,6 +198,7 @@ impl<'a> Options<'a> {
             ValueOption::Kind => self.take_kind(value),
             ValueOption::Format => self.take_format(value),
             ValueOption::Allow => self.take_level(value, Level::Allow),
+            ValueOption::Warn => self.take_level(value, Level::Warn),
             ValueOption::Deny => self.take_level(value, Level::Deny),
             ValueOption::StdinName => {
                 self.stdin_name = value;

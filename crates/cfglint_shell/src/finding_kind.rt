@@ -14,8 +14,11 @@ pub enum FindingKind {
     ShadowedRule,
     /// The start rule derives no list of tokens.
     StartWithoutSentence,
-    /// The rule, which isn't the start rule, derives no list of tokens.
+    /// The rule derives no list of tokens, and no other rule is the reason: each unproductive rule that it leads to
+    /// leads back to it. None of them is the start rule.
     NoSentence,
+    /// The rule, which isn't the start rule, derives no list of tokens since others don't.
+    UnusableRule,
     /// No sentence of the production's rule uses it, since it contains an unproductive rule.
     UnusableProduction,
     /// No sentence of the start rule uses the symbol, although productions connect it to the start rule.
@@ -40,6 +43,7 @@ impl FindingKind {
             FindingKind::ShadowedRule => "shadowed-rule",
             FindingKind::StartWithoutSentence => "start-without-sentence",
             FindingKind::NoSentence => "no-sentence",
+            FindingKind::UnusableRule => "unusable-rule",
             FindingKind::UnusableProduction => "unusable-production",
             FindingKind::UselessSymbol => "useless-symbol",
             FindingKind::IsCyclic => "cyclic-rule",
@@ -58,6 +62,7 @@ impl FindingKind {
             "shadowed-rule" => FindingKind::ShadowedRule,
             "start-without-sentence" => FindingKind::StartWithoutSentence,
             "no-sentence" => FindingKind::NoSentence,
+            "unusable-rule" => FindingKind::UnusableRule,
             "unusable-production" => FindingKind::UnusableProduction,
             "useless-symbol" => FindingKind::UselessSymbol,
             "cyclic-rule" => FindingKind::IsCyclic,

@@ -24,6 +24,7 @@ pub struct Levels {
     shadowed_rule: Level,
     start_without_sentence: Level,
     no_sentence: Level,
+    unusable_rule: Level,
     unusable_production: Level,
     useless_symbol: Level,
     cyclic_rule: Level,
@@ -32,7 +33,8 @@ pub struct Levels {
 }
 
 impl Levels {
-    /// A start rule without a sentence is an error, and every other finding is a warning.
+    /// A start rule without a sentence is an error, and every other finding is a warning, except for those that only
+    /// follow from a rule without a sentence: they aren't reported.
     pub fn new() -> Self
         ensures { result ≡ default_levels }
     {
@@ -42,8 +44,9 @@ impl Levels {
             shadowed_rule: Level::Warn,
             start_without_sentence: Level::Deny,
             no_sentence: Level::Warn,
-            unusable_production: Level::Warn,
-            useless_symbol: Level::Warn,
+            unusable_rule: Level::Allow,
+            unusable_production: Level::Allow,
+            useless_symbol: Level::Allow,
             cyclic_rule: Level::Warn,
             repeated_production: Level::Warn,
             unused_precedence: Level::Warn,
@@ -60,6 +63,7 @@ impl Levels {
             FindingKind::ShadowedRule => self.shadowed_rule,
             FindingKind::StartWithoutSentence => self.start_without_sentence,
             FindingKind::NoSentence => self.no_sentence,
+            FindingKind::UnusableRule => self.unusable_rule,
             FindingKind::UnusableProduction => self.unusable_production,
             FindingKind::UselessSymbol => self.useless_symbol,
             FindingKind::IsCyclic => self.cyclic_rule,
@@ -78,6 +82,7 @@ impl Levels {
             FindingKind::ShadowedRule => self.shadowed_rule = level,
             FindingKind::StartWithoutSentence => self.start_without_sentence = level,
             FindingKind::NoSentence => self.no_sentence = level,
+            FindingKind::UnusableRule => self.unusable_rule = level,
             FindingKind::UnusableProduction => self.unusable_production = level,
             FindingKind::UselessSymbol => self.useless_symbol = level,
             FindingKind::IsCyclic => self.cyclic_rule = level,

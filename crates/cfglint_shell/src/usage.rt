@@ -27,6 +27,7 @@ usage: cfglint [OPTION..] [--] FILE..
                      names none is read as original-noaction.
   --format FORMAT    text, the default, or json: a line with a JSON object for each error and warning, and no summary.
   --allow FINDING    Findings of this kind aren't reported.
+  --warn FINDING     Findings of this kind are warnings.
   --deny FINDING     Findings of this kind are errors.
   --deny-warnings    Warnings end with status 1 too.
   --quiet            Writes no summary.
@@ -36,9 +37,11 @@ usage: cfglint [OPTION..] [--] FILE..
   --                 What follows are files.
   FILE               A path, or - for standard input.
 
-FINDING is unused-rule, unused-token, shadowed-rule, start-without-sentence, no-sentence, unusable-production,
-useless-symbol, cyclic-rule, repeated-production or unused-precedence. Without these options start-without-sentence
-is an error, and the others are warnings; of several --allow and --deny with the same one the last counts.
+FINDING is unused-rule, unused-token, shadowed-rule, start-without-sentence, no-sentence, unusable-rule,
+unusable-production, useless-symbol, cyclic-rule, repeated-production or unused-precedence. Without these options
+start-without-sentence is an error; unusable-rule, unusable-production and useless-symbol, which only follow from a
+rule without a sentence, aren't reported; and the others are warnings. Of several --allow, --warn and --deny with the
+same one the last counts.
 --kind=KIND is --kind KIND, and so on.
 
 status: 0 without errors or denied warnings; 1 with either; 2 if the arguments are wrong, a file can't be read or
@@ -51,6 +54,7 @@ pub(crate) enum ValueOption {
     Kind,
     Format,
     Allow,
+    Warn,
     Deny,
     StdinName,
 }
@@ -64,6 +68,7 @@ impl ValueOption {
             "--kind" => ValueOption::Kind,
             "--format" => ValueOption::Format,
             "--allow" => ValueOption::Allow,
+            "--warn" => ValueOption::Warn,
             "--deny" => ValueOption::Deny,
             "--stdin-name" => ValueOption::StdinName,
             _ => return None,
@@ -79,6 +84,7 @@ impl ValueOption {
             ValueOption::Kind => "--kind",
             ValueOption::Format => "--format",
             ValueOption::Allow => "--allow",
+            ValueOption::Warn => "--warn",
             ValueOption::Deny => "--deny",
             ValueOption::StdinName => "--stdin-name",
         }
@@ -94,7 +100,7 @@ pub(crate) enum UsageError<'a> {
     UnknownKind(&'a str),
     /// This value of `--format` names no format.
     UnknownFormat(&'a str),
-    /// This value of `--allow` or `--deny` names no kind of finding.
+    /// This value of `--allow`, `--warn` or `--deny` names no kind of finding.
     UnknownFinding(&'a str),
     /// No value follows the option.
     MissingValue(ValueOption),
@@ -137,7 +143,7 @@ impl UsageError<'_> {
 const KINDS: &str =
     "original-noaction, original-useraction, original-genericparsetree, grmtools, eco, section";
 
-/// The values of `--allow` and `--deny`.
+/// The values of `--allow`, `--warn` and `--deny`.
 const FINDINGS: &str =
-    "unused-rule, unused-token, shadowed-rule, start-without-sentence, no-sentence, \
+    "unused-rule, unused-token, shadowed-rule, start-without-sentence, no-sentence, unusable-rule, \
     unusable-production, useless-symbol, cyclic-rule, repeated-production, unused-precedence";

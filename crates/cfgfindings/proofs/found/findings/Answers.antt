@@ -2,23 +2,24 @@ use Rattle.std.proofs.Common.{◌≡◌, ◌++◌, List, [], nat_cmp, length, re
 use Rattle.std.specs.List.Sorted.{IsPermutation, IsStableByKey}
 use Rattle.std.proofs.lemmas.Fn.{always_returns_same}
 use Rattle.cfgrammar.specs.Numbered.{Numbered}
-use Rattle.cfgfindings.specs.Findings.{ReportsBelow, ReportsNoSentence, ReportsUnusable, ReportsUselessRule, ReportsUselessToken}
+use Rattle.cfgfindings.specs.Findings.{ReportsBelow, ReportsNoSentence, ReportsUnusable, ReportsUnusableRule, ReportsUselessRule, ReportsUselessToken}
 use Rattle.cfgfindings.specs.Shown.{ShownFinding, offset_of}
 use Rattle.cfgrammar.specs.TreeView.{syntax}
 use Rattle.cfgfindings.proofs.found.findings.Goals as goal
 
-joined : (a0 a1 a2 a3 a4 a5 a6 n t h w u x y l r p : List ShownFinding) → a0 ≡ [] → a1 ≡ a0 ++ (n ++ (t ++ h)) → a2 ≡ a1 ++ (w ++ u)
-    → a3 ≡ a2 ++ (x ++ y) → a4 ≡ a3 ++ l → a5 ≡ a4 ++ r → a6 ≡ a5 ++ p
-    → a6 ≡ n ++ (t ++ (h ++ (w ++ (u ++ (x ++ (y ++ (l ++ (r ++ p))))))))
-joined a0 a1 a2 a3 a4 a5 a6 n t h w u x y l r p e0 e1 e2 e3 e4 e5 e6 =
-    let all : a6 ≡ (((((n ++ (t ++ h)) ++ (w ++ u)) ++ (x ++ y)) ++ l) ++ r) ++ p =
-    e6 ∙ ap (λ z. z ++ p) (e5 ∙ ap (λ z. z ++ r) (e4 ∙ ap (λ z. z ++ l) (e3 ∙ ap (λ z. z ++ (x ++ y)) (e2 ∙ ap (λ z. z ++ (w ++ u)) (e1 ∙ ap (λ z. z ++ (n ++ (t ++ h))) e0))))) in
+joined : (a0 a1 a2 a3 a4 a5 a6 a7 n t h w v u x y l r p : List ShownFinding) → a0 ≡ [] → a1 ≡ a0 ++ (n ++ (t ++ h)) → a2 ≡ a1 ++ (w ++ v) → a3 ≡ a2 ++ u
+    → a4 ≡ a3 ++ (x ++ y) → a5 ≡ a4 ++ l → a6 ≡ a5 ++ r → a7 ≡ a6 ++ p
+    → a7 ≡ n ++ (t ++ (h ++ (w ++ (v ++ (u ++ (x ++ (y ++ (l ++ (r ++ p)))))))))
+joined a0 a1 a2 a3 a4 a5 a6 a7 n t h w v u x y l r p e0 e1 e2 e3 e4 e5 e6 e7 =
+    let all : a7 ≡ ((((((n ++ (t ++ h)) ++ (w ++ v)) ++ u) ++ (x ++ y)) ++ l) ++ r) ++ p =
+    e7 ∙ ap (λ z. z ++ p) (e6 ∙ ap (λ z. z ++ r) (e5 ∙ ap (λ z. z ++ l) (e4 ∙ ap (λ z. z ++ (x ++ y)) (e3 ∙ ap (λ z. z ++ u) (e2 ∙ ap (λ z. z ++ (w ++ v)) (e1 ∙ ap (λ z. z ++ (n ++ (t ++ h))) e0)))))) in
     all ∙ simp append_assoc
 
 pub returns : goal.returns
 returns c =
     let (rules, tokens, shadowed, are_rules, are_tokens, are_shadowed, unused_is) = c.in_ok-push_unused.ensures in
-    let (without, unusable_productions, are_without, are_unusable_productions, sentences_is) = c.in_ok-push_sentences.ensures in
+    let (without, unusable_rules, are_without, are_unusable_rules, unproductive_is) = c.in_ok-push_unproductive.ensures in
+    let (unusable_productions, are_unusable_productions, unusable_is) = c.in_ok-push_unusable.ensures in
     let (useless_rules, useless_tokens, are_useless_rules, are_useless_tokens, useless_is) = c.in_ok-push_useless.ensures in
     let (cycles, are_cycles, cycles_is) = c.in_ok-push_cycles.ensures in
     let (repeats, are_repeats, repeats_is) = c.in_ok-push_repeats.ensures in
@@ -27,11 +28,11 @@ returns c =
     let before = c.push_precedences.new.all.items in
     let after = c.sort_by_key.new.self.items in
     let reported : List ShownFinding = rules ++ (tokens ++ (shadowed
-    ++ (without ++ (unusable_productions ++ (useless_rules ++ (useless_tokens ++ (cycles ++ (repeats ++ precedences)))))))) in
-    let is : before ≡ reported = joined c.new-all.result.items c.push_unused.new.all.items c.push_sentences.new.all.items
+    ++ (without ++ (unusable_rules ++ (unusable_productions ++ (useless_rules ++ (useless_tokens ++ (cycles ++ (repeats ++ precedences))))))))) in
+    let is : before ≡ reported = joined c.new-all.result.items c.push_unused.new.all.items c.push_unproductive.new.all.items c.push_unusable.new.all.items
     c.push_useless.new.all.items c.push_cycles.new.all.items c.push_repeats.new.all.items before
-    rules tokens shadowed without unusable_productions useless_rules useless_tokens cycles repeats precedences
-    c.new-all.ensures.items unused_is sentences_is useless_is cycles_is repeats_is precedences_is in
+    rules tokens shadowed without unusable_rules unusable_productions useless_rules useless_tokens cycles repeats precedences
+    c.new-all.ensures.items unused_is unproductive_is unusable_is useless_is cycles_is repeats_is precedences_is in
     let sorted = c.in_ok-sort_by_key.ensures.sorted offset_of (always_returns_same _ _ _ (λ a r f called. search rules)) in
     let stable = c.in_ok-sort_by_key.ensures.stable offset_of (always_returns_same _ _ _ (λ a r f called. search rules)) in
     record {
@@ -41,6 +42,7 @@ returns c =
         unused_tokens = tokens;
         shadowed = shadowed;
         without = without;
+        unusable_rules = unusable_rules;
         unusable_productions = unusable_productions;
         useless_rules = useless_rules;
         useless_tokens = useless_tokens;
@@ -51,6 +53,7 @@ returns c =
         are_unused_tokens = are_tokens;
         are_shadowed = are_shadowed;
         are_without = subst (λ (g : Numbered). ReportsBelow (ReportsNoSentence (syntax c.args.ast.now) g) (length g.rules) without) seen are_without;
+        are_unusable_rules = subst (λ (g : Numbered). ReportsBelow (ReportsUnusableRule (syntax c.args.ast.now) g) (length g.rules) unusable_rules) seen are_unusable_rules;
         are_unusable_productions = subst (λ (g : Numbered). ReportsBelow (ReportsUnusable g) g.start_production unusable_productions) seen are_unusable_productions;
         are_useless_rules = subst (λ (g : Numbered). ReportsBelow (ReportsUselessRule g) (length g.rules) useless_rules) seen are_useless_rules;
         are_useless_tokens = subst (λ (g : Numbered). ReportsBelow (ReportsUselessToken g) (length g.tokens) useless_tokens) seen are_useless_tokens;

@@ -1,0 +1,223 @@
+//! Rules without a sentence.
+
+ghost use Rattle.std.specs.Prelude.{◌≡◌, ◌++◌, ◌&&◌, ◌==◌, ◌<◌, ◌≤◌, ◌∷◌, ℕ, IfOk, List, Some, length, map, not};
+ghost use Rattle.std.specs.Prelude.{MatchBool, MatchOption, OnOk, nat_le, string_bytes};
+ghost use Rattle.std.specs.List.{filter};
+ghost use Rattle.cfgrammar.specs.Accessors.{rule_part};
+ghost use Rattle.cfgrammar.specs.TreeView.{syntax};
+ghost use Rattle.cfgfindings.specs.Findings.{AreOthers, IsFirstRoot, IsStartRule, IsUnproductiveRule};
+ghost use Rattle.cfgfindings.specs.Findings.{ReportsBelow, ReportsNoSentence, ReportsUnusableRule, rules_added as added};
+ghost use Rattle.cfgfindings.specs.Inner.Roots.{AreGroupOf};
+ghost use Rattle.cfgfindings.specs.Shown.{ShownFinding, rule_span};
+
+use crate::added::rules_added;
+use crate::cyclic_rules::name_spans;
+use crate::finding::{Finding, FindingKind};
+use crate::names::is_start;
+use crate::reporter::{Reporter, push_reported};
+use crate::roots::Roots;
+use crate::sentences::Unproductive;
+use cfgrammar::RIdx;
+use cfgrammar::storage::to_storage;
+use cfgrammar::yacc::YaccGrammar;
+use cfgrammar::yacc::ast::GrammarAST;
+use std::alloc::{AllocError, Global};
+
+/// Adds the unproductive start rule and the groups of roots to the findings, and then the other unproductive rules of
+/// the file.
+pub(crate) fn push_unproductive(
+    alloc: Global,
+    all: &mut Vec<Finding>,
+    ast: &GrammarAST,
+    unproductive: &Unproductive<'_>,
+) -> Result<(), AllocError>
+    ensures { OnOk result ((without unusable : List ShownFinding)
+        × ReportsBelow (ReportsNoSentence (syntax ast.now) unproductive.now) (length unproductive.now.rules) without
+        × ReportsBelow (ReportsUnusableRule (syntax ast.now) unproductive.now) (length unproductive.now.rules) unusable
+        × (all.new.items ≡ all.old.items ++ (without ++ unusable))) }
+{
+    let count = usize::from(unproductive.grammar().rules_len());
+    let roots = &Roots::new(alloc, unproductive)?;
+    push_reported(alloc, all, &RulesWithout { ast, roots }, count)?;
+    push_reported(alloc, all, &UnusableRules { ast, roots }, count)
+}
+
+/// The finding for the group of roots of which the rule is the first, or for the rule if it is the start rule.
+fn no_sentence(
+    alloc: Global,
+    ast: &GrammarAST,
+    roots: &Roots<'_>,
+    number: usize,
+) -> Result<Option<Finding>, AllocError>
+    requires { number < length roots.now.rules }
+    ensures { IfOk result (ReportsNoSentence (syntax ast.now) roots.now number) }
+{
+    let grammar = roots.grammar();
+    let Some(name) = unproductive_name(roots.unproductive(), number) else {
+        return Ok(None);
+    };
+    let group = roots.group(number);
+    if is_start(ast, name) {
+        let text = format!(in alloc; "No sentence can be derived from the start rule '{name}'")?;
+        let kind = FindingKind::StartWithoutSentence;
+        return Ok(Some(with_others(alloc, grammar, kind, number, group, text)?));
+    }
+    if !is_first_root(grammar, ast, number, group) {
+        return Ok(None);
+    }
+    let text = format!(in alloc; "Rule '{name}' has no sentence")?;
+    let kind = FindingKind::NoSentence;
+    Ok(Some(with_others(alloc, grammar, kind, number, group, text)?))
+}
+
+/// The finding that the rule is unproductive, but no root.
+fn unusable_rule(
+    alloc: Global,
+    ast: &GrammarAST,
+    roots: &Roots<'_>,
+    number: usize,
+) -> Result<Option<Finding>, AllocError>
+    requires { number < length roots.now.rules }
+    ensures { IfOk result (ReportsUnusableRule (syntax ast.now) roots.now number) }
+{
+    let grammar = roots.grammar();
+    grammar.invariant_holds();
+    let Some(name) = unproductive_name(roots.unproductive(), number) else {
+        return Ok(None);
+    };
+    if is_start(ast, name) || !roots.group(number).is_empty() {
+        return Ok(None);
+    }
+    let text = format!(in alloc;
+        "Unusable rule '{name}': each of its productions has a rule without a sentence"
+    )?;
+    let span = grammar.rule_name_span(RIdx(to_storage(number)));
+    Ok(Some(Finding::at(alloc, FindingKind::UnusableRule, span, text)?))
+}
+
+/// The name of the rule, if it is an unproductive rule of the file.
+fn unproductive_name<'a>(unproductive: &'a Unproductive<'_>, number: usize) -> Option<&'a str>
+    requires { number < length unproductive.now.rules }
+    ensures { MatchOption result (IsUnproductiveRule unproductive.now number → ⊥)
+        (λ name. IsUnproductiveRule unproductive.now number
+        × (rule_part (λ rule. rule.name) unproductive.now number ≡ Some name.now)) }
+{
+    let grammar = unproductive.grammar();
+    grammar.invariant_holds();
+    let rule = RIdx(to_storage(number));
+    if number < rules_added(grammar) || !unproductive.misses(rule) {
+        return None;
+    }
+    Some(grammar.rule_name_str(rule))
+}
+
+/// Whether the rule, which has this group, is a root, and the first rule of the file in the group, which doesn't have
+/// the start rule.
+fn is_first_root(grammar: &YaccGrammar<u32>, ast: &GrammarAST, rule: usize, group: &[usize]) -> bool
+    requires ours { added grammar.now ≤ rule }
+    requires group { AreGroupOf grammar.now rule group.now }
+    ensures { MatchBool result (IsFirstRoot (syntax ast.now) grammar.now rule)
+        (IsFirstRoot (syntax ast.now) grammar.now rule → ⊥) }
+{
+    let first = rules_added(grammar);
+    grammar.invariant_holds();
+    for other in group {
+        if first <= *other && (*other < rule || is_start_rule(grammar, ast, *other)) {
+            return false;
+        }
+    }
+    !group.is_empty()
+}
+
+/// Whether the rule has the name of the file's start rule.
+fn is_start_rule(grammar: &YaccGrammar<u32>, ast: &GrammarAST, rule: usize) -> bool
+    requires { rule < length grammar.now.rules }
+    ensures { MatchBool result (IsStartRule (syntax ast.now) grammar.now rule)
+        (IsStartRule (syntax ast.now) grammar.now rule → ⊥) }
+{
+    grammar.invariant_holds();
+    is_start(ast, grammar.rule_name_str(RIdx(to_storage(rule))))
+}
+
+/// A finding at the rule, and at the other rules of the file in its group.
+fn with_others(
+    alloc: Global,
+    grammar: &YaccGrammar<u32>,
+    kind: FindingKind,
+    rule: usize,
+    group: &[usize],
+    text: String,
+) -> Result<Finding, AllocError>
+    requires rule { rule < length grammar.now.rules }
+    requires group { AreGroupOf grammar.now rule group.now }
+    ensures { IfOk result (λ finding. (others : List ℕ) × AreOthers grammar.now rule others
+        × (finding ≡ record {
+          kind = kind;
+          spans = map (rule_span grammar.now) (rule ∷ others);
+          text = string_bytes text;
+        })) }
+{
+    let others = others_of(alloc, rules_added(grammar), rule, group)?;
+    let mut spans = name_spans(alloc, grammar, &[rule])?;
+    spans.extend_from_slice(&name_spans(alloc, grammar, &others)?)?;
+    Ok(Finding::new(kind, spans, text))
+}
+
+/// Those of the rules that come from the first one on, except for this rule.
+fn others_of(
+    alloc: Global,
+    first: usize,
+    rule: usize,
+    group: &[usize],
+) -> Result<Vec<usize>, AllocError>
+    ensures { IfOk result (λ others. others.items
+        ≡ filter (λ other. nat_le first other && not (other == rule)) group.now) }
+{
+    group
+        .iter()
+        .copied()
+        .filter(|other| first <= *other && *other != rule)
+        .collect(alloc)
+}
+
+/// Reports the groups of roots, and the unproductive start rule.
+#[derive(Drop)]
+struct RulesWithout<'a, 'g> {
+    ast: &'a GrammarAST,
+    roots: &'g Roots<'g>,
+}
+
+impl<'a, 'g> Reporter for RulesWithout<'a, 'g> {
+    ghost use Rattle.std.specs.Prelude.{length};
+    ghost use Rattle.cfgrammar.specs.TreeView.{syntax};
+    ghost use Rattle.cfgfindings.specs.Findings.{ReportsNoSentence};
+
+    ghost count = { λ x. length x.roots.now.rules };
+
+    ghost reports = { λ x. ReportsNoSentence (syntax x.ast.now) x.roots.now };
+
+    fn report(&self, alloc: Global, number: usize) -> Result<Option<Finding>, AllocError> {
+        no_sentence(alloc, self.ast, self.roots, number)
+    }
+}
+
+/// Reports the other unproductive rules.
+#[derive(Drop)]
+struct UnusableRules<'a, 'g> {
+    ast: &'a GrammarAST,
+    roots: &'g Roots<'g>,
+}
+
+impl<'a, 'g> Reporter for UnusableRules<'a, 'g> {
+    ghost use Rattle.std.specs.Prelude.{length};
+    ghost use Rattle.cfgrammar.specs.TreeView.{syntax};
+    ghost use Rattle.cfgfindings.specs.Findings.{ReportsUnusableRule};
+
+    ghost count = { λ x. length x.roots.now.rules };
+
+    ghost reports = { λ x. ReportsUnusableRule (syntax x.ast.now) x.roots.now };
+
+    fn report(&self, alloc: Global, number: usize) -> Result<Option<Finding>, AllocError> {
+        unusable_rule(alloc, self.ast, self.roots, number)
+    }
+}
