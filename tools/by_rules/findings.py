@@ -19,7 +19,7 @@ def findings_of(tree, grammar, is_printed):
     """The findings of a tree and its numbered grammar. Of several shortest cycles of a rule the first that is printed is taken, and
     any if none is."""
     found = (unused(tree) + shadowed(tree) + unproductive(tree, grammar) + useless(grammar) + cycles(grammar, is_printed) + repeats(grammar)
-             + idle(tree))
+             + idle(tree) + declared_again(tree) + overridden(tree))
     return sorted(found, key=lambda finding: finding.spans[0][0])
 
 
@@ -148,3 +148,15 @@ def idle(tree):
     text = "Unused precedence: token '%s' is not a symbol of any production, and none takes its precedence from it"
     return [Finding('UnusedPrecedence', [span], text % n)
             for n, (_, _, span) in tree.precedences.items() if n not in known]
+
+
+def declared_again(tree):
+    """Tokens of `%token` lists that such lists have before."""
+    text = "Repeated token '%s': a %%token list has it before"
+    return [Finding('RepeatedToken', [span], text % n) for n, span in tree.declared_again]
+
+
+def overridden(tree):
+    """Tokens of `%prec`s that a later one of their production overrides."""
+    text = "Overridden precedence: a later %%prec of the production counts, and not that of token '%s'"
+    return [Finding('OverriddenPrecedence', [span], text % n) for n, span in tree.overridden]

@@ -32,10 +32,10 @@ usage: cfglint [OPTION..] [--] FILE..
   FILE               A path, or - for standard input.
 
 FINDING is unused-rule, unused-token, shadowed-rule, start-without-sentence, no-sentence, unusable-rule,
-unusable-production, useless-symbol, cyclic-rule, repeated-production or unused-precedence. Without these options
-start-without-sentence is an error; unusable-rule, unusable-production and useless-symbol, which only follow from a
-rule without a sentence, aren't reported; and the others are warnings. Of several --allow, --warn and --deny with the
-same one the last counts.
+unusable-production, useless-symbol, cyclic-rule, repeated-production, unused-precedence, repeated-token or
+overridden-precedence. Without these options start-without-sentence is an error; unusable-rule, unusable-production
+and useless-symbol, which only follow from a rule without a sentence, aren't reported; and the others are warnings.
+Of several --allow, --warn and --deny with the same one the last counts.
 --kind=KIND is --kind KIND, and so on.
 
 status: 0 without errors or denied warnings; 1 with either; 2 if the arguments are wrong, a file can't be read or
@@ -43,7 +43,8 @@ the output can't be written; 3 if there is no memory left
 '''
 KINDS = ('original-noaction', 'original-useraction', 'original-genericparsetree', 'grmtools', 'eco', 'section')
 FINDINGS = ('unused-rule', 'unused-token', 'shadowed-rule', 'start-without-sentence', 'no-sentence', 'unusable-rule',
-            'unusable-production', 'useless-symbol', 'cyclic-rule', 'repeated-production', 'unused-precedence')
+            'unusable-production', 'useless-symbol', 'cyclic-rule', 'repeated-production', 'unused-precedence',
+            'repeated-token', 'overridden-precedence')
 CONSEQUENCES = ('unusable-rule', 'unusable-production', 'useless-symbol')
 LEVELS = {'--allow': None, '--warn': 'warning', '--deny': 'error'}
 VALIDATION = ('NoStartRule', 'InvalidStartRule', 'UnknownRuleRef', 'UnknownToken', 'NoPrecForToken', 'UnknownEPP')

@@ -49,6 +49,8 @@ class Tree:
         self.productions = []
         self.tokens = {}           # name: span, in order
         self.declared = {}         # the names in %token lists
+        self.declared_again = []   # [(name, span)] of those that such lists have before
+        self.overridden = []       # [(name, span)] of each %prec that a later one of its production overrides
         self.spans = {}            # (what may be declared once, token): [span of each declaration]
         self.repeated = []         # what is declared more than once, in order of the first repeats
 
@@ -98,6 +100,8 @@ def tokens_declared(t, p, tree):
     while p < len(t) and not t.startswith(b'%', p):
         n, span, p = token(t, p)
         tree.add_token(n, span)
+        if n in tree.declared:
+            tree.declared_again.append((n, span))
         tree.declared[n] = True
         p = blank(t, p)
     return p
@@ -288,7 +292,7 @@ def body(t, p, tree, rule):
 
 def production(t, p, tree, rule):
     """Reads a production up to the `|` or `;` that ends it."""
-    begin, end, symbols, precedence, action = p, None, [], None, None
+    begin, end, symbols, precedences, action = p, None, [], [], None
     while not ends_production(t, p):
         if p == len(t):
             raise at('IncompleteRule', p)
@@ -298,8 +302,9 @@ def production(t, p, tree, rule):
             tree.add_token(n, span)
             symbols.append((True, n, span))
         elif t.startswith(b'%prec', p):
-            precedence, span, end = token(t, blank(t, p + len('%prec')))
-            tree.add_token(precedence, span)
+            n, span, end = token(t, blank(t, p + len('%prec')))
+            tree.add_token(n, span)
+            precedences.append((n, span))
             p = blank(t, end)
         elif t.startswith(b'{', p):
             text, span, after = action_text(t, p)
@@ -316,5 +321,7 @@ def production(t, p, tree, rule):
             symbols.append((n in tree.declared, n, span))
             p = blank(t, end)
     rule.productions.append(len(tree.productions))
+    tree.overridden += precedences[:-1]
+    precedence = precedences[-1][0] if precedences else None
     tree.productions.append(Production((begin, p if end is None else end), symbols, precedence, action))
     return p

@@ -18,7 +18,7 @@ use Rattle.cfgrammar.specs.Unused.{IsStart, IsUnused, RuleName, TokenName, entry
 use Rattle.cfgrammar.specs.Openings.{nth_production}
 use Rattle.cfgrammar.specs.Numbered.{Numbered, core}
 use Rattle.cfgfindings.specs.Roots.{DependsOn, IsRoot}
-use Rattle.cfgfindings.specs.Shown.{ShownFinding, cyclic_finding, no_sentence, offset_of, repeated, rule_name, shadowed_rule, start_without_sentence, unusable, unusable_rule, unused_precedence, unused_rule, unused_token, useless_rule, useless_token}
+use Rattle.cfgfindings.specs.Shown.{ShownFinding, cyclic_finding, no_sentence, offset_of, overridden_precedence, repeated, repeated_token, rule_name, shadowed_rule, start_without_sentence, unusable, unusable_rule, unused_precedence, unused_rule, unused_token, useless_rule, useless_token}
 use Rattle.cfgfindings.specs.Useless.{IsUseless}
 
 -- The findings for the numbers below this one, in order: `Reports n (Some finding)` says that this is the finding for n, and `Reports n None`
@@ -218,7 +218,7 @@ module _ (s : Syntax) where
   ReportsPrecedence n (Some finding) = (name : List ℕ) × (span : Span) × IsIdle n name span × (finding ≡ unused_precedence name span)
   ReportsPrecedence n None = (name : List ℕ) (span : Span) → IsIdle n name span → ⊥
 
--- the findings for rules and tokens of the syntax, then those for rules, productions and precedences, one list after the other
+-- the findings for rules and tokens of the syntax, then those for rules, productions, precedences and declarations, one list after the other
 pub record AreReportedInTurn (s : Syntax) (g : Numbered) (reported : List ShownFinding) : Type 0 where
   pub unused_rules : List ShownFinding
   pub unused_tokens : List ShownFinding
@@ -243,7 +243,8 @@ pub record AreReportedInTurn (s : Syntax) (g : Numbered) (reported : List ShownF
   pub are_repeats : ReportsBelow (ReportsRepeated g) g.start_production repeats
   pub are_precedences : ReportsBelow (ReportsPrecedence s) (length s.tables.precedences) precedences
   pub is : reported ≡ unused_rules ++ (unused_tokens ++ (shadowed
-      ++ (without ++ (unusable_rules ++ (unusable_productions ++ (useless_rules ++ (useless_tokens ++ (cycles ++ (repeats ++ precedences)))))))))
+      ++ (without ++ (unusable_rules ++ (unusable_productions ++ (useless_rules ++ (useless_tokens ++ (cycles ++ (repeats ++ (precedences
+      ++ (map repeated_token s.repeated_tokens ++ map overridden_precedence s.overridden_precedences)))))))))))
 
 -- the same findings sorted by offset; those at the same offset stay in their order
 pub record AreByOffset (reported all : List ShownFinding) : Type 0 where

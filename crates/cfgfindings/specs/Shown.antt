@@ -2,6 +2,7 @@
 use Rattle.std.specs.Prelude.{ℕ, ◌+◌, List, [], ◌∷◌, ◌++◌, drop, map, take, codes, slice_get, unwrap_or}
 use Rattle.std.specs.List.{flat_map}
 use Rattle.std.specs.Option.{option_map_or}
+use Rattle.cfgrammar.specs.FileWords.{Word}
 use Rattle.cfgrammar.specs.Grammar.{Sym, Rule, Token}
 use Rattle.cfgrammar.specs.Step.{Step}
 use Rattle.cfgrammar.specs.Span.{Span}
@@ -12,7 +13,7 @@ use Rattle.cfgrammar.specs.Numbered.{Numbered, core}
 use Rattle.cfgrammar.specs.Accessors.{production_part, rule_part, sym_name}
 use Rattle.cfgrammar.specs.Openings.{nth_production}
 use Rattle.cfglint_shell.specs.declared.finding_kind.FindingKind.{FindingKind}
-use Rattle.cfglint_shell.specs.declared.finding_kind.FindingKind.TheVariants.{IsCyclic, NoSentence, RepeatedProduction, ShadowedRule, StartWithoutSentence, UnusableProduction, UnusableRule, UnusedPrecedence, UnusedRule, UnusedToken, UselessSymbol}
+use Rattle.cfglint_shell.specs.declared.finding_kind.FindingKind.TheVariants.{IsCyclic, NoSentence, OverriddenPrecedence, RepeatedProduction, RepeatedToken, ShadowedRule, StartWithoutSentence, UnusableProduction, UnusableRule, UnusedPrecedence, UnusedRule, UnusedToken, UselessSymbol}
 
 -- the kind of finding, its spans and its text
 pub record ShownFinding : Type 0 where
@@ -147,4 +148,20 @@ unused_precedence name span = record {
   kind = UnusedPrecedence;
   spans = span ∷ [];
   text = codes "Unused precedence: token " ++ (quoted name ++ codes " is not a symbol of any production, and none takes its precedence from it");
+}
+
+-- that a `%token` list has this token, which such a list has before
+abbrev pub repeated_token : Word → ShownFinding
+repeated_token word = record {
+  kind = RepeatedToken;
+  spans = word.span ∷ [];
+  text = codes "Repeated token " ++ (quoted word.name ++ codes ": a %token list has it before");
+}
+
+-- that a later `%prec` of its production overrides the one with this token
+abbrev pub overridden_precedence : Word → ShownFinding
+overridden_precedence word = record {
+  kind = OverriddenPrecedence;
+  spans = word.span ∷ [];
+  text = codes "Overridden precedence: a later %prec of the production counts, and not that of token " ++ (quoted word.name ++ codes "");
 }

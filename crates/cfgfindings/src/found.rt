@@ -5,6 +5,7 @@ ghost use Rattle.cfgrammar.specs.TreeView.{syntax};
 ghost use Rattle.cfgfindings.specs.Findings.{AreFindings};
 
 use crate::cyclic_rules::push_cycles;
+use crate::declarations::push_declarations;
 use crate::finding::Finding;
 use crate::precedences::push_precedences;
 use crate::repeats::push_repeats;
@@ -38,6 +39,7 @@ pub fn findings(
     push_cycles(alloc, &mut all, grammar)?;
     push_repeats(alloc, &mut all, grammar)?;
     push_precedences(alloc, &mut all, ast)?;
+    push_declarations(alloc, &mut all, ast)?;
     all.sort_by_key(|finding| finding.offset())?;
     Ok(all)
 }

@@ -3,6 +3,7 @@
 
 mod added;
 mod cyclic_rules;
+mod declarations;
 pub mod finding;
 mod found;
 mod marks;

@@ -4,7 +4,7 @@ use Rattle.std.specs.Prelude.{◌↔◌}
 use Rattle.std.specs.Str.{bytes_eq}
 use Rattle.std.proofs.lemmas.Slice.Eq.{bytes_eq-Decides}
 use Rattle.cfglint_shell.specs.declared.finding_kind.FindingKind.{FindingKind}
-use Rattle.cfglint_shell.specs.declared.finding_kind.FindingKind.TheVariants.{UnusedRule, UnusedToken, ShadowedRule, StartWithoutSentence, NoSentence, UnusableRule, UnusableProduction, UselessSymbol, IsCyclic, RepeatedProduction, UnusedPrecedence}
+use Rattle.cfglint_shell.specs.declared.finding_kind.FindingKind.TheVariants.{UnusedRule, UnusedToken, ShadowedRule, StartWithoutSentence, NoSentence, UnusableRule, UnusableProduction, UselessSymbol, IsCyclic, RepeatedProduction, UnusedPrecedence, RepeatedToken, OverriddenPrecedence}
 use Rattle.cfglint_shell.specs.declared.levels.Level.{Level}
 use Rattle.cfglint_shell.specs.declared.levels.Levels.{Levels}
 use Rattle.cfglint_shell.specs.FindingKinds.{finding_named, level_of, with_level, word_of}
@@ -21,6 +21,8 @@ word_names UselessSymbol = refl
 word_names IsCyclic = refl
 word_names RepeatedProduction = refl
 word_names UnusedPrecedence = refl
+word_names RepeatedToken = refl
+word_names OverriddenPrecedence = refl
 
 -- what a word names is what one test says, or else what the others say
 module _ (word : List ℕ) (kind : FindingKind) where
@@ -35,7 +37,7 @@ module _ (word : List ℕ) (kind : FindingKind) where
   pub named_by_word : finding_named word ≡ Some kind → word ≡ word_of kind
   named_by_word = by_test UnusedRule _ (by_test UnusedToken _ (by_test ShadowedRule _ (by_test StartWithoutSentence _ (by_test NoSentence _
       (by_test UnusableRule _ (by_test UnusableProduction _ (by_test UselessSymbol _ (by_test IsCyclic _ (by_test RepeatedProduction _
-      (by_test UnusedPrecedence None (λ is. let no : None ≡ Some kind = is in cc)))))))))))
+      (by_test UnusedPrecedence _ (by_test RepeatedToken _ (by_test OverriddenPrecedence None (λ is. let no : None ≡ Some kind = is in cc)))))))))))))
 
 pub words_name_kinds : (word : List ℕ) (kind : FindingKind) → (finding_named word ≡ Some kind) ↔ (word ≡ word_of kind)
 words_name_kinds word kind = (named_by_word word kind, λ is. ap finding_named is ∙ word_names kind)
@@ -52,6 +54,8 @@ given_level levels UselessSymbol level = refl
 given_level levels IsCyclic level = refl
 given_level levels RepeatedProduction level = refl
 given_level levels UnusedPrecedence level = refl
+given_level levels RepeatedToken level = refl
+given_level levels OverriddenPrecedence level = refl
 
 pub other_level : (levels : Levels) (kind other : FindingKind) (level : Level) → (other ≡ kind → ⊥)
     → level_of (with_level levels kind level) other ≡ level_of levels other
@@ -66,4 +70,6 @@ other_level levels UselessSymbol UselessSymbol level differ = absurd (differ ref
 other_level levels IsCyclic IsCyclic level differ = absurd (differ refl)
 other_level levels RepeatedProduction RepeatedProduction level differ = absurd (differ refl)
 other_level levels UnusedPrecedence UnusedPrecedence level differ = absurd (differ refl)
+other_level levels RepeatedToken RepeatedToken level differ = absurd (differ refl)
+other_level levels OverriddenPrecedence OverriddenPrecedence level differ = absurd (differ refl)
 other_level levels kind other level differ = refl

@@ -2,7 +2,7 @@
 use Rattle.std.specs.Prelude.{ℕ, List, Option, Some, None, if◌then◌else◌, codes}
 use Rattle.std.specs.Str.{bytes_eq}
 use Rattle.cfglint_shell.specs.declared.finding_kind.FindingKind.{FindingKind}
-use Rattle.cfglint_shell.specs.declared.finding_kind.FindingKind.TheVariants.{UnusedRule, UnusedToken, ShadowedRule, StartWithoutSentence, NoSentence, UnusableRule, UnusableProduction, UselessSymbol, IsCyclic, RepeatedProduction, UnusedPrecedence}
+use Rattle.cfglint_shell.specs.declared.finding_kind.FindingKind.TheVariants.{UnusedRule, UnusedToken, ShadowedRule, StartWithoutSentence, NoSentence, UnusableRule, UnusableProduction, UselessSymbol, IsCyclic, RepeatedProduction, UnusedPrecedence, RepeatedToken, OverriddenPrecedence}
 use Rattle.cfglint_shell.specs.declared.levels.Level.{Level}
 use Rattle.cfglint_shell.specs.declared.levels.Level.TheVariants.{Allow, Warn, Deny}
 use Rattle.cfglint_shell.specs.declared.levels.Levels.{Levels}
@@ -20,6 +20,8 @@ word_of UselessSymbol = codes "useless-symbol"
 word_of IsCyclic = codes "cyclic-rule"
 word_of RepeatedProduction = codes "repeated-production"
 word_of UnusedPrecedence = codes "unused-precedence"
+word_of RepeatedToken = codes "repeated-token"
+word_of OverriddenPrecedence = codes "overridden-precedence"
 
 -- the kind that a word names
 abbrev pub finding_named : List ℕ → Option FindingKind
@@ -35,6 +37,8 @@ finding_named word =
     else if bytes_eq word (codes "cyclic-rule") then Some IsCyclic
     else if bytes_eq word (codes "repeated-production") then Some RepeatedProduction
     else if bytes_eq word (codes "unused-precedence") then Some UnusedPrecedence
+    else if bytes_eq word (codes "repeated-token") then Some RepeatedToken
+    else if bytes_eq word (codes "overridden-precedence") then Some OverriddenPrecedence
     else None
 
 -- A start rule without a sentence is an error, and every other finding is a warning, except for those that only follow from a rule without a
@@ -52,6 +56,8 @@ default_levels = record {
   cyclic_rule = Warn;
   repeated_production = Warn;
   unused_precedence = Warn;
+  repeated_token = Warn;
+  overridden_precedence = Warn;
 }
 
 -- the level of a kind
@@ -67,6 +73,8 @@ level_of levels UselessSymbol = levels.useless_symbol
 level_of levels IsCyclic = levels.cyclic_rule
 level_of levels RepeatedProduction = levels.repeated_production
 level_of levels UnusedPrecedence = levels.unused_precedence
+level_of levels RepeatedToken = levels.repeated_token
+level_of levels OverriddenPrecedence = levels.overridden_precedence
 
 -- the levels after a kind is given this one
 abbrev pub with_level : Levels → FindingKind → Level → Levels
@@ -81,3 +89,5 @@ with_level levels UselessSymbol level = record levels { useless_symbol = level }
 with_level levels IsCyclic level = record levels { cyclic_rule = level }
 with_level levels RepeatedProduction level = record levels { repeated_production = level }
 with_level levels UnusedPrecedence level = record levels { unused_precedence = level }
+with_level levels RepeatedToken level = record levels { repeated_token = level }
+with_level levels OverriddenPrecedence level = record levels { overridden_precedence = level }

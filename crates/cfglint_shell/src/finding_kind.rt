@@ -30,6 +30,10 @@ pub enum FindingKind {
     RepeatedProduction,
     /// The token is given a precedence, but is in no production, and no production takes its precedence from it.
     UnusedPrecedence,
+    /// A `%token` list has the token, and such a list has it before.
+    RepeatedToken,
+    /// A later `%prec` of its production counts, and not this one.
+    OverriddenPrecedence,
 }
 
 impl FindingKind {
@@ -49,6 +53,8 @@ impl FindingKind {
             FindingKind::IsCyclic => "cyclic-rule",
             FindingKind::RepeatedProduction => "repeated-production",
             FindingKind::UnusedPrecedence => "unused-precedence",
+            FindingKind::RepeatedToken => "repeated-token",
+            FindingKind::OverriddenPrecedence => "overridden-precedence",
         }
     }
 
@@ -68,6 +74,8 @@ impl FindingKind {
             "cyclic-rule" => FindingKind::IsCyclic,
             "repeated-production" => FindingKind::RepeatedProduction,
             "unused-precedence" => FindingKind::UnusedPrecedence,
+            "repeated-token" => FindingKind::RepeatedToken,
+            "overridden-precedence" => FindingKind::OverriddenPrecedence,
             _ => return None,
         };
         Some(kind)

@@ -30,6 +30,8 @@ pub struct Levels {
     cyclic_rule: Level,
     repeated_production: Level,
     unused_precedence: Level,
+    repeated_token: Level,
+    overridden_precedence: Level,
 }
 
 impl Levels {
@@ -50,6 +52,8 @@ impl Levels {
             cyclic_rule: Level::Warn,
             repeated_production: Level::Warn,
             unused_precedence: Level::Warn,
+            repeated_token: Level::Warn,
+            overridden_precedence: Level::Warn,
         }
     }
 
@@ -69,6 +73,8 @@ impl Levels {
             FindingKind::IsCyclic => self.cyclic_rule,
             FindingKind::RepeatedProduction => self.repeated_production,
             FindingKind::UnusedPrecedence => self.unused_precedence,
+            FindingKind::RepeatedToken => self.repeated_token,
+            FindingKind::OverriddenPrecedence => self.overridden_precedence,
         }
     }
 
@@ -88,6 +94,8 @@ impl Levels {
             FindingKind::IsCyclic => self.cyclic_rule = level,
             FindingKind::RepeatedProduction => self.repeated_production = level,
             FindingKind::UnusedPrecedence => self.unused_precedence = level,
+            FindingKind::RepeatedToken => self.repeated_token = level,
+            FindingKind::OverriddenPrecedence => self.overridden_precedence = level,
         }
     }
 }

@@ -38,10 +38,10 @@ usage: cfglint [OPTION..] [--] FILE..
   FILE               A path, or - for standard input.
 
 FINDING is unused-rule, unused-token, shadowed-rule, start-without-sentence, no-sentence, unusable-rule,
-unusable-production, useless-symbol, cyclic-rule, repeated-production or unused-precedence. Without these options
-start-without-sentence is an error; unusable-rule, unusable-production and useless-symbol, which only follow from a
-rule without a sentence, aren't reported; and the others are warnings. Of several --allow, --warn and --deny with the
-same one the last counts.
+unusable-production, useless-symbol, cyclic-rule, repeated-production, unused-precedence, repeated-token or
+overridden-precedence. Without these options start-without-sentence is an error; unusable-rule, unusable-production
+and useless-symbol, which only follow from a rule without a sentence, aren't reported; and the others are warnings.
+Of several --allow, --warn and --deny with the same one the last counts.
 --kind=KIND is --kind KIND, and so on.
 
 status: 0 without errors or denied warnings; 1 with either; 2 if the arguments are wrong, a file can't be read or
@@ -146,4 +146,5 @@ const KINDS: &str =
 /// The values of `--allow`, `--warn` and `--deny`.
 const FINDINGS: &str =
     "unused-rule, unused-token, shadowed-rule, start-without-sentence, no-sentence, unusable-rule, \
-    unusable-production, useless-symbol, cyclic-rule, repeated-production, unused-precedence";
+    unusable-production, useless-symbol, cyclic-rule, repeated-production, unused-precedence, \
+    repeated-token, overridden-precedence";

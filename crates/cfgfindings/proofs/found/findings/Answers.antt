@@ -1,18 +1,18 @@
-use Rattle.std.proofs.Common.{◌≡◌, ◌++◌, List, [], nat_cmp, length, refl, subst, ap, ◌∙◌, append_assoc, rules}
+use Rattle.std.proofs.Common.{◌≡◌, ◌++◌, List, [], nat_cmp, length, map, refl, subst, ap, ◌∙◌, append_assoc, rules}
 use Rattle.std.specs.List.Sorted.{IsPermutation, IsStableByKey}
 use Rattle.std.proofs.lemmas.Fn.{always_returns_same}
 use Rattle.cfgrammar.specs.Numbered.{Numbered}
 use Rattle.cfgfindings.specs.Findings.{ReportsBelow, ReportsNoSentence, ReportsUnusable, ReportsUnusableRule, ReportsUselessRule, ReportsUselessToken}
-use Rattle.cfgfindings.specs.Shown.{ShownFinding, offset_of}
+use Rattle.cfgfindings.specs.Shown.{ShownFinding, offset_of, overridden_precedence, repeated_token}
 use Rattle.cfgrammar.specs.TreeView.{syntax}
 use Rattle.cfgfindings.proofs.found.findings.Goals as goal
 
-joined : (a0 a1 a2 a3 a4 a5 a6 a7 n t h w v u x y l r p : List ShownFinding) → a0 ≡ [] → a1 ≡ a0 ++ (n ++ (t ++ h)) → a2 ≡ a1 ++ (w ++ v) → a3 ≡ a2 ++ u
-    → a4 ≡ a3 ++ (x ++ y) → a5 ≡ a4 ++ l → a6 ≡ a5 ++ r → a7 ≡ a6 ++ p
-    → a7 ≡ n ++ (t ++ (h ++ (w ++ (v ++ (u ++ (x ++ (y ++ (l ++ (r ++ p)))))))))
-joined a0 a1 a2 a3 a4 a5 a6 a7 n t h w v u x y l r p e0 e1 e2 e3 e4 e5 e6 e7 =
-    let all : a7 ≡ ((((((n ++ (t ++ h)) ++ (w ++ v)) ++ u) ++ (x ++ y)) ++ l) ++ r) ++ p =
-    e7 ∙ ap (λ z. z ++ p) (e6 ∙ ap (λ z. z ++ r) (e5 ∙ ap (λ z. z ++ l) (e4 ∙ ap (λ z. z ++ (x ++ y)) (e3 ∙ ap (λ z. z ++ u) (e2 ∙ ap (λ z. z ++ (w ++ v)) (e1 ∙ ap (λ z. z ++ (n ++ (t ++ h))) e0)))))) in
+joined : (a0 a1 a2 a3 a4 a5 a6 a7 a8 n t h w v u x y l r p d : List ShownFinding) → a0 ≡ [] → a1 ≡ a0 ++ (n ++ (t ++ h)) → a2 ≡ a1 ++ (w ++ v) → a3 ≡ a2 ++ u
+    → a4 ≡ a3 ++ (x ++ y) → a5 ≡ a4 ++ l → a6 ≡ a5 ++ r → a7 ≡ a6 ++ p → a8 ≡ a7 ++ d
+    → a8 ≡ n ++ (t ++ (h ++ (w ++ (v ++ (u ++ (x ++ (y ++ (l ++ (r ++ (p ++ d))))))))))
+joined a0 a1 a2 a3 a4 a5 a6 a7 a8 n t h w v u x y l r p d e0 e1 e2 e3 e4 e5 e6 e7 e8 =
+    let all : a8 ≡ (((((((n ++ (t ++ h)) ++ (w ++ v)) ++ u) ++ (x ++ y)) ++ l) ++ r) ++ p) ++ d =
+    e8 ∙ ap (λ z. z ++ d) (e7 ∙ ap (λ z. z ++ p) (e6 ∙ ap (λ z. z ++ r) (e5 ∙ ap (λ z. z ++ l) (e4 ∙ ap (λ z. z ++ (x ++ y)) (e3 ∙ ap (λ z. z ++ u) (e2 ∙ ap (λ z. z ++ (w ++ v)) (e1 ∙ ap (λ z. z ++ (n ++ (t ++ h))) e0))))))) in
     all ∙ simp append_assoc
 
 pub returns : goal.returns
@@ -25,14 +25,15 @@ returns c =
     let (repeats, are_repeats, repeats_is) = c.in_ok-push_repeats.ensures in
     let (precedences, are_precedences, precedences_is) = c.in_ok-push_precedences.ensures in
     let seen : c.in_ok-unproductive.unproductive ≡ c.args.grammar.now = c.in_ok-unproductive.ensures in
-    let before = c.push_precedences.new.all.items in
+    let declared = map repeated_token (syntax c.args.ast.now).repeated_tokens ++ map overridden_precedence (syntax c.args.ast.now).overridden_precedences in
+    let before = c.push_declarations.new.all.items in
     let after = c.sort_by_key.new.self.items in
     let reported : List ShownFinding = rules ++ (tokens ++ (shadowed
-    ++ (without ++ (unusable_rules ++ (unusable_productions ++ (useless_rules ++ (useless_tokens ++ (cycles ++ (repeats ++ precedences))))))))) in
+    ++ (without ++ (unusable_rules ++ (unusable_productions ++ (useless_rules ++ (useless_tokens ++ (cycles ++ (repeats ++ (precedences ++ declared)))))))))) in
     let is : before ≡ reported = joined c.new-all.result.items c.push_unused.new.all.items c.push_unproductive.new.all.items c.push_unusable.new.all.items
-    c.push_useless.new.all.items c.push_cycles.new.all.items c.push_repeats.new.all.items before
-    rules tokens shadowed without unusable_rules unusable_productions useless_rules useless_tokens cycles repeats precedences
-    c.new-all.ensures.items unused_is unproductive_is unusable_is useless_is cycles_is repeats_is precedences_is in
+    c.push_useless.new.all.items c.push_cycles.new.all.items c.push_repeats.new.all.items c.push_precedences.new.all.items before
+    rules tokens shadowed without unusable_rules unusable_productions useless_rules useless_tokens cycles repeats precedences declared
+    c.new-all.ensures.items unused_is unproductive_is unusable_is useless_is cycles_is repeats_is precedences_is c.in_ok-push_declarations.ensures in
     let sorted = c.in_ok-sort_by_key.ensures.sorted offset_of (always_returns_same _ _ _ (λ a r f called. search rules)) in
     let stable = c.in_ok-sort_by_key.ensures.stable offset_of (always_returns_same _ _ _ (λ a r f called. search rules)) in
     record {
