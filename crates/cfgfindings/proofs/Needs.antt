@@ -118,15 +118,21 @@ module _ (g : Numbered) where
       same = more_taken f xs n x lt is
 
       to : (a b : ℕ) → ((a ≡ rule) × IsLackingIn g (map f (take n xs)) b) ⊎ ((a ≡ rule) × Next b) → (a ≡ rule) × IsLackingIn g (map f (take (n + 1) xs)) b
-      to a b (inl h) = (h.0, record {
-        holds = subst (λ l. Contains l (Rule b)) (sym same) (Contains-append_left (map f (take n xs)) (f x ∷ []) (Rule b) h.1.holds);
-        lacks = h.1.lacks;
-      })
-      to a b (inr h) = (h.0, record {
-        holds = subst (λ l. Contains l (Rule b)) (sym same)
-            (subst (λ y. Contains (map f (take n xs) ++ y ∷ []) (Rule b)) (sym (next b h.1).0) (Contains-push (map f (take n xs)) (Rule b)));
-        lacks = (next b h.1).1;
-      })
+      to a b (inl h) = (
+        h.0,
+        record {
+          holds = subst (λ l. Contains l (Rule b)) (sym same) (Contains-append_left (map f (take n xs)) (f x ∷ []) (Rule b) h.1.holds);
+          lacks = h.1.lacks;
+        },
+      )
+      to a b (inr h) = (
+        h.0,
+        record {
+          holds = subst (λ l. Contains l (Rule b)) (sym same)
+              (subst (λ y. Contains (map f (take n xs) ++ y ∷ []) (Rule b)) (sym (next b h.1).0) (Contains-push (map f (take n xs)) (Rule b)));
+          lacks = (next b h.1).1;
+        },
+      )
 
       from : (a b : ℕ) → (a ≡ rule) × IsLackingIn g (map f (take (n + 1) xs)) b → ((a ≡ rule) × IsLackingIn g (map f (take n xs)) b) ⊎ ((a ≡ rule) × Next b)
       from a b h = elim (Contains-append_cases (map f (take n xs)) (f x ∷ []) (Rule b) (subst (λ l. Contains l (Rule b)) same h.1.holds)) [
@@ -227,21 +233,28 @@ module _ (g : Numbered) where
     where
       to : (a b : ℕ) → IsBelow (length g.rules) (length g.productions) a b → Lacks a × ((b ≡ a) ⊎ Needs (HasProduction (core g)) a b)
       to a b (inl (lt, none, same)) = (none, inl same)
-      to a b (inr (p, lt, by)) = (by.none, inr (record {
-        none = by.none;
-        symbols = (nth_production (core g) p).symbols;
-        has = subst (λ r. HasProduction (core g) r (nth_production (core g) p).symbols) by.owner (has_read g p lt);
-        holds = by.needs.holds;
-        lacks = by.needs.lacks;
-      }))
+      to a b (inr (p, lt, by)) = (
+        by.none,
+        inr (record {
+          none = by.none;
+          symbols = (nth_production (core g) p).symbols;
+          has = subst (λ r. HasProduction (core g) r (nth_production (core g) p).symbols) by.owner (has_read g p lt);
+          holds = by.needs.holds;
+          lacks = by.needs.lacks;
+        }),
+      )
 
       from : (a b : ℕ) → a < length g.rules → Lacks a × ((b ≡ a) ⊎ Needs (HasProduction (core g)) a b) → IsBelow (length g.rules) (length g.productions) a b
       from a b lt (none, inl same) = inl (lt, none, same)
       from a b lt (none, inr needs) =
           let (p, there, at) = needs.has in
           let production : nth_production (core g) p ≡ record { rule = a; symbols = needs.symbols } = get_or_default (core g).productions p _ _ there ∙ at in
-          inr (p, production_there g p there, record {
-            owner = ap (λ (x : Production). x.rule) production;
-            none = none;
-            needs = record { holds = subst (λ (x : Production). Contains x.symbols (Rule b)) (sym production) needs.holds; lacks = needs.lacks };
-          })
+          inr (
+            p,
+            production_there g p there,
+            record {
+              owner = ap (λ (x : Production). x.rule) production;
+              none = none;
+              needs = record { holds = subst (λ (x : Production). Contains x.symbols (Rule b)) (sym production) needs.holds; lacks = needs.lacks };
+            },
+          )

@@ -270,8 +270,10 @@ module _ (rules : List ℕ) (n rule : ℕ) (lt : n < length rules) (is : rule �
   pub set_more : (entry : Option ℕ) (old mid : List (Option ℕ)) → rule < length mid → ((r : ℕ) → IsSet (take n rules) entry old mid r)
       → (r : ℕ) → IsSet (take (n + 1) rules) entry old (slice_set mid rule entry) r
   set_more entry old mid within before r = elim (cases_eq r rule) [
-    | inl same ↦ inl ((contains_taken rules n rule lt is r).1 (inr same),
-        subst (λ k. get_or (slice_set mid rule entry) k None ≡ entry) (sym same) (get_or-set_same mid rule entry None within))
+    | inl same ↦ inl (
+      (contains_taken rules n rule lt is r).1 (inr same),
+      subst (λ k. get_or (slice_set mid rule entry) k None ≡ entry) (sym same) (get_or-set_same mid rule entry None within),
+    )
     | inr other ↦
         let unchanged = get_or-set_other mid rule r entry None other in
         elim (before r) [

@@ -23,9 +23,17 @@ pub(crate) fn push_declarations(
     let after = ": a %token list has it before";
     let repeated = FindingKind::RepeatedToken;
     push_named(alloc, all, repeated, ast.repeated_tokens(), before, after)?;
-    let before = "Overridden precedence: a later %prec of the production counts, and not that of token ";
+    let before =
+        "Overridden precedence: a later %prec of the production counts, and not that of token ";
     let overridden = FindingKind::OverriddenPrecedence;
-    push_named(alloc, all, overridden, ast.overridden_precedences(), before, "")
+    push_named(
+        alloc,
+        all,
+        overridden,
+        ast.overridden_precedences(),
+        before,
+        "",
+    )
 }
 
 /// Adds a finding of this kind at each of these names, which its text has between `before` and `after`.

@@ -36,9 +36,9 @@ loop-other-preserved c =
       | else-first-other-via-then-first-other+else-is_start_rule w ↦ elim w.if-other-rule.branch [
         | then-other-rule w' ↦ let after = ltb-false q c.args.rule (sym w'.value-is ∙ w.if-is_start_rule.false) in absurd (omega (arith, after, w'.if-other-rule.true))
         | else-other-rule w' ↦ λ own. (
-            w'.if-other-rule.false,
-            subst (λ b. MatchBool b (IsStartRule s g q) (IsStartRule s g q → ⊥)) (sym w'.value-is ∙ w.if-is_start_rule.false) w'.is_start_rule.ensures,
-          )
+          w'.if-other-rule.false,
+          subst (λ b. MatchBool b (IsStartRule s g q) (IsStartRule s g q → ⊥)) (sym w'.value-is ∙ w.if-is_start_rule.false) w'.is_start_rule.ensures,
+        )
       ]
       | else-first-other-via-else-first-other w ↦ λ own. absurd (omega (arith, own, w.if-first-other.false, c.rules_added-first.ensures))
     ])
