@@ -8,7 +8,7 @@ from .grammar import Grammar
 from .hints import hint
 from .rendered import note, rendered
 from .section import named_kind, section
-from .validation import errors_of
+from .validation import errors_of, every_fault
 
 USAGE = 'usage: cfglint [OPTION..] [--] FILE..\n'
 VERSION = 'cfglint 0.15.0\n'
@@ -48,6 +48,8 @@ FINDINGS = ('unused-rule', 'unused-token', 'shadowed-rule', 'start-without-sente
 CONSEQUENCES = ('unusable-rule', 'unusable-production', 'useless-symbol')
 LEVELS = {'--allow': None, '--warn': 'warning', '--deny': 'error'}
 VALIDATION = ('NoStartRule', 'InvalidStartRule', 'UnknownRuleRef', 'UnknownToken', 'NoPrecForToken', 'UnknownEPP')
+UNKNOWN = ('InvalidStartRule', 'UnknownRuleRef', 'UnknownToken', 'UnknownEPP')
+SUGGESTIONS = 20                                   # how many of the errors of a file are compared with its names
 FORMATS = ('text', 'json')
 GREATEST = 4294967295
 NO_MEMORY = object()                               # in place of the bytes of a file
@@ -128,23 +130,24 @@ class Tally:
         self.texts += 1
         word, refused = read_kind(options.kind, t)
         if word is None:
-            return self.add_errors(options, name, t, refused)
+            return self.add_errors(options, name, t, refused, None)
         if options.kind in (None, 'section'):
             self.kinds.append(word)
         tree, errors = errors_of(word.partition('-')[0].capitalize(), t)
         if errors:
-            return self.add_errors(options, name, t, errors)
+            return self.add_errors(options, name, t, errors, tree)
         grammar = Grammar(tree)
         if not grammar.fits(GREATEST):
-            return self.add_errors(options, name, t, [Fault('StorageTooSmall', (0, 0))])
+            return self.add_errors(options, name, t, [Fault('StorageTooSmall', (0, 0))], tree)
         for finding in findings_of(tree, grammar, is_printed):
             self.add_finding(options, name, t, finding)
 
-    def add_errors(self, options, name, t, errors):
-        is_stopped = any(map(stops_reading, errors))
-        for error in errors:
-            if not (is_stopped and error.kind in VALIDATION):
-                self.add_error(options, name, t, error, hint(t, error))
+    def add_errors(self, options, name, t, errors, tree):
+        for index, error in enumerate(shown_errors(errors, tree)):
+            words = hint(t, error)
+            if words is None and index < SUGGESTIONS and error.kind in UNKNOWN:
+                words = suggestion(error.name, [*tree.rules, *tree.tokens])
+            self.add_error(options, name, t, error, words)
 
     def add_error(self, options, name, t, error, words):
         self.errors += 1
@@ -178,6 +181,29 @@ class Tally:
         if self.faults:
             return 2
         return 1 if self.errors or denies and self.warnings else 0
+
+
+def shown_errors(errors, tree):
+    """The errors of a text that are printed: unless one stopped the reading, each fault of its tree."""
+    shown = [error for error in errors if error.kind not in VALIDATION]
+    return shown if any(map(stops_reading, errors)) else shown + list(every_fault(tree))
+
+
+def suggestion(unknown, names):
+    """The note that suggests the nearest of the names for one that is unknown, or None."""
+    most = min((len(unknown) + 2) // 3, len(unknown) - 1)
+    near = [(edits, index) for index, n in enumerate(names) if n != unknown for edits in [distance(unknown, n)] if edits <= most]
+    return "did you mean '%s'?" % names[min(near)[1]] if near else None
+
+
+def distance(one, other):
+    """How many characters are inserted, deleted or replaced, at least, to make one text of another."""
+    row = list(range(len(other) + 1))
+    for x in one:
+        before, row[0] = row[0], row[0] + 1
+        for j, y in enumerate(other, 1):
+            before, row[j] = row[j], min(row[j] + 1, row[j - 1] + 1, before + (x != y))
+    return row[-1]
 
 
 def stops_reading(error):

@@ -4,29 +4,34 @@ from .reader import read
 
 
 def validate(tree):
+    """The first fault of the tree, or None."""
+    return next(every_fault(tree), None)
+
+
+def every_fault(tree):
+    """Each fault of the tree, in order."""
     if tree.start is None:
-        return Fault('NoStartRule', (0, 0))
-    if tree.start[0] not in tree.rules:
-        return Fault('InvalidStartRule', tree.start[1], tree.start[0])
+        yield Fault('NoStartRule', (0, 0))
+    elif tree.start[0] not in tree.rules:
+        yield Fault('InvalidStartRule', tree.start[1], tree.start[0])
     for rule in tree.rules.values():
         for index in rule.productions:
-            fault = invalid_production(tree, tree.productions[index])
-            if fault is not None:
-                return fault
+            yield from invalid_production(tree, tree.productions[index])
     for n, (key, _, _) in tree.printed.items():
         if n not in tree.tokens:
-            return Fault('UnknownEPP', key, n)
-    for symbol in tree.unused:
-        if not is_known(tree, symbol):
-            return unknown(symbol)
-    return None
+            yield Fault('UnknownEPP', key, n)
+    yield from unknown_symbols(tree, tree.unused)
 
 
 def invalid_production(tree, production):
-    """The first fault of a production. (A token of a %prec is always a known token, since %prec adds it.)"""
+    """The faults of a production. (A token of a %prec is always a known token, since %prec adds it.)"""
     if production.precedence is not None and production.precedence not in tree.precedences:
-        return Fault('NoPrecForToken', (0, 0), production.precedence)
-    return next((unknown(symbol) for symbol in production.symbols if not is_known(tree, symbol)), None)
+        yield Fault('NoPrecForToken', (0, 0), production.precedence)
+    yield from unknown_symbols(tree, production.symbols)
+
+
+def unknown_symbols(tree, symbols):
+    return (unknown(symbol) for symbol in symbols if not is_known(tree, symbol))
 
 
 def is_known(tree, symbol):

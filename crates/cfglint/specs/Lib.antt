@@ -1,2 +1,2 @@
 pub mod Reported
-pub mod Inner
+pub mod Suggestions

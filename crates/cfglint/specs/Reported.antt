@@ -1,7 +1,7 @@
 -- What is reported for a text: its errors, or the findings about its grammar.
-use Rattle.std.specs.Prelude.{◌≡◌, ℕ, ◌+◌, Bool, true, false, not, ◌&&◌, if◌then◌else◌, List, [], ◌∷◌, ◌++◌, codes, length, map, slice_get, Option, None}
+use Rattle.std.specs.Prelude.{◌≡◌, ℕ, ◌+◌, Bool, true, false, not, if◌then◌else◌, List, [], ◌∷◌, ◌++◌, codes, drop, length, map, slice_get, take, Option, None}
 use Rattle.std.specs.List.{count_by, filter, flat_map, list_any}
-use Rattle.std.specs.Option.{option_map_or}
+use Rattle.std.specs.Option.{option_map_or, option_or}
 use Rattle.cfgrammar.specs.YaccKind.TheVariants.{Original}
 use Rattle.cfgrammar.specs.YaccOriginalActionKind.TheVariants.{NoAction}
 use Rattle.cfgrammar.specs.Errors.{ErrorKind, GrammarError, DuplicatePrecedence, DuplicateAvoidInsertDeclaration, DuplicateImplicitTokensDeclaration, DuplicateExpectDeclaration, DuplicateExpectRRDeclaration, DuplicateStartDeclaration, DuplicateActiontypeDeclaration, DuplicateEPP, StorageTooSmall, NoStartRule, InvalidStartRule, UnknownRuleRef, UnknownToken, NoPrecForToken, UnknownEPP}
@@ -11,6 +11,7 @@ use Rattle.cfgrammar.specs.Hints.{hint_text}
 use Rattle.cfgrammar.specs.Render.{note_line, rendered}
 use Rattle.cfgrammar.specs.Span.{Span}
 use Rattle.cfgrammar.specs.Answer.{Found}
+use Rattle.cfgrammar.specs.EveryError.{every_error}
 use Rattle.cfgrammar.specs.Numbered.{Numbered}
 use Rattle.cfgrammar.specs.Syntax.{Syntax}
 use Rattle.cfgprogram.specs.declared.kinds.KindArg.{KindArg}
@@ -26,6 +27,7 @@ use Rattle.cfglint_shell.specs.FindingKinds.{level_of, word_of}
 use Rattle.cfglint_shell.specs.Tally.{Printed}
 use Rattle.cfgfindings.specs.Findings.{AreFindings}
 use Rattle.cfgfindings.specs.Shown.{ShownFinding, spanskind_of}
+use Rattle.cfglint.specs.Suggestions.{most_suggestions, names_of, suggestion}
 
 -- a finding that is reported, as an error or as a warning
 pub record Reported : Type 0 where
@@ -77,23 +79,33 @@ stops_reading (NoPrecForToken name) = false
 stops_reading (UnknownEPP name) = false
 stops_reading _ = true
 
--- the errors that are shown: where the reading stopped, those of validation aren't, since what was not read may mend them
-abbrev pub is_shown : Bool → GrammarError → Bool
-is_shown is_stopped error = not (is_stopped && is_of_validation error.kind)
-
 abbrev pub is_stopped : List GrammarError → Bool
 is_stopped all = list_any (λ (error : GrammarError). stops_reading error.kind) all
 
-abbrev pub shown_errors : List GrammarError → List GrammarError
-shown_errors all = filter (is_shown (is_stopped all)) all
+-- The checks of validation that what was read fails; none where an error stopped the reading, since what was not read may mend them.
+abbrev pub failed_checks : Option Syntax → List GrammarError → List GrammarError
+failed_checks syntax all = if is_stopped all then [] else option_map_or every_error syntax []
+
+-- the errors that are shown: those that aren't of validation, and then every check that fails
+abbrev pub shown_errors : Option Syntax → List GrammarError → List GrammarError
+shown_errors syntax all = filter (λ (error : GrammarError). not (is_of_validation error.kind)) all ++ failed_checks syntax all
 
 -- an error, and the note on it if there is one
 pub record NotedError : Type 0 where
   pub error : GrammarError
   pub hint : Option (List ℕ)
 
-abbrev pub noted : List ℕ → GrammarError → NotedError
-noted text error = record { error = error; hint = hint_text text error }
+-- the note on an error, in a text whose rules and tokens have these names
+abbrev pub note_on : List ℕ → List (List ℕ) → GrammarError → Option (List ℕ)
+note_on text names error = option_or (hint_text text error) (suggestion names error.kind)
+
+abbrev pub noted : List ℕ → List (List ℕ) → GrammarError → NotedError
+noted text names error = record { error = error; hint = note_on text names error }
+
+-- Errors, each with its note. Only the first of them get names suggested, so that many errors don't take long.
+abbrev pub noted_errors : List ℕ → List (List ℕ) → List GrammarError → List NotedError
+noted_errors text names all =
+    map (noted text names) (take most_suggestions all) ++ map (noted text []) (drop most_suggestions all)
 
 -- the offset of an error, in bytes: the start of its first span
 abbrev pub error_offset : GrammarError → ℕ
@@ -147,10 +159,11 @@ module _ (format : Format) (name text : List ℕ) where
   AreFindingLines all lines = InFormat format (lines ≡ finding_lines name text all)
       (AreJsonLines (map (λ finding. diagnostic_object name text (shown_finding finding)) all) lines)
 
-  -- that it has these errors, of which it shows some, each with its note
-  abbrev pub ReportsErrors : List GrammarError → Printed → Type 0
-  ReportsErrors all reported = AreErrorLines (map (noted text) (shown_errors all)) reported.lines
-      × (reported.errors ≡ length (shown_errors all)) × (reported.warnings ≡ 0)
+  -- that it has these errors, and was read as this syntax unless it names no kind: the errors that are shown, each with its note
+  abbrev pub ReportsErrors : Option Syntax → List GrammarError → Printed → Type 0
+  ReportsErrors syntax all reported =
+      AreErrorLines (noted_errors text (option_map_or names_of syntax []) (shown_errors syntax all)) reported.lines
+      × (reported.errors ≡ length (shown_errors syntax all)) × (reported.warnings ≡ 0)
 
   -- the findings about its grammar, given its syntax and its numbers, with these levels; those that are no errors are warnings
   abbrev pub ReportsFindings : Levels → Syntax → Numbered → Printed → Type 0

@@ -4,6 +4,8 @@
 pub mod linter;
 pub mod program;
 mod reported;
+mod shown;
+mod suggestion;
 pub mod system;
 
 pub use cfgfindings::{Finding, FindingKind, findings};

@@ -8,6 +8,8 @@ ghost use Rattle.cfglint.specs.Reported.{AreErrorLines, InFormat};
 use crate::reported::{
     ReportedError, error_count, error_lines, reported_errors, reported_findings,
 };
+use crate::shown::shown_errors;
+use crate::suggestion::names_of;
 use cfgdriver::{TextReader, read_text_or};
 use cfgfindings::findings;
 use cfgjson::{JsonLine, json_lines};
@@ -65,9 +67,12 @@ impl TextReader<Report> for FileReporter<'_> {
         &self,
         alloc: Global,
         text: &str,
+        ast: Option<&GrammarAST>,
         errors: &[YaccGrammarError],
     ) -> Result<Report, AllocError> {
-        let reported = reported_errors(alloc, text, errors)?;
+        let shown = shown_errors(alloc, ast, errors)?;
+        let names = names_of(alloc, ast)?;
+        let reported = reported_errors(alloc, text, &names, &shown)?;
         let lines = lines_of_errors(alloc, self.format, self.name, text, &reported)?;
         Ok(Report {
             lines,

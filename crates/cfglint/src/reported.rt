@@ -1,18 +1,16 @@
 //! Errors and findings as the program reports them.
 
-ghost use Rattle.std.specs.Prelude.{◌≡◌, [], ◌∷◌, ◌++◌, IfOk, OnOk, string_bytes};
+ghost use Rattle.std.specs.Prelude.{◌≡◌, [], ◌∷◌, ◌++◌, IfOk, OnOk, drop, map, string_bytes, take};
 ghost use Rattle.std.specs.List.{count_by};
 ghost use Rattle.std.specs.Option.{option_map};
-ghost use Rattle.cfgrammar.specs.Errors.{kind_view};
-ghost use Rattle.cfgrammar.specs.Hints.{hint_text};
-ghost use Rattle.cfglint.specs.Inner.NotedErrors.{noted_errors};
-ghost use Rattle.cfglint.specs.Reported.{error_lines, error_offset, is_of_validation, is_shown, is_stopped};
-ghost use Rattle.cfglint.specs.Reported.{reported_by, stops_reading};
+ghost use Rattle.cfglint.specs.Reported.{error_lines, error_offset, note_on, noted, noted_errors, reported_by};
+ghost use Rattle.cfglint.specs.Suggestions.{most_suggestions};
 
+use crate::suggestion::suggestion;
 use cfgfindings::Finding;
 use cfgjson::{Diagnostic, JsonLine, push_line};
 use cfglint_shell::{Level, Levels};
-use cfgrammar::yacc::{YaccGrammarError, YaccGrammarErrorKind};
+use cfgrammar::yacc::YaccGrammarError;
 use cfgrammar::{Positions, Source, Span, Spanned, SpansKind, hint_for};
 use std::alloc::{AllocError, Global};
 use std::fmt;
@@ -175,99 +173,62 @@ impl JsonLine for ReportedFinding<'_> {
     }
 }
 
-/// The errors that are shown, as they are reported. Where one of them stopped the reading, those of validation aren't
-/// shown: what was not read may mend them.
+/// The errors, as they are reported. The unknown names of the first are compared with the names of rules and tokens.
 pub(crate) fn reported_errors<'a>(
     alloc: Global,
     text: &str,
+    names: &[&str],
     errors: &'a [YaccGrammarError],
 ) -> Result<Vec<ReportedError<'a>>, AllocError>
-    ensures { IfOk result (λ reported. reported.items ≡ noted_errors text.now (is_stopped errors.now) errors.now) }
+    ensures { IfOk result (λ reported. reported.items
+        ≡ noted_errors text.now (map (λ name. name.now) names.now) errors.now) }
 {
-    let is_stopped = is_stopped(errors);
-    let mut reported = Vec::new(alloc);
-    for error in errors {
-        if !is_shown(is_stopped, error) {
-            continue;
-        }
-        let hint = hint_of(alloc, text, error)?;
-        reported.push(ReportedError { error, hint })?;
-    }
+    let (first, rest) = first_errors(errors);
+    let mut reported = noted(alloc, text, names, first)?;
+    reported.append(&mut noted(alloc, text, &[], rest)?)?;
     Ok(reported)
 }
 
-/// Whether one of the errors stopped the reading.
-fn is_stopped(errors: &[YaccGrammarError]) -> bool
-    ensures { result ≡ is_stopped errors.now }
+/// The errors whose unknown names are looked up, and the rest.
+#[tactic(auto, unfolding(crate::specs::Suggestions::most_suggestions))]
+fn first_errors(errors: &[YaccGrammarError]) -> (&[YaccGrammarError], &[YaccGrammarError])
+    ensures first { result.0.now ≡ take most_suggestions errors.now }
+    ensures rest { result.1.now ≡ drop most_suggestions errors.now }
 {
-    errors.iter().any(|error| stopped_at(error))
+    errors.split_at(errors.len().min(20))
 }
 
-/// Whether this error stopped the reading.
-fn stopped_at(error: &YaccGrammarError) -> bool
-    ensures { result ≡ stops_reading error.now.kind }
+/// The errors, each with its note.
+fn noted<'a>(
+    alloc: Global,
+    text: &str,
+    names: &[&str],
+    errors: &'a [YaccGrammarError],
+) -> Result<Vec<ReportedError<'a>>, AllocError>
+    ensures { IfOk result (λ reported. reported.items
+        ≡ map (noted text.now (map (λ name. name.now) names.now)) errors.now) }
 {
-    stops_reading(error.kind())
-}
-
-/// Whether an error is shown, given whether the reading stopped.
-fn is_shown(is_stopped: bool, error: &YaccGrammarError) -> bool
-    ensures { result ≡ is_shown is_stopped error.now }
-{
-    let is_of_validation = is_of_validation(error.kind());
-    !(is_stopped && is_of_validation)
+    let mut reported = Vec::new(alloc);
+    for error in errors {
+        let hint = hint_of(alloc, text, names, error)?;
+        reported.push(ReportedError { error, hint })?;
+    }
+    Ok(reported)
 }
 
 /// The note on an error.
 fn hint_of(
     alloc: Global,
     text: &str,
+    names: &[&str],
     error: &YaccGrammarError,
 ) -> Result<Option<String>, AllocError>
-    ensures { IfOk result (λ hint. option_map (λ words. string_bytes words) hint ≡ hint_text text.now error.now) }
+    ensures { IfOk result (λ hint. option_map (λ words. string_bytes words) hint
+        ≡ note_on text.now (map (λ name. name.now) names.now) error.now) }
 {
     match hint_for(text, error) {
         Some(hint) => Ok(Some(hint.to_string(alloc)?)),
-        None => Ok(None),
-    }
-}
-
-/// Whether an error of this kind stopped the reading.
-fn stops_reading(kind: &YaccGrammarErrorKind) -> bool
-    ensures { result ≡ stops_reading (kind_view kind.now) }
-{
-    match kind {
-        YaccGrammarErrorKind::DuplicatePrecedence
-        | YaccGrammarErrorKind::DuplicateAvoidInsertDeclaration
-        | YaccGrammarErrorKind::DuplicateImplicitTokensDeclaration
-        | YaccGrammarErrorKind::DuplicateExpectDeclaration
-        | YaccGrammarErrorKind::DuplicateExpectRRDeclaration
-        | YaccGrammarErrorKind::DuplicateStartDeclaration
-        | YaccGrammarErrorKind::DuplicateActiontypeDeclaration
-        | YaccGrammarErrorKind::DuplicateEPP
-        | YaccGrammarErrorKind::StorageTooSmall
-        | YaccGrammarErrorKind::NoStartRule
-        | YaccGrammarErrorKind::InvalidStartRule(_)
-        | YaccGrammarErrorKind::UnknownRuleRef(_)
-        | YaccGrammarErrorKind::UnknownToken(_)
-        | YaccGrammarErrorKind::NoPrecForToken(_)
-        | YaccGrammarErrorKind::UnknownEPP(_) => false,
-        _ => true,
-    }
-}
-
-/// Whether an error of this kind is one of validation.
-fn is_of_validation(kind: &YaccGrammarErrorKind) -> bool
-    ensures { result ≡ is_of_validation (kind_view kind.now) }
-{
-    match kind {
-        YaccGrammarErrorKind::NoStartRule
-        | YaccGrammarErrorKind::InvalidStartRule(_)
-        | YaccGrammarErrorKind::UnknownRuleRef(_)
-        | YaccGrammarErrorKind::UnknownToken(_)
-        | YaccGrammarErrorKind::NoPrecForToken(_)
-        | YaccGrammarErrorKind::UnknownEPP(_) => true,
-        _ => false,
+        None => suggestion(alloc, names, error.kind()),
     }
 }
 

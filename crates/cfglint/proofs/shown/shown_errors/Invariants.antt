@@ -1,0 +1,9 @@
+use Rattle.std.proofs.Common.{◌≡◌, not, take}
+use Rattle.std.specs.List.{filter}
+use Rattle.cfgrammar.specs.Errors.{GrammarError}
+use Rattle.cfglint.specs.Reported.{is_of_validation}
+use Rattle.cfglint.proofs.shown.shown_errors.Given as goal
+
+-- those of the errors so far
+abbrev pub invariant-loop-error : goal.invariant-loop-error
+invariant-loop-error l = l.shown.items ≡ filter (λ (error : GrammarError). not (is_of_validation error.kind)) (take l.error-index l.errors)
