@@ -1,5 +1,5 @@
 -- Steps from unproductive rules to those that they need, as they are put into lists.
-use Rattle.std.proofs.Common.{◌≡◌, ◌↔◌, ◌⊎◌, inl, inr, ℕ, ◌+◌, ◌<◌, List, [], ◌∷◌, ◌++◌, Contains, get_or, slice_set, length, map, take, arith, refl, sym, ap, ◌∙◌, subst, length-set, get_or-set_same, get_or-set_other}
+use Rattle.std.proofs.Common.{◌≡◌, ◌⊎◌, inl, inr, ℕ, ◌+◌, ◌<◌, List, [], ◌∷◌, ◌++◌, Contains, get_or, slice_set, length, map, take, arith, refl, sym, ap, ◌∙◌, subst, length-set, get_or-set_same, get_or-set_other}
 use Rattle.std.proofs.lemmas.Bool.{cases_eq, cases_lt}
 use Rattle.std.proofs.lemmas.List.{get_or_default}
 use Rattle.std.proofs.lemmas.List.Elements.{Contains-append_cases, Contains-append_left, Contains-push, Contains-push_cases}
@@ -11,7 +11,7 @@ use Rattle.cfgrammar.specs.Generator.{HasNone}
 use Rattle.cfgrammar.specs.Numbered.{Numbered, core}
 use Rattle.cfgrammar.specs.Openings.{nth_production}
 use Rattle.cfgrammar.specs.Sentence.{Sentence}
-use Rattle.cfgrammar.specs.StepLists.{AreWithin, HasStep}
+use Rattle.cfgrammar.specs.StepLists.{HasStep}
 use Rattle.cfgrammar.specs.Step.{Step}
 use Rattle.cfgfindings.specs.Roots.{Needs}
 use Rattle.cfgfindings.specs.Inner.Roots.{AreNeeds, AreNeedsBelow, IsLackingIn, NeedsBy, Puts, StepsTo}

@@ -1,5 +1,5 @@
 -- Groups of unproductive rules, and which of them are groups of roots.
-use Rattle.std.proofs.Common.{◌≡◌, ◌↔◌, ◌⊎◌, inl, inr, ℕ, ◌+◌, ◌<◌, List, [], ◌∷◌, All, Contains, Option, None, Some, MatchOption, false, eqb, not, get_or, length, replicate, slice_get, slice_set, take, arith, refl, sym, ap, ◌∙◌, subst, get_or-set_same, get_or-set_other, true≢false}
+use Rattle.std.proofs.Common.{◌≡◌, inl, inr, ℕ, ◌+◌, ◌<◌, List, [], ◌∷◌, All, Contains, Option, None, Some, MatchOption, false, eqb, not, get_or, length, replicate, slice_get, slice_set, take, arith, refl, sym, ap, ◌∙◌, subst, get_or-set_same, get_or-set_other, true≢false}
 use Rattle.std.specs.Option.{option_eq}
 use Rattle.std.proofs.lemmas.Bool.{cases_eq, cases_lt, eqb-true, not-false}
 use Rattle.std.proofs.lemmas.List.{get_or_default, length-replicate}
@@ -15,7 +15,7 @@ use Rattle.cfgrammar.specs.CyclicGroups.{AreGroups, IsGroup, IsGroupOf, IsInGrou
 use Rattle.cfgrammar.specs.StepLists.{AreWithin, HasStep}
 use Rattle.cfgrammar.specs.StepPaths.{Leads}
 use Rattle.cfgrammar.specs.Step.{Step}
-use Rattle.cfgfindings.specs.Roots.{DependsOn, IsRoot, Needs}
+use Rattle.cfgfindings.specs.Roots.{DependsOn, IsRoot}
 use Rattle.cfgfindings.specs.Inner.Roots.{AllLeadTo, AreFirsts, AreGroupOf, AreNeeds, AreRoots, IsClosed, IsFirstOf, IsInClosed, IsMarked, IsRootOf, IsSet, LeadTo, StepsTo}
 use Rattle.cfgfindings.proofs.OwnCycles.{leads_to_through}
 

@@ -150,18 +150,14 @@ unused_precedence name span = record {
   text = codes "Unused precedence: token " ++ (quoted name ++ codes " is not a symbol of any production, and none takes its precedence from it");
 }
 
+-- a finding at a word, which its text has in quotes between these
+abbrev pub at_word : FindingKind → List ℕ → List ℕ → Word → ShownFinding
+at_word kind before after word = record { kind = kind; spans = word.span ∷ []; text = before ++ (quoted word.name ++ after) }
+
 -- that a `%token` list has this token, which such a list has before
 abbrev pub repeated_token : Word → ShownFinding
-repeated_token word = record {
-  kind = RepeatedToken;
-  spans = word.span ∷ [];
-  text = codes "Repeated token " ++ (quoted word.name ++ codes ": a %token list has it before");
-}
+repeated_token = at_word RepeatedToken (codes "Repeated token ") (codes ": a %token list has it before")
 
 -- that a later `%prec` of its production overrides the one with this token
 abbrev pub overridden_precedence : Word → ShownFinding
-overridden_precedence word = record {
-  kind = OverriddenPrecedence;
-  spans = word.span ∷ [];
-  text = codes "Overridden precedence: a later %prec of the production counts, and not that of token " ++ (quoted word.name ++ codes "");
-}
+overridden_precedence = at_word OverriddenPrecedence (codes "Overridden precedence: a later %prec of the production counts, and not that of token ") []

@@ -1,9 +1,9 @@
 //! Findings about what a file says again, and so in vain: tokens of `%token` lists, and `%prec`s.
 
-ghost use Rattle.std.specs.Prelude.{◌≡◌, [], ◌∷◌, ◌++◌, map, OnOk};
+ghost use Rattle.std.specs.Prelude.{◌≡◌, ◌++◌, map, OnOk};
 ghost use Rattle.cfgrammar.specs.SyntaxView.{named_view};
 ghost use Rattle.cfgrammar.specs.TreeView.{syntax};
-ghost use Rattle.cfgfindings.specs.Shown.{overridden_precedence, quoted, repeated_token};
+ghost use Rattle.cfgfindings.specs.Shown.{at_word, overridden_precedence, repeated_token};
 
 use crate::finding::{Finding, FindingKind};
 use cfgrammar::Span;
@@ -45,11 +45,8 @@ fn push_named(
     before: &str,
     after: &str,
 ) -> Result<(), AllocError>
-    ensures { OnOk result (all.new.items ≡ all.old.items ++ map (λ word. record {
-      kind = kind;
-      spans = word.span ∷ [];
-      text = before.now ++ (quoted word.name ++ after.now);
-    }) (map named_view named.now)) }
+    ensures { OnOk result (all.new.items
+        ≡ all.old.items ++ map (at_word kind before.now after.now) (map named_view named.now)) }
 {
     for (name, span) in named {
         let text = format!(in alloc; "{before}'{name}'{after}")?;

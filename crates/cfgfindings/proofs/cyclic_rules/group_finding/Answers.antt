@@ -1,4 +1,4 @@
-use Rattle.std.proofs.Common.{◌≡◌, ℕ, List, All, leb, length, slice_get, sym, ap, subst, ◌∙◌, ◌<◌}
+use Rattle.std.proofs.Common.{ℕ, List, All, leb, length, slice_get, sym, ap, subst, ◌∙◌, ◌<◌}
 use Rattle.std.specs.List.{filter}
 use Rattle.cfgrammar.specs.Numbered.{core}
 use Rattle.cfgrammar.specs.StepLists.{HasStep}

@@ -1,4 +1,4 @@
-use Rattle.std.proofs.Common.{◌≡◌, ◌&&◌, ◌<◌, ◌∷◌, ◌++◌, All, leb, eqb, length, map, not, string_bytes, sym, ap, subst, ◌∙◌}
+use Rattle.std.proofs.Common.{◌&&◌, ◌<◌, ◌++◌, All, leb, eqb, length, map, not, string_bytes, sym, ap, subst, ◌∙◌}
 use Rattle.std.specs.List.{filter}
 use Rattle.cfgfindings.specs.Shown.{rule_span}
 use Rattle.cfgfindings.proofs.Texts.{shown_with}

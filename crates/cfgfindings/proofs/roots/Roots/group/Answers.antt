@@ -1,6 +1,6 @@
-use Rattle.std.proofs.Common.{◌<◌, length, sym, subst, ◌∙◌}
+use Rattle.std.proofs.Common.{◌<◌, length, sym, subst}
 use Rattle.cfgrammar.specs.Numbered.{Numbered}
-use Rattle.cfgfindings.specs.Inner.Roots.{AreGroupOf, IsRootOf}
+use Rattle.cfgfindings.specs.Inner.Roots.{AreGroupOf}
 use Rattle.cfgfindings.proofs.RootGroups.{has_group, root_at, rules_at}
 use Rattle.cfgfindings.proofs.roots.Roots.group.Goals as goal
 
