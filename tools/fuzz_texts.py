@@ -3,8 +3,8 @@ import glob
 import os
 
 KINDS = ('original-noaction', 'original-useraction', 'original-genericparsetree', 'grmtools', 'eco', 'section')
-NAMES = ('A', 'B', 'C', 'D', 'E', 'S', 'a', 'b', 'x', 'T', 'a.b', '_', 'Ab_1', 'expect', '~', '^')
-TOKENS = ("'x'", '"y"', "'+'", "'a'", '"a"', "'''", '""x"', "'é'", '"日"', "'𝄞'", "'/*'", "'%%'", "'\r'", 'a', 'b', 'T', 'x')
+NAMES = ('A', 'B', 'C', 'D', 'E', 'S', 'a', 'b', 'x', 'T', 'a.b', '_', 'Ab_1', 'Ab_2', 'expect', 'exptec', '~', '^')
+TOKENS = ("'x'", '"y"', "'+'", "'a'", '"a"', "'''", '""x"', "'é'", '"日"', "'𝄞'", "'/*'", "'%%'", "'\r'", "'\x1b'", "'\x7f\u0085'", 'Ab_1', 'a', 'b', 'T', 'x')
 KEYWORDS = ('%token', '%start', '%left', '%right', '%nonassoc', '%epp', '%expect', '%expect-rr', '%expect-unused',
             '%avoid_insert', '%implicit_tokens', '%actiontype', '%parse-param', '%parse-generics', '%prec', '%empty', '%%')
 KIND_OF = {'%actiontype': 'original', '%implicit_tokens': 'eco'}
@@ -40,7 +40,9 @@ class Texts:
         """The type of a row, its kind, and its text. Some texts are for cfglint, with its arguments in place of the kind."""
         ty, kind, text = self.made()
         if ty == 'row' and self.random.random() < 0.25:
-            return 'lint', self.random.choice((f'--kind {kind} ', '')) + self.random.choice(('--format=json ', '')) + '-', text
+            options = (f'--kind {kind} ', ''), ('--format=json ', ''), ('', '--warn=useless-symbol --warn=unusable-production ',
+                                                                       '--warn unusable-rule --deny no-sentence ')
+            return 'lint', ''.join(map(self.random.choice, options)) + '-', text
         return ty, kind, text
 
     def made(self):
@@ -149,7 +151,8 @@ class Texts:
     def production(self):
         if self.random.random() < 0.1:
             return '%empty'
-        tail = self.random.choice(('',) * 8 + (' %prec ' + self.token(), ' ' + self.random.choice(ACTIONS[:6])))
+        tail = self.random.choice(('',) * 7 + (' %prec ' + self.token(), f' %prec {self.token()} %prec {self.token()}',
+                                              ' ' + self.random.choice(ACTIONS[:6])))
         return ' '.join(self.some(3, self.symbol)) + tail
 
     def rule(self, kind, name):
