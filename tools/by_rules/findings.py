@@ -61,11 +61,11 @@ def depended(grammar, least, rule):
     return found
 
 
-def without_sentence(tree, grammar, rule, lack):
-    """What is reported at an unproductive rule, if anything is. `lack` has what each unproductive rule depends on."""
+def without_sentence(tree, grammar, rule, depends):
+    """What is reported at an unproductive rule, if anything is. `depends` has what each unproductive rule depends on."""
     name, is_start = grammar.rules[rule].name, lambda it: grammar.rules[it].name == tree.start[0]
-    is_root = all(rule in lack[it] for it in lack[rule])
-    group = [it for it in rules_of_file(grammar) if is_root and it in lack[rule]]
+    is_root = all(rule in depends[it] for it in depends[rule])
+    group = [it for it in rules_of_file(grammar) if is_root and it in depends[rule]]
     spans = [grammar.rules[it].span for it in [rule] + [it for it in group if it != rule]]
     if is_start(rule):
         return [Finding('StartWithoutSentence', spans, "No sentence can be derived from the start rule '%s'" % name)]
@@ -81,9 +81,9 @@ def unproductive(tree, grammar):
     """Unproductive rules, and then unusable productions of productive rules."""
     least = least_costs(grammar)
     name = lambda rule: grammar.rules[rule].name
-    lack = {rule: depended(grammar, least, rule) for rule in range(len(grammar.rules)) if least[rule] is None}
-    found = [finding for rule in lack if rule in rules_of_file(grammar)
-             for finding in without_sentence(tree, grammar, rule, lack)]
+    depends = {rule: depended(grammar, least, rule) for rule in range(len(grammar.rules)) if least[rule] is None}
+    found = [finding for rule in depends if rule in rules_of_file(grammar)
+             for finding in without_sentence(tree, grammar, rule, depends)]
     for p in grammar.productions[:grammar.start_production]:
         inside = [index for what, index in p.symbols if what == 'rule' and least[index] is None]
         if inside and least[p.rule] is not None:

@@ -59,5 +59,5 @@ module _ {Made : Type 0} (OfErrors : Option Syntax → List GrammarError → Mad
 
   -- the same if this kind is requested, or none, and there is a default kind
   abbrev pub IsMadeOfReadOr : Option KindArg → YaccKind → List ℕ → Made × Option YaccKind → Type 0
-  IsMadeOfReadOr wanted default text read =
-      (kind : KindArg) × (found : Found) × IsReadAs default text wanted kind × IsFound kind text found × IsMadeOfRead found read
+  IsMadeOfReadOr kind_requested default text read =
+      (kind : KindArg) × (found : Found) × IsReadAs default text kind_requested kind × IsFound kind text found × IsMadeOfRead found read

@@ -104,12 +104,12 @@ module _ (old new : List (List Step)) (rule : ℕ) (step : Step) (within : rule 
       }
 
 module _ (g : Numbered) where
-  abbrev Lacks : ℕ → Type 0
-  Lacks = HasNone (HasProduction (core g))
+  abbrev IsUnproductive : ℕ → Type 0
+  IsUnproductive = HasNone (HasProduction (core g))
 
   -- steps to what is lacking among the first symbols, and then to the next one if it is lacking
   more_lacking : {A : Type 0} (f : A → Sym) (xs : List A) (n : ℕ) (x : A) → n < length xs → x ≡ get_or xs n x → (rule : ℕ) (Next : ℕ → Type 0)
-      → ((b : ℕ) → Next b → (f x ≡ Rule b) × Lacks b) → ((b : ℕ) → f x ≡ Rule b → Lacks b → Next b) → (old mid new : List (List Step))
+      → ((b : ℕ) → Next b → (f x ≡ Rule b) × IsUnproductive b) → ((b : ℕ) → f x ≡ Rule b → IsUnproductive b → Next b) → (old mid new : List (List Step))
       → Puts (λ a b. (a ≡ rule) × IsLackingIn g (map f (take n xs)) b) old mid → Puts (λ a b. (a ≡ rule) × Next b) mid new
       → Puts (λ a b. (a ≡ rule) × IsLackingIn g (map f (take (n + 1) xs)) b) old new
   more_lacking f xs n x lt is rule Next next known old mid new before put = puts_as _ _ old new to from (puts_then _ _ old mid new before put)
@@ -122,7 +122,7 @@ module _ (g : Numbered) where
         h.0,
         record {
           holds = subst (λ l. Contains l (Rule b)) (sym same) (Contains-append_left (map f (take n xs)) (f x ∷ []) (Rule b) h.1.holds);
-          lacks = h.1.lacks;
+          needed_none = h.1.needed_none;
         },
       )
       to a b (inr h) = (
@@ -130,41 +130,41 @@ module _ (g : Numbered) where
         record {
           holds = subst (λ l. Contains l (Rule b)) (sym same)
               (subst (λ y. Contains (map f (take n xs) ++ y ∷ []) (Rule b)) (sym (next b h.1).0) (Contains-push (map f (take n xs)) (Rule b)));
-          lacks = (next b h.1).1;
+          needed_none = (next b h.1).1;
         },
       )
 
       from : (a b : ℕ) → (a ≡ rule) × IsLackingIn g (map f (take (n + 1) xs)) b → ((a ≡ rule) × IsLackingIn g (map f (take n xs)) b) ⊎ ((a ≡ rule) × Next b)
       from a b h = elim (Contains-append_cases (map f (take n xs)) (f x ∷ []) (Rule b) (subst (λ l. Contains l (Rule b)) same h.1.holds)) [
-        | inl i ↦ inl (h.0, record { holds = i; lacks = h.1.lacks })
-        | inr i ↦ inr (h.0, known b (contains_one (f x) (Rule b) i) h.1.lacks)
+        | inl i ↦ inl (h.0, record { holds = i; needed_none = h.1.needed_none })
+        | inr i ↦ inr (h.0, known b (contains_one (f x) (Rule b) i) h.1.needed_none)
       ]
 
   module _ {A : Type 0} (f : A → Sym) (xs : List A) (n : ℕ) (x : A) (lt : n < length xs) (is : x ≡ get_or xs n x) (rule : ℕ) (old mid new : List (List Step)) where
     -- the next one is lacking, and a step to it is put
-    pub lacking_put : (q : ℕ) → f x ≡ Rule q → Lacks q → (step : Step) → step.rule ≡ q → rule < length mid → q < length mid
+    pub lacking_put : (q : ℕ) → f x ≡ Rule q → IsUnproductive q → (step : Step) → step.rule ≡ q → rule < length mid → q < length mid
         → new ≡ slice_set mid rule (get_or mid rule [] ++ step ∷ [])
         → Puts (λ a b. (a ≡ rule) × IsLackingIn g (map f (take n xs)) b) old mid → Puts (λ a b. (a ≡ rule) × IsLackingIn g (map f (take (n + 1) xs)) b) old new
     lacking_put q at none step to within to_within put before = more_lacking f xs n x lt is rule (λ b. b ≡ step.rule) next known old mid new before
         (puts_one mid new rule step within (subst (λ k. k < length mid) (sym to) to_within) put)
       where
-        next : (b : ℕ) → b ≡ step.rule → (f x ≡ Rule b) × Lacks b
-        next b e = let same : q ≡ b = sym to ∙ sym e in (at ∙ ap Rule same, subst Lacks same none)
+        next : (b : ℕ) → b ≡ step.rule → (f x ≡ Rule b) × IsUnproductive b
+        next b e = let same : q ≡ b = sym to ∙ sym e in (at ∙ ap Rule same, subst IsUnproductive same none)
 
-        known : (b : ℕ) → f x ≡ Rule b → Lacks b → b ≡ step.rule
-        known b here lacks = sym (same_rule (sym at ∙ here)) ∙ sym to
+        known : (b : ℕ) → f x ≡ Rule b → IsUnproductive b → b ≡ step.rule
+        known b here needed_none = sym (same_rule (sym at ∙ here)) ∙ sym to
           where
             same_rule : Rule q ≡ Rule b → q ≡ b
             same_rule e = cc
 
     -- the next one isn't lacking
-    pub lacking_left_out : ((q : ℕ) → f x ≡ Rule q → Lacks q → ⊥) → new ≡ mid
+    pub lacking_left_out : ((q : ℕ) → f x ≡ Rule q → IsUnproductive q → ⊥) → new ≡ mid
         → Puts (λ a b. (a ≡ rule) × IsLackingIn g (map f (take n xs)) b) old mid → Puts (λ a b. (a ≡ rule) × IsLackingIn g (map f (take (n + 1) xs)) b) old new
     lacking_left_out not same before = more_lacking f xs n x lt is rule (λ b. ⊥) (λ b h. absurd h) not old mid new before
         (subst (Puts (λ a b. (a ≡ rule) × ⊥) mid) (sym same) (puts_none (λ a b. (a ≡ rule) × ⊥) mid (λ a b h. h.1)))
 
   abbrev IsBelow : ℕ → ℕ → ℕ → ℕ → Type 0
-  IsBelow rules productions a b = ((a < rules) × Lacks a × (b ≡ a)) ⊎ ((p : ℕ) × (p < productions) × NeedsBy g p a b)
+  IsBelow rules productions a b = ((a < rules) × IsUnproductive a × (b ≡ a)) ⊎ ((p : ℕ) × (p < productions) × NeedsBy g p a b)
 
   needs_more : (rules productions rules' productions' : ℕ) (Put : ℕ → ℕ → Type 0) → ((a b : ℕ) → IsBelow rules productions a b ⊎ Put a b → IsBelow rules' productions' a b)
       → ((a b : ℕ) → IsBelow rules' productions' a b → IsBelow rules productions a b ⊎ Put a b) → (old new : List (List Step))
@@ -195,7 +195,7 @@ module _ (g : Numbered) where
       ]
 
   -- the step of one more rule to itself, if it is unproductive
-  one_more_rule : (rule : ℕ) (Put : ℕ → ℕ → Type 0) → ((a b : ℕ) → Put a b → (a ≡ rule) × Lacks a × (b ≡ a)) → ((a b : ℕ) → (a ≡ rule) × Lacks a × (b ≡ a) → Put a b)
+  one_more_rule : (rule : ℕ) (Put : ℕ → ℕ → Type 0) → ((a b : ℕ) → Put a b → (a ≡ rule) × IsUnproductive a × (b ≡ a)) → ((a b : ℕ) → (a ≡ rule) × IsUnproductive a × (b ≡ a) → Put a b)
       → (old new : List (List Step)) → AreNeedsBelow g rule 0 old → Puts Put old new → AreNeedsBelow g (rule + 1) 0 new
   one_more_rule rule Put known as_put = needs_more rule 0 (rule + 1) 0 Put to from
     where
@@ -211,10 +211,10 @@ module _ (g : Numbered) where
       ]
       from a b (inr (q, lt, by)) = absurd (omega (arith, lt))
 
-  pub rule_put : (rule k : ℕ) → k ≡ rule → Lacks k → (old new : List (List Step)) (step : Step) → step.rule ≡ rule → rule < length old
+  pub rule_put : (rule k : ℕ) → k ≡ rule → IsUnproductive k → (old new : List (List Step)) (step : Step) → step.rule ≡ rule → rule < length old
       → new ≡ slice_set old rule (get_or old rule [] ++ step ∷ []) → AreNeedsBelow g rule 0 old → AreNeedsBelow g (rule + 1) 0 new
   rule_put rule k same none old new step to within put before = one_more_rule rule (λ a b. (a ≡ rule) × (b ≡ step.rule))
-      (λ a b h. (h.0, subst Lacks (same ∙ sym h.0) none, h.1 ∙ to ∙ sym h.0)) (λ a b h. (h.0, h.2 ∙ h.0 ∙ sym to)) old new before
+      (λ a b h. (h.0, subst IsUnproductive (same ∙ sym h.0) none, h.1 ∙ to ∙ sym h.0)) (λ a b h. (h.0, h.2 ∙ h.0 ∙ sym to)) old new before
       (puts_one old new rule step within (subst (λ n. n < length old) (sym to) within) put)
 
   pub rule_left_out : (rule k : ℕ) → k ≡ rule → (w : List ℕ) × Sentence (HasProduction (core g)) k w → (old new : List (List Step)) → new ≡ old
@@ -231,7 +231,7 @@ module _ (g : Numbered) where
     are = λ a b lt. ((λ h. to a b ((below.are a b).0 h)), (λ h. (below.are a b).1 (from a b lt h)));
   }
     where
-      to : (a b : ℕ) → IsBelow (length g.rules) (length g.productions) a b → Lacks a × ((b ≡ a) ⊎ Needs (HasProduction (core g)) a b)
+      to : (a b : ℕ) → IsBelow (length g.rules) (length g.productions) a b → IsUnproductive a × ((b ≡ a) ⊎ Needs (HasProduction (core g)) a b)
       to a b (inl (lt, none, same)) = (none, inl same)
       to a b (inr (p, lt, by)) = (
         by.none,
@@ -240,11 +240,11 @@ module _ (g : Numbered) where
           symbols = (nth_production (core g) p).symbols;
           has = subst (λ r. HasProduction (core g) r (nth_production (core g) p).symbols) by.owner (has_read g p lt);
           holds = by.needs.holds;
-          lacks = by.needs.lacks;
+          needed_none = by.needs.needed_none;
         }),
       )
 
-      from : (a b : ℕ) → a < length g.rules → Lacks a × ((b ≡ a) ⊎ Needs (HasProduction (core g)) a b) → IsBelow (length g.rules) (length g.productions) a b
+      from : (a b : ℕ) → a < length g.rules → IsUnproductive a × ((b ≡ a) ⊎ Needs (HasProduction (core g)) a b) → IsBelow (length g.rules) (length g.productions) a b
       from a b lt (none, inl same) = inl (lt, none, same)
       from a b lt (none, inr needs) =
           let (p, there, at) = needs.has in
@@ -255,6 +255,6 @@ module _ (g : Numbered) where
             record {
               owner = ap (λ (x : Production). x.rule) production;
               none = none;
-              needs = record { holds = subst (λ (x : Production). Contains x.symbols (Rule b)) (sym production) needs.holds; lacks = needs.lacks };
+              needs = record { holds = subst (λ (x : Production). Contains x.symbols (Rule b)) (sym production) needs.holds; needed_none = needs.needed_none };
             },
           )

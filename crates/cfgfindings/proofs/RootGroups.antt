@@ -46,8 +46,8 @@ module _ (g : Numbered) (steps : List (List Step)) (are : AreNeeds g steps) wher
   abbrev Depends : ℕ → ℕ → Type 0
   Depends = DependsOn (HasProduction (core g))
 
-  abbrev Lacks : ℕ → Type 0
-  Lacks = HasNone (HasProduction (core g))
+  abbrev IsUnproductive : ℕ → Type 0
+  IsUnproductive = HasNone (HasProduction (core g))
 
   depends_itself : (a : ℕ) → Depends a a
   depends_itself a = seed refl
@@ -57,9 +57,9 @@ module _ (g : Numbered) (steps : List (List Step)) (are : AreNeeds g steps) wher
   depends_through there (led on needs) = led (depends_through there on) needs
 
   -- what an unproductive rule depends on is unproductive
-  lacks_too : {a b : ℕ} → Lacks a → Depends a b → Lacks b
-  lacks_too none (seed same) = subst Lacks (sym same) none
-  lacks_too none (led there needs) = needs.lacks
+  unproductive_too : {a b : ℕ} → IsUnproductive a → Depends a b → IsUnproductive b
+  unproductive_too none (seed same) = subst IsUnproductive (sym same) none
+  unproductive_too none (led there needs) = needs.needed_none
 
   -- a rule depends on those that its steps lead to
   depends_on_next : (a b : ℕ) → a < length g.rules → StepsTo steps a b → Depends a b
@@ -71,10 +71,10 @@ module _ (g : Numbered) (steps : List (List Step)) (are : AreNeeds g steps) wher
       (depends_on_next a step.rule (subst (λ n. a < n) are.entries lt) (record { step = step; has = l.0; to = refl }))
       (depends_by step.rule path b (are.within a step l.0) l.1)
 
-  lacks_by : (a b : ℕ) → a < length steps → LeadsTo (HasStep steps) a b → Lacks a
-  lacks_by a b lt l = go l.path l.some l.leads
+  unproductive_by : (a b : ℕ) → a < length steps → LeadsTo (HasStep steps) a b → IsUnproductive a
+  unproductive_by a b lt l = go l.path l.some l.leads
     where
-      go : (path : List Step) → 0 < length path → Leads (HasStep steps) a path b → Lacks a
+      go : (path : List Step) → 0 < length path → Leads (HasStep steps) a path b → IsUnproductive a
       go [] some leads = absurd (omega (arith, some))
       go (step ∷ path) some leads = ((are.are a step.rule (subst (λ n. a < n) are.entries lt)).0 (record { step = step; has = leads.0; to = refl })).0
 
@@ -82,7 +82,7 @@ module _ (g : Numbered) (steps : List (List Step)) (are : AreNeeds g steps) wher
   by_one a b to = record { path = to.step ∷ []; some = omega arith; leads = (to.has, to.to) }
 
   -- steps lead from an unproductive rule to those that it depends on
-  leads_on : {a b : ℕ} → a < length steps → Lacks a → Depends a b → LeadsTo (HasStep steps) a b
+  leads_on : {a b : ℕ} → a < length steps → IsUnproductive a → Depends a b → LeadsTo (HasStep steps) a b
   leads_on {a = a} lt none (seed same) = subst (LeadsTo (HasStep steps) a) (sym same) (by_one a a ((are.are a a (subst (λ n. a < n) are.entries lt)).1 (none, inl refl)))
   leads_on {a = a} lt none (led {a = x} {b = b} there needs) =
       let on = leads_on lt none there in
@@ -94,7 +94,7 @@ module _ (g : Numbered) (steps : List (List Step)) (are : AreNeeds g steps) wher
     -- a rule of the group: it depends on the first one, and the first one on it
     record IsMember (q : ℕ) : Type 0 where
       inside : q < length steps
-      none : Lacks q
+      none : IsUnproductive q
       there : Depends first q
       back : Depends q first
 
@@ -104,16 +104,16 @@ module _ (g : Numbered) (steps : List (List Step)) (are : AreNeeds g steps) wher
         let inside = leads_to_within steps are.within first q on.there in
         record {
           inside = inside;
-          none = lacks_by q first inside on.back;
+          none = unproductive_by q first inside on.back;
           there = depends_by first on.there.path q lt on.there.leads;
           back = depends_by q on.back.path first inside on.back.leads;
         }
 
     is_member : (q : ℕ) → Depends first q → Depends q first → Contains rules q
     is_member q there back =
-        let none = lacks_by first r lt ((group.all r).0 has).there in
+        let none = unproductive_by first r lt ((group.all r).0 has).there in
         let on = leads_on lt none there in
-        (group.all q).1 (record { there = on; back = leads_on (leads_to_within steps are.within first q on) (lacks_too none there) back })
+        (group.all q).1 (record { there = on; back = leads_on (leads_to_within steps are.within first q on) (unproductive_too none there) back })
 
     -- if no step leads out of the group, its rules are roots
     pub closed_group : IsClosed steps rules → AreGroupOf g r rules

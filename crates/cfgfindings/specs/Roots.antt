@@ -11,7 +11,7 @@ module _ (P : ℕ → List Sym → Type 0) where
     pub symbols : List Sym
     pub has : P a symbols
     pub holds : Contains symbols (Rule b)
-    pub lacks : HasNone P b
+    pub needed_none : HasNone P b
 
   -- a rule depends on itself, and on what it needs in any number of steps
   abbrev pub DependsOn : ℕ → ℕ → Type 0

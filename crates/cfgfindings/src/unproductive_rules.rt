@@ -6,7 +6,8 @@ ghost use Rattle.std.specs.List.{filter};
 ghost use Rattle.cfgrammar.specs.Accessors.{rule_part};
 ghost use Rattle.cfgrammar.specs.TreeView.{syntax};
 ghost use Rattle.cfgfindings.specs.Findings.{AreOthers, IsFirstRoot, IsStartRule, IsUnproductiveRule};
-ghost use Rattle.cfgfindings.specs.Findings.{ReportsBelow, ReportsNoSentence, ReportsUnusableRule, rules_added as added};
+ghost use Rattle.cfgfindings.specs.Findings.{ReportsBelow, ReportsNoSentence, ReportsUnusableRule};
+ghost use Rattle.cfgfindings.specs.Findings.{rules_added as added};
 ghost use Rattle.cfgfindings.specs.Inner.Roots.{AreGroupOf};
 ghost use Rattle.cfgfindings.specs.Shown.{ShownFinding, rule_span};
 

@@ -1,6 +1,7 @@
 //! The nearest of some names.
 
-ghost use Rattle.std.specs.Prelude.{◌≡◌, ◌+◌, ◌^◌, ◌<◌, ◌↔◌, All, None, Some, false, if◌then◌else◌, length, map, option_map, IfOk};
+ghost use Rattle.std.specs.Prelude.{◌≡◌, ◌+◌, ◌^◌, ◌<◌, ◌↔◌, All, None, Some, false, if◌then◌else◌, length, map};
+ghost use Rattle.std.specs.Prelude.{IfOk, option_map};
 ghost use Rattle.std.specs.Str.{chars};
 ghost use Rattle.cfgnear.specs.Nearest.{distance, is_closer, is_near, most_edits, nearest};
 

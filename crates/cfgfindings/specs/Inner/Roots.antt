@@ -27,7 +27,7 @@ module _ (g : Numbered) where
   -- the rule is unproductive, and among the symbols
   pub record IsLackingIn (symbols : List Sym) (b : ℕ) : Type 0 where
     pub holds : Contains symbols (Rule b)
-    pub lacks : HasNone (HasProduction (core g)) b
+    pub needed_none : HasNone (HasProduction (core g)) b
 
   -- by this production rule a needs rule b
   pub record NeedsBy (p a b : ℕ) : Type 0 where
