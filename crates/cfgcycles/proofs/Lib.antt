@@ -2,6 +2,7 @@ pub mod EmptyPositions
 pub mod Ending
 pub mod Finding
 pub mod Forgetting
+pub mod InOrder
 pub mod Layers
 pub mod Members
 pub mod Nullable

@@ -10,7 +10,7 @@ use Rattle.cfganalysis.specs.Firsts.{AreFirsts, FirstSets}
 use Rattle.cfgcycles.specs.declared.step_paths.Step.{Step}
 use Rattle.lemmas.proofs.Contained.{contains_none}
 use Rattle.lemmas.proofs.Elements.{get_or-replicate_default}
-use Rattle.cfgcycles.specs.StepLists.{HasStep}
+use Rattle.cfgcycles.specs.StepLists.{AreAllInOrder, HasStep}
 use Rattle.cfgcycles.specs.UnitSteps.{AreSteps, IsStep}
 use Rattle.cfgcycles.specs.Inner.Putting.{AreNullableBetween, ArePut}
 use Rattle.cfgcycles.proofs.Putting.{put_as, put_none, put_then}
@@ -141,10 +141,18 @@ more_steps g p old mid new w v = put_as _ _ old new
     ])
     (put_then _ _ old mid new w v)
 
+pub earlier : (g : Grammar) (rules p : ℕ) (steps : List (List Step)) → ArePut (λ a step. IsStep g a step × (step.production < p)) (replicate rules []) steps
+    → (a : ℕ) (step : Step) → HasStep steps a step → step.production < p
+earlier g rules p steps w a step h = elim ((w.steps a step).0 h) [
+  | inl none ↦ absurd (contains_none step (subst (λ l. Contains l step) (get_or-replicate_default rules a []) none))
+  | inr k ↦ k.1
+]
+
 -- and by all of them
 pub all_steps : (g : Grammar) → IsGrammar g → (p : ℕ) → length g.productions ≤ p → (steps : List (List Step))
-    → ArePut (λ a step. IsStep g a step × (step.production < p)) (replicate g.rules []) steps → AreSteps g steps
-all_steps g is p end steps w = record {
+    → ArePut (λ a step. IsStep g a step × (step.production < p)) (replicate g.rules []) steps → AreAllInOrder steps → AreSteps g steps
+all_steps g is p end steps w order = record {
+  order = order;
   rules = long;
   within = λ a step h. subst (λ n. step.rule < n) (sym long) (within a step (to a step h));
   all = λ a step. (to a step, (λ h. let there = h.there in (w.steps a step).1 (inr (h, omega (arith, there, end)))));

@@ -3,7 +3,7 @@ use Rattle.std.specs.Prelude.{◌≡◌, ℕ, ◌+◌, ◌<◌, ◌↔◌, List,
 use Rattle.derivation.specs.Grammar.{Rule, Grammar, HasProduction}
 use Rattle.derivation.specs.Derivation.{Derives}
 use Rattle.cfgtables.specs.Openings.{nth_production}
-use Rattle.cfgcycles.specs.StepLists.{AreWithin, HasStep}
+use Rattle.cfgcycles.specs.StepLists.{AreAllInOrder, AreWithin, HasStep}
 use Rattle.cfgcycles.specs.declared.step_paths.Step.{Step}
 
 -- The step's production is a production of the rule, and has the step's rule at its index. The symbols before and after that derive the
@@ -15,8 +15,9 @@ pub record IsStep (g : Grammar) (rule : ℕ) (step : Step) : Type 0 where
   pub prefix : Derives (HasProduction g) (take step.index (nth_production g step.production).symbols) []
   pub back : Derives (HasProduction g) (drop (step.index + 1) (nth_production g step.production).symbols) []
 
--- a list for each rule of the grammar, which has exactly the steps of the rule
+-- a list for each rule of the grammar, which has exactly the steps of the rule, each once, in order
 pub record AreSteps (g : Grammar) (steps : List (List Step)) : Type 0 where
   pub rules : length steps ≡ g.rules
   pub within : AreWithin steps
   pub all : (rule : ℕ) (step : Step) → HasStep steps rule step ↔ IsStep g rule step
+  pub order : AreAllInOrder steps

@@ -4,7 +4,9 @@ ghost use Rattle.std.specs.Prelude.{◌≡◌, ◌<◌, ◌≤◌, ◌↔◌, �
 ghost use Rattle.derivation.specs.Grammar.{Rule};
 ghost use Rattle.cfgtables.specs.NumberedSymbols.{sym_of};
 ghost use Rattle.cfganalysis.specs.Firsts.{AreFirsts};
+ghost use Rattle.cfgcycles.specs.StepLists.{AreAllInOrder, HasStep, IsEarlier};
 ghost use Rattle.cfgcycles.specs.UnitSteps.{AreSteps, IsStep};
+ghost use Rattle.cfgcycles.specs.declared.step_paths.Step.{Step};
 ghost use Rattle.cfgcycles.specs.Inner.Putting.{AreNullableBetween, ArePut, is_empty};
 
 use crate::step_paths::{Step, Steps};
@@ -14,7 +16,7 @@ use cfgtables::Tables;
 use std::alloc::{AllocError, Global};
 
 /// The unit steps of a grammar: from rule to rule, by productions in which all other symbols are nullable. `firsts` has
-/// the grammar's FIRST sets.
+/// the grammar's FIRST sets. Each step is there once; those of a rule are in order of productions, and of indices.
 ///
 /// # Errors
 ///
@@ -45,8 +47,10 @@ fn put_steps<S: Storage, T: Tables<S>>(
     requires firsts { AreFirsts (T.grammar tables.now) firsts.now }
     requires production { production < length (T.grammar tables.now).productions }
     requires rules { length steps.old ≡ (T.grammar tables.now).rules }
-    ensures { OnOk result (ArePut (λ a step. IsStep (T.grammar tables.now) a step × (step.production ≡ production))
+    ensures put { OnOk result (ArePut (λ a step. IsStep (T.grammar tables.now) a step × (step.production ≡ production))
         steps.old steps.new) }
+    ensures order { OnOk result (AreAllInOrder steps.old
+        → ((a : ℕ) (step : Step) → HasStep steps.old a step → step.production < production) → AreAllInOrder steps.new) }
 {
     tables.invariant_holds();
     let pidx = PIdx(to_storage(production));
@@ -72,8 +76,10 @@ fn put_step<S: Storage>(
     index: usize,
 ) -> Result<(), AllocError>
     requires { rule < length steps.old }
-    ensures { OnOk result (ArePut (λ a step. (a ≡ rule) × (Rule step.rule ≡ sym_of S.number symbol)
+    ensures put { OnOk result (ArePut (λ a step. (a ≡ rule) × (Rule step.rule ≡ sym_of S.number symbol)
         × (step.production ≡ production) × (step.index ≡ index)) steps.old steps.new) }
+    ensures order { OnOk result (AreAllInOrder steps.old
+        → ((step : Step) → HasStep steps.old rule step → IsEarlier production index step) → AreAllInOrder steps.new) }
 {
     match symbol {
         Symbol::Rule(next) => {

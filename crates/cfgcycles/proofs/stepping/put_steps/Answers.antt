@@ -1,8 +1,9 @@
-use Rattle.std.proofs.Common.{◌≡◌, ℕ, ◌+◌, ◌<◌, ◌≤◌, ◌↔◌, true, arith, map, length, refl, sym, subst, ap, true≢false, ◌∙◌}
+use Rattle.std.proofs.Common.{◌≡◌, ℕ, ◌+◌, ◌<◌, ◌≤◌, ◌↔◌, inl, inr, true, arith, map, length, refl, sym, subst, ap, true≢false, ◌∙◌}
 use Rattle.std.proofs.lemmas.List.{length-map}
 use Rattle.cfgtables.specs.Openings.{nth_production}
 use Rattle.cfgtables.specs.NumberedSymbols.{sym_of}
 use Rattle.cfgcycles.specs.Inner.Putting.{AreNullableBetween, ArePut, is_empty}
+use Rattle.cfgcycles.specs.StepLists.{AreAllInOrder}
 use Rattle.cfgcycles.proofs.EmptyPositions.{prefix_gone, prefix_kept, symbol_at}
 use Rattle.cfgcycles.proofs.Positions.{all_positions, IsBefore, no_position, shown_left, shown_taken}
 use Rattle.cfgcycles.proofs.stepping.put_steps.Goals as goal
@@ -10,7 +11,7 @@ use Rattle.cfgcycles.proofs.stepping.put_steps.Goals.{then-prefix+then-after-ind
 
 pub loop-index-init : goal.loop-index-init
 loop-index-init g c =
-    (((λ h k from lt. absurd (omega (arith, lt))), (λ h. refl)), no_position _ _ _)
+    (((λ h k from lt. absurd (omega (arith, lt))), (λ h. refl)), no_position _ _ _, (λ order fresh. order))
 
 pub loop-index-preserved : goal.loop-index-preserved
 loop-index-preserved g c =
@@ -40,7 +41,7 @@ loop-index-preserved g c =
         | then-prefix+then-after-index+in_ok-put_step w ↦ subst (ArePut (IsBefore grammar c.args.production (i + 1)) old) (sym w.steps-is)
             (shown_taken grammar x c.requires.firsts c.args.production c.requires.production shown same c.from-rule.result owner i within prefix
             c.nullable_from-after.result c.loop-index.invariant.0 from (sym_of number c.index-symbols-index.result) at w.if-prefix.true
-            (omega (arith, w.if-after-index.true)) old mid _ c.loop-index.invariant.1 w.in_ok-put_step.ensures)
+            (omega (arith, w.if-after-index.true)) old mid _ c.loop-index.invariant.1 w.in_ok-put_step.ensures.put)
         | else-prefix w ↦ subst (ArePut (IsBefore grammar c.args.production (i + 1)) old) (sym w.steps-is) (left
             (λ h. elim w.else-prefix.branch [
               | else-prefix-via-then-prefix+else-after-index w' ↦ let le = h.1 in omega (arith, le, w'.if-after-index.false)
@@ -48,10 +49,18 @@ loop-index-preserved g c =
             ])
             old mid c.loop-index.invariant.1)
       ],
+      λ order fresh. elim c.if-prefix.branch [
+        | then-prefix+then-after-index+in_ok-put_step w ↦ subst AreAllInOrder (sym w.steps-is)
+            (w.in_ok-put_step.ensures.order (c.loop-index.invariant.2 order fresh) (λ step h. elim ((c.loop-index.invariant.1.steps c.from-rule.result step).0 h) [
+              | inl k ↦ inl (fresh c.from-rule.result step k)
+              | inr k ↦ inr (k.1, k.2)
+            ]))
+        | else-prefix w ↦ subst AreAllInOrder (sym w.steps-is) (c.loop-index.invariant.2 order fresh)
+      ],
     )
 
-pub returns : goal.returns
-returns g c =
+pub returns-clause-put : goal.returns-clause-put
+returns-clause-put g c =
     let number = g.S.Storage.number in
     let grammar = g.T.Tables.grammar c.args.tables.now in
     let symbols = c.prod-symbols.result.now in
@@ -59,3 +68,6 @@ returns g c =
     let long = sym (ap length same) ∙ length-map symbols (sym_of number) in
     all_positions grammar c.args.firsts.now c.requires.firsts c.args.production c.requires.production c.loop-index.index
     (omega (arith, long, c.loop-index-test.false, c.loop-index.auto.index-end)) _ _ c.loop-index.invariant.1
+
+pub returns-clause-order : goal.returns-clause-order
+returns-clause-order g c = c.loop-index.invariant.2
