@@ -17,7 +17,7 @@ IsEarlier production index step = (step.production < production) ⊎ ((step.prod
 -- each step is earlier than those after it, so the list has no step twice
 abbrev pub AreInOrder : List Step → Type 0
 AreInOrder [] = ⊤
-AreInOrder (step ∷ path) = ((other : Step) → Contains path other → IsEarlier other.production other.index step) × AreInOrder path
+AreInOrder (step ∷ rest) = ((other : Step) → Contains rest other → IsEarlier other.production other.index step) × AreInOrder rest
 
 -- so are those of each rule
 abbrev pub AreAllInOrder : List (List Step) → Type 0
