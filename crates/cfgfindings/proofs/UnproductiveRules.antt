@@ -1,5 +1,5 @@
 -- What is reported of unproductive rules, by their groups.
-use Rattle.std.proofs.Common.{◌≡◌, ◌&&◌, ◌+◌, ◌<◌, ◌≤◌, inl, inr, ℕ, Bool, true, false, List, All, Contains, MatchBool, get_or, length, leb, eqb, not, take, arith, refl, sym, subst, ◌∙◌}
+use Rattle.std.proofs.Common.{◌≡◌, ◌&&◌, ◌+◌, ◌<◌, ◌≤◌, inl, inr, ℕ, Bool, true, false, List, All, Contains, MatchBool, Some, get_or, length, leb, eqb, not, take, arith, refl, sym, subst, ◌∙◌}
 use Rattle.std.specs.List.{filter}
 use Rattle.std.proofs.lemmas.Bool.{and_from, and_parts, eqb-false, eqb-true, le-leb, leb-true, ne_eqb, not-true, not_from_false}
 use Rattle.std.proofs.lemmas.List.{get_or_default}
@@ -7,10 +7,13 @@ use Rattle.std.proofs.lemmas.List.Elements.{All-contains, Contains-get_or}
 use Rattle.std.proofs.lemmas.List.Kept.{IsStrictlyIncreasing-filter}
 use Rattle.std.specs.List.Sorted.{IsStrictlyIncreasing}
 use Rattle.search.specs.Reachable.{seed}
+use Rattle.cfgrammar.proofs.Shows.{rule_named}
 use Rattle.cfgrammar.proofs.Taken.{contains_taken}
+use Rattle.cfgrammar.specs.Accessors.{rule_part}
 use Rattle.cfgrammar.specs.Grammar.{HasProduction}
 use Rattle.cfgrammar.specs.Numbered.{Numbered, core}
 use Rattle.cfgrammar.specs.Syntax.{Syntax}
+use Rattle.cfgrammar.specs.Unused.{IsStart, RuleName}
 use Rattle.cfgfindings.specs.Findings.{AreOthers, IsFirstRoot, IsStartRule, rules_added}
 use Rattle.cfgfindings.specs.Roots.{IsRoot}
 use Rattle.cfgfindings.specs.Inner.Roots.{AreGroupOf}
@@ -75,6 +78,12 @@ module _ (g : Numbered) (r : ℕ) (group : List ℕ) (are : AreGroupOf g r group
           first = λ q own depends. (each q ((are.all q).1 (root, depends)) own).0;
           no_start = λ q own depends. (each q ((are.all q).1 (root, depends)) own).1;
         }
+
+-- whether a rule is the start rule, by its name
+pub starts_as : (s : Syntax) (g : Numbered) (q k : ℕ) → k ≡ q → (name : List ℕ) → rule_part (λ rule. rule.name) g k ≡ Some name
+    → (starts : Bool) → MatchBool starts (IsStart s (RuleName name)) (IsStart s (RuleName name) → ⊥) → MatchBool starts (IsStartRule s g q) (IsStartRule s g q → ⊥)
+starts_as s g q k same name named starts = subst (λ n. MatchBool starts (IsStart s (RuleName n)) (IsStart s (RuleName n) → ⊥))
+    (sym (rule_named g q name (subst (λ r. rule_part (λ rule. rule.name) g r ≡ Some name) same named)))
 
 -- what is true of the first rules, and of one more
 pub more_others : (P : ℕ → Type 0) (xs : List ℕ) (n x : ℕ) → n < length xs → x ≡ get_or xs n x → ((q : ℕ) → Contains (take n xs) q → P q) → P x

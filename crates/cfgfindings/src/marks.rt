@@ -2,14 +2,14 @@
 
 ghost use Rattle.std.specs.Prelude.{◌≡◌, [], ◌∷◌, length, map, IfOk};
 ghost use Rattle.std.specs.List.{flat_map};
-ghost use Rattle.cfgrammar.specs.SyntaxView.{production_view, symbol_view};
+ghost use Rattle.cfgrammar.specs.SyntaxView.{symbol_view};
 ghost use Rattle.cfgrammar.specs.TreeView.{syntax};
 ghost use Rattle.cfgfindings.specs.Findings.{IsContained, IsRequested};
-ghost use Rattle.cfgfindings.specs.Inner.Marks.{AreMarked, Marks, requested_names, rule_keys, rule_names};
+ghost use Rattle.cfgfindings.specs.Inner.Marks.{AreMarked, Marks, rule_keys, rule_names};
 
 use crate::names::token_index;
 use cfgrammar::Vob;
-use cfgrammar::yacc::ast::{GrammarAST, Production, Symbol};
+use cfgrammar::yacc::ast::{GrammarAST, Symbol};
 use std::alloc::{AllocError, Global};
 
 /// For each rule, whether a production contains it.
@@ -30,17 +30,9 @@ fn mark_rules(ast: &GrammarAST, contained: &mut Vob, symbols: &[Symbol])
         contained.old contained.new }
 {
     for symbol in symbols {
-        mark_symbol(ast, contained, symbol);
-    }
-}
-
-/// Marks a rule; does nothing for a token.
-fn mark_symbol(ast: &GrammarAST, contained: &mut Vob, symbol: &Symbol)
-    requires { length contained.old ≡ length (rule_keys (syntax ast.now)) }
-    ensures { Marks (rule_keys (syntax ast.now)) (rule_names (symbol_view symbol.now)) contained.old contained.new }
-{
-    if let Symbol::Rule(name, _) = symbol {
-        mark_rule(ast, contained, name);
+        if let Symbol::Rule(name, _) = symbol {
+            mark_rule(ast, contained, name);
+        }
     }
 }
 
@@ -60,20 +52,11 @@ pub(crate) fn requested_tokens(alloc: Global, ast: &GrammarAST) -> Result<Vob, A
 {
     let mut requested = Vob::from_elem(alloc, false, ast.tokens().len())?;
     for production in ast.prods() {
-        mark_requested(ast, &mut requested, production);
+        if let Some(name) = &production.precedence {
+            mark_token(ast, &mut requested, name);
+        }
     }
     Ok(requested)
-}
-
-/// Marks the token that a production's `%prec` names.
-fn mark_requested(ast: &GrammarAST, requested: &mut Vob, production: &Production)
-    requires { length requested.old ≡ length (syntax ast.now).tokens }
-    ensures { Marks (syntax ast.now).tokens (requested_names (production_view production.now))
-        requested.old requested.new }
-{
-    if let Some(name) = &production.precedence {
-        mark_token(ast, requested, name);
-    }
 }
 
 /// Marks the token with this name.

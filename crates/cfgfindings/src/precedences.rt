@@ -7,7 +7,6 @@ ghost use Rattle.cfgrammar.specs.SyntaxView.{production_view, span_entry, symbol
 ghost use Rattle.cfgrammar.specs.TreeView.{syntax};
 ghost use Rattle.cfgfindings.specs.Findings.{ReportsBelow, ReportsPrecedence, TakesPart};
 ghost use Rattle.cfgfindings.specs.Inner.Marks.{AreMarked, Marks, precedence_keys, production_names, token_names};
-ghost use Rattle.cfgfindings.specs.Shown.{unused_precedence};
 
 use crate::finding::{Finding, FindingKind};
 use crate::reporter::{Reporter, push_reported};
@@ -59,21 +58,14 @@ impl Reporter for Idle<'_> {
         if takes_part {
             return Ok(None);
         }
-        match self.ast.precs().get_index(number) {
-            Some((name, (_, span))) => Ok(Some(unused_precedence(alloc, name, *span)?)),
-            None => Ok(None),
-        }
+        let Some((name, (_, span))) = self.ast.precs().get_index(number) else {
+            return Ok(None);
+        };
+        let text = format!(in alloc;
+            "Unused precedence: token '{name}' is not a symbol of any production, and none takes its precedence from it"
+        )?;
+        Ok(Some(Finding::at(alloc, FindingKind::UnusedPrecedence, *span, text)?))
     }
-}
-
-/// The finding that the precedence of the token with this name, which is given here, is unused.
-fn unused_precedence(alloc: Global, name: &str, span: Span) -> Result<Finding, AllocError>
-    ensures { IfOk result (λ x. x ≡ unused_precedence name.now span) }
-{
-    let text = format!(in alloc;
-        "Unused precedence: token '{name}' is not a symbol of any production, and none takes its precedence from it"
-    )?;
-    Finding::at(alloc, FindingKind::UnusedPrecedence, span, text)
 }
 
 /// For each token that is given a precedence, in order, whether it is used.
@@ -118,17 +110,9 @@ fn mark_symbols(ast: &GrammarAST, taking: &mut Vob, symbols: &[Symbol])
         taking.old taking.new }
 {
     for symbol in symbols {
-        mark_symbol(ast, taking, symbol);
-    }
-}
-
-/// Marks a token; does nothing for a rule.
-fn mark_symbol(ast: &GrammarAST, taking: &mut Vob, symbol: &Symbol)
-    requires { length taking.old ≡ length (syntax ast.now).tables.precedences }
-    ensures { Marks (precedence_keys (syntax ast.now)) (token_names (symbol_view symbol.now)) taking.old taking.new }
-{
-    if let Symbol::Token(name, _) = symbol {
-        mark(ast, taking, name);
+        if let Symbol::Token(name, _) = symbol {
+            mark(ast, taking, name);
+        }
     }
 }
 

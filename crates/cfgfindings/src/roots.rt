@@ -12,7 +12,6 @@ ghost use Rattle.cfgfindings.specs.Inner.Roots.{AllLeadTo, IsLackingIn, IsMarked
 use crate::sentences::Unproductive;
 use cfgrammar::laws::cyclic_rules_are_in_one_group;
 use cfgrammar::storage::to_storage;
-use cfgrammar::yacc::YaccGrammar;
 use cfgrammar::yacc::cycles::{CyclicGroup, Step, Steps, cyclic_groups};
 use cfgrammar::{PIdx, RIdx, Symbol};
 use std::alloc::{AllocError, Global};
@@ -59,13 +58,6 @@ impl<'a> Roots<'a> {
         ensures { result.now ≡ self.now }
     {
         self.unproductive
-    }
-
-    /// The grammar.
-    pub(crate) fn grammar(&self) -> &'a YaccGrammar<u32>
-        ensures { result.now ≡ self.now }
-    {
-        self.unproductive.grammar()
     }
 
     /// The group of the rule, in ascending order, if the rule is a root; otherwise no rules.

@@ -58,7 +58,8 @@ impl<'a> Unproductive<'a> {
     pub(crate) fn new(alloc: Global, grammar: &'a YaccGrammar<u32>) -> Result<Self, AllocError>
         ensures { IfOk result (λ x. x ≡ grammar.now) }
     {
-        let rules = rules_without(alloc, grammar)?;
+        let generator = grammar.sentence_generator(alloc, |_| 1)?;
+        let rules = rules_without(alloc, grammar, &generator)?;
         Ok(Unproductive { grammar, rules })
     }
 
@@ -113,39 +114,10 @@ impl<'a> Unproductive<'a> {
         }
         None
     }
-
-    /// The finding that a production of the file can't be used, if its rule is productive.
-    fn report_production(&self, alloc: Global, number: usize) -> Result<Option<Finding>, AllocError>
-        requires { number < self.now.start_production }
-        ensures { IfOk result (ReportsUnusable self.now number) }
-    {
-        let grammar = self.grammar;
-        usable_productions_hold_sentences();
-        let _start = grammar.start_prod();
-        let production = PIdx(to_storage(number));
-        if self.misses(grammar.prod_to_rule(production)) {
-            return Ok(None);
-        }
-        let Some(rule) = self.first_without(grammar.prod(production)) else {
-            return Ok(None);
-        };
-        let name = grammar.rule_name_str(rule);
-        let text = format!(in alloc; "Unusable production: rule '{name}' has no sentence")?;
-        let span = grammar.prod_span(production);
-        Ok(Some(Finding::at(alloc, FindingKind::UnusableProduction, span, text)?))
-    }
 }
 
-/// For each rule of the grammar, whether it is unproductive.
-fn rules_without(alloc: Global, grammar: &YaccGrammar<u32>) -> Result<Vec<bool>, AllocError>
-    ensures { IfOk result (λ misses. AreUnproductive grammar.now misses.items) }
-{
-    let generator = grammar.sentence_generator(alloc, |_| 1)?;
-    without_of(alloc, grammar, &generator)
-}
-
-/// What the generator says of each rule.
-fn without_of(
+/// For each rule of the grammar, whether it is unproductive, according to the generator.
+fn rules_without(
     alloc: Global,
     grammar: &YaccGrammar<u32>,
     generator: &SentenceGenerator<'_, u32>,
@@ -177,7 +149,7 @@ fn has_none(
     }
 }
 
-/// Reports the productions of a grammar that can't be used.
+/// Reports the productions of the file that can't be used although their rules are productive.
 #[derive(Drop)]
 struct Productions<'a>(&'a Unproductive<'a>);
 
@@ -189,6 +161,20 @@ impl<'a> Reporter for Productions<'a> {
     ghost reports = { λ x. ReportsUnusable x.0.now };
 
     fn report(&self, alloc: Global, number: usize) -> Result<Option<Finding>, AllocError> {
-        self.0.report_production(alloc, number)
+        let unproductive = self.0;
+        let grammar = unproductive.grammar();
+        usable_productions_hold_sentences();
+        let _start = grammar.start_prod();
+        let production = PIdx(to_storage(number));
+        if unproductive.misses(grammar.prod_to_rule(production)) {
+            return Ok(None);
+        }
+        let Some(rule) = unproductive.first_without(grammar.prod(production)) else {
+            return Ok(None);
+        };
+        let name = grammar.rule_name_str(rule);
+        let text = format!(in alloc; "Unusable production: rule '{name}' has no sentence")?;
+        let span = grammar.prod_span(production);
+        Ok(Some(Finding::at(alloc, FindingKind::UnusableProduction, span, text)?))
     }
 }

@@ -5,7 +5,7 @@ ghost use Rattle.std.specs.Prelude.{MatchBool, MatchOption, OnOk, nat_le, string
 ghost use Rattle.std.specs.List.{filter};
 ghost use Rattle.cfgrammar.specs.Accessors.{rule_part};
 ghost use Rattle.cfgrammar.specs.TreeView.{syntax};
-ghost use Rattle.cfgfindings.specs.Findings.{AreOthers, IsFirstRoot, IsStartRule, IsUnproductiveRule};
+ghost use Rattle.cfgfindings.specs.Findings.{AreOthers, IsFirstRoot, IsUnproductiveRule};
 ghost use Rattle.cfgfindings.specs.Findings.{ReportsBelow, ReportsNoSentence, ReportsUnusableRule};
 ghost use Rattle.cfgfindings.specs.Findings.{rules_added as added};
 ghost use Rattle.cfgfindings.specs.Inner.Roots.{AreGroupOf};
@@ -43,59 +43,6 @@ pub(crate) fn push_unproductive(
     push_reported(alloc, all, &UnusableRules { ast, roots }, count)
 }
 
-/// The finding for the group of roots of which the rule is the first, or for the rule if it is the start rule.
-fn no_sentence(
-    alloc: Global,
-    ast: &GrammarAST,
-    roots: &Roots<'_>,
-    number: usize,
-) -> Result<Option<Finding>, AllocError>
-    requires { number < length roots.now.rules }
-    ensures { IfOk result (ReportsNoSentence (syntax ast.now) roots.now number) }
-{
-    let grammar = roots.grammar();
-    let Some(name) = unproductive_name(roots.unproductive(), number) else {
-        return Ok(None);
-    };
-    let group = roots.group(number);
-    if is_start(ast, name) {
-        let text = format!(in alloc; "No sentence can be derived from the start rule '{name}'")?;
-        let kind = FindingKind::StartWithoutSentence;
-        return Ok(Some(with_others(alloc, grammar, kind, number, group, text)?));
-    }
-    if !is_first_root(grammar, ast, number, group) {
-        return Ok(None);
-    }
-    let text = format!(in alloc; "Rule '{name}' has no sentence")?;
-    let kind = FindingKind::NoSentence;
-    Ok(Some(with_others(alloc, grammar, kind, number, group, text)?))
-}
-
-/// The finding that the rule is unproductive, but no root.
-fn unusable_rule(
-    alloc: Global,
-    ast: &GrammarAST,
-    roots: &Roots<'_>,
-    number: usize,
-) -> Result<Option<Finding>, AllocError>
-    requires { number < length roots.now.rules }
-    ensures { IfOk result (ReportsUnusableRule (syntax ast.now) roots.now number) }
-{
-    let grammar = roots.grammar();
-    grammar.invariant_holds();
-    let Some(name) = unproductive_name(roots.unproductive(), number) else {
-        return Ok(None);
-    };
-    if is_start(ast, name) || !roots.group(number).is_empty() {
-        return Ok(None);
-    }
-    let text = format!(in alloc;
-        "Unusable rule '{name}': each of its productions has a rule without a sentence"
-    )?;
-    let span = grammar.rule_name_span(RIdx(to_storage(number)));
-    Ok(Some(Finding::at(alloc, FindingKind::UnusableRule, span, text)?))
-}
-
 /// The name of the rule, if it is an unproductive rule of the file.
 fn unproductive_name<'a>(unproductive: &'a Unproductive<'_>, number: usize) -> Option<&'a str>
     requires { number < length unproductive.now.rules }
@@ -123,21 +70,13 @@ fn is_first_root(grammar: &YaccGrammar<u32>, ast: &GrammarAST, rule: usize, grou
     let first = rules_added(grammar);
     grammar.invariant_holds();
     for other in group {
-        if first <= *other && (*other < rule || is_start_rule(grammar, ast, *other)) {
+        if first <= *other
+            && (*other < rule || is_start(ast, grammar.rule_name_str(RIdx(to_storage(*other)))))
+        {
             return false;
         }
     }
     !group.is_empty()
-}
-
-/// Whether the rule has the name of the file's start rule.
-fn is_start_rule(grammar: &YaccGrammar<u32>, ast: &GrammarAST, rule: usize) -> bool
-    requires { rule < length grammar.now.rules }
-    ensures { MatchBool result (IsStartRule (syntax ast.now) grammar.now rule)
-        (IsStartRule (syntax ast.now) grammar.now rule → ⊥) }
-{
-    grammar.invariant_holds();
-    is_start(ast, grammar.rule_name_str(RIdx(to_storage(rule))))
 }
 
 /// A finding at the rule, and at the other rules of the file in its group.
@@ -181,7 +120,7 @@ fn others_of(
         .collect(alloc)
 }
 
-/// Reports the groups of roots, and the unproductive start rule.
+/// Reports each group of roots, as the finding for its first rule, and the unproductive start rule.
 #[derive(Drop)]
 struct RulesWithout<'a, 'g> {
     ast: &'a GrammarAST,
@@ -198,7 +137,25 @@ impl<'a, 'g> Reporter for RulesWithout<'a, 'g> {
     ghost reports = { λ x. ReportsNoSentence (syntax x.ast.now) x.roots.now };
 
     fn report(&self, alloc: Global, number: usize) -> Result<Option<Finding>, AllocError> {
-        no_sentence(alloc, self.ast, self.roots, number)
+        let unproductive = self.roots.unproductive();
+        let grammar = unproductive.grammar();
+        let Some(name) = unproductive_name(unproductive, number) else {
+            return Ok(None);
+        };
+        let group = self.roots.group(number);
+        if is_start(self.ast, name) {
+            let text = format!(in alloc;
+                "No sentence can be derived from the start rule '{name}'"
+            )?;
+            let kind = FindingKind::StartWithoutSentence;
+            return Ok(Some(with_others(alloc, grammar, kind, number, group, text)?));
+        }
+        if !is_first_root(grammar, self.ast, number, group) {
+            return Ok(None);
+        }
+        let text = format!(in alloc; "Rule '{name}' has no sentence")?;
+        let kind = FindingKind::NoSentence;
+        Ok(Some(with_others(alloc, grammar, kind, number, group, text)?))
     }
 }
 
@@ -219,6 +176,19 @@ impl<'a, 'g> Reporter for UnusableRules<'a, 'g> {
     ghost reports = { λ x. ReportsUnusableRule (syntax x.ast.now) x.roots.now };
 
     fn report(&self, alloc: Global, number: usize) -> Result<Option<Finding>, AllocError> {
-        unusable_rule(alloc, self.ast, self.roots, number)
+        let unproductive = self.roots.unproductive();
+        let grammar = unproductive.grammar();
+        grammar.invariant_holds();
+        let Some(name) = unproductive_name(unproductive, number) else {
+            return Ok(None);
+        };
+        if is_start(self.ast, name) || !self.roots.group(number).is_empty() {
+            return Ok(None);
+        }
+        let text = format!(in alloc;
+            "Unusable rule '{name}': each of its productions has a rule without a sentence"
+        )?;
+        let span = grammar.rule_name_span(RIdx(to_storage(number)));
+        Ok(Some(Finding::at(alloc, FindingKind::UnusableRule, span, text)?))
     }
 }

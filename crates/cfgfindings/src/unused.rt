@@ -111,63 +111,6 @@ impl<'a> Usage<'a> {
         }
         true
     }
-
-    /// The finding that a rule is unused.
-    fn report_unused_rule(
-        &self,
-        alloc: Global,
-        number: usize,
-    ) -> Result<Option<Finding>, AllocError>
-        requires { number < length self.now.rules }
-        ensures { IfOk result (ReportsUnusedRule self.now number) }
-    {
-        let Some((name, rule)) = self.ast.rules().get_index(number) else {
-            return Ok(None);
-        };
-        if !self.unused[number] || self.shadowing(number, name).is_some() {
-            return Ok(None);
-        }
-        let text = format!(in alloc; "Unused rule '{name}'")?;
-        Ok(Some(Finding::at(alloc, FindingKind::UnusedRule, rule.name.1, text)?))
-    }
-
-    /// The finding that a token is unused.
-    fn report_unused_token(
-        &self,
-        alloc: Global,
-        number: usize,
-    ) -> Result<Option<Finding>, AllocError>
-        requires { number < length self.now.tokens }
-        ensures { IfOk result (ReportsUnusedToken self.now number) }
-    {
-        let is_unused = self.unused[self.ast.rules().len() + number];
-        if !is_unused || self.requested.get(number).unwrap_or(false) {
-            return Ok(None);
-        }
-        let Some(name) = self.ast.tokens().get_index(number) else {
-            return Ok(None);
-        };
-        let Some(span) = self.ast.spans().get(number) else {
-            return Ok(None);
-        };
-        let text = format!(in alloc; "Unused token '{name}'")?;
-        Ok(Some(Finding::at(alloc, FindingKind::UnusedToken, *span, text)?))
-    }
-
-    /// The finding that a rule is shadowed.
-    fn report_shadowed(&self, alloc: Global, number: usize) -> Result<Option<Finding>, AllocError>
-        requires { number < length self.now.rules }
-        ensures { IfOk result (ReportsShadowedRule self.now number) }
-    {
-        let Some((name, rule)) = self.ast.rules().get_index(number) else {
-            return Ok(None);
-        };
-        let Some(token) = self.shadowing(number, name) else {
-            return Ok(None);
-        };
-        let text = format!(in alloc; "Rule '{name}' is never used: its name is that of a token")?;
-        Ok(Some(Finding::at_both(alloc, FindingKind::ShadowedRule, rule.name.1, token, text)?))
-    }
 }
 
 /// Reports unused rules.
@@ -183,7 +126,15 @@ impl<'a> Reporter for UnusedRules<'a> {
     ghost reports = { λ x. ReportsUnusedRule x.0.now };
 
     fn report(&self, alloc: Global, number: usize) -> Result<Option<Finding>, AllocError> {
-        self.0.report_unused_rule(alloc, number)
+        let usage = self.0;
+        let Some((name, rule)) = usage.ast.rules().get_index(number) else {
+            return Ok(None);
+        };
+        if !usage.unused[number] || usage.shadowing(number, name).is_some() {
+            return Ok(None);
+        }
+        let text = format!(in alloc; "Unused rule '{name}'")?;
+        Ok(Some(Finding::at(alloc, FindingKind::UnusedRule, rule.name.1, text)?))
     }
 }
 
@@ -200,7 +151,19 @@ impl<'a> Reporter for UnusedTokens<'a> {
     ghost reports = { λ x. ReportsUnusedToken x.0.now };
 
     fn report(&self, alloc: Global, number: usize) -> Result<Option<Finding>, AllocError> {
-        self.0.report_unused_token(alloc, number)
+        let usage = self.0;
+        let is_unused = usage.unused[usage.ast.rules().len() + number];
+        if !is_unused || usage.requested.get(number).unwrap_or(false) {
+            return Ok(None);
+        }
+        let Some(name) = usage.ast.tokens().get_index(number) else {
+            return Ok(None);
+        };
+        let Some(span) = usage.ast.spans().get(number) else {
+            return Ok(None);
+        };
+        let text = format!(in alloc; "Unused token '{name}'")?;
+        Ok(Some(Finding::at(alloc, FindingKind::UnusedToken, *span, text)?))
     }
 }
 
@@ -217,6 +180,14 @@ impl<'a> Reporter for ShadowedRules<'a> {
     ghost reports = { λ x. ReportsShadowedRule x.0.now };
 
     fn report(&self, alloc: Global, number: usize) -> Result<Option<Finding>, AllocError> {
-        self.0.report_shadowed(alloc, number)
+        let usage = self.0;
+        let Some((name, rule)) = usage.ast.rules().get_index(number) else {
+            return Ok(None);
+        };
+        let Some(token) = usage.shadowing(number, name) else {
+            return Ok(None);
+        };
+        let text = format!(in alloc; "Rule '{name}' is never used: its name is that of a token")?;
+        Ok(Some(Finding::at_both(alloc, FindingKind::ShadowedRule, rule.name.1, token, text)?))
     }
 }

@@ -109,50 +109,9 @@ impl<'a> Reached<'a> {
         let node = node_of(self.unproductive.grammar(), symbol);
         self.by_any.is_reachable(node) && !self.by_usable.is_reachable(node)
     }
-
-    /// The finding that a productive rule is useless, if it is one of the file.
-    fn report_rule(&self, alloc: Global, number: usize) -> Result<Option<Finding>, AllocError>
-        requires { number < length self.now.rules }
-        ensures { IfOk result (ReportsUselessRule self.now number) }
-    {
-        let grammar = self.unproductive.grammar();
-        grammar.invariant_holds();
-        let rule = RIdx(to_storage(number));
-        if number < rules_added(grammar) || self.unproductive.misses(rule) {
-            return Ok(None);
-        }
-        if !self.is_useless(Symbol::Rule(rule)) {
-            return Ok(None);
-        }
-        let name = grammar.rule_name_str(rule);
-        let text = format!(in alloc; "Rule '{name}' is reached only through unusable productions")?;
-        let span = grammar.rule_name_span(rule);
-        Ok(Some(Finding::at(alloc, FindingKind::UselessSymbol, span, text)?))
-    }
-
-    /// The finding that a token is useless. The end token never is.
-    fn report_token(&self, alloc: Global, number: usize) -> Result<Option<Finding>, AllocError>
-        requires { number < length self.now.tokens }
-        ensures { IfOk result (ReportsUselessToken self.now number) }
-    {
-        let grammar = self.unproductive.grammar();
-        grammar.invariant_holds();
-        let token = TIdx(to_storage(number));
-        let Some(name) = grammar.token_name(token) else {
-            return Ok(None);
-        };
-        if !self.is_useless(Symbol::Token(token)) {
-            return Ok(None);
-        }
-        let text = format!(in alloc;
-            "Token '{name}' is reached only through unusable productions"
-        )?;
-        let span = grammar.token_span(token).unwrap_or(Span::new(0, 0));
-        Ok(Some(Finding::at(alloc, FindingKind::UselessSymbol, span, text)?))
-    }
 }
 
-/// Reports the useless rules of a grammar.
+/// Reports the productive rules of the file that are useless.
 #[derive(Drop)]
 struct UselessRules<'a>(&'a Reached<'a>);
 
@@ -165,11 +124,24 @@ impl<'a> Reporter for UselessRules<'a> {
     ghost reports = { λ x. ReportsUselessRule x.0.now };
 
     fn report(&self, alloc: Global, number: usize) -> Result<Option<Finding>, AllocError> {
-        self.0.report_rule(alloc, number)
+        let reached = self.0;
+        let grammar = reached.unproductive.grammar();
+        grammar.invariant_holds();
+        let rule = RIdx(to_storage(number));
+        if number < rules_added(grammar) || reached.unproductive.misses(rule) {
+            return Ok(None);
+        }
+        if !reached.is_useless(Symbol::Rule(rule)) {
+            return Ok(None);
+        }
+        let name = grammar.rule_name_str(rule);
+        let text = format!(in alloc; "Rule '{name}' is reached only through unusable productions")?;
+        let span = grammar.rule_name_span(rule);
+        Ok(Some(Finding::at(alloc, FindingKind::UselessSymbol, span, text)?))
     }
 }
 
-/// Reports the useless tokens of a grammar.
+/// Reports the useless tokens of a grammar. The end token never is.
 #[derive(Drop)]
 struct UselessTokens<'a>(&'a Reached<'a>);
 
@@ -182,7 +154,21 @@ impl<'a> Reporter for UselessTokens<'a> {
     ghost reports = { λ x. ReportsUselessToken x.0.now };
 
     fn report(&self, alloc: Global, number: usize) -> Result<Option<Finding>, AllocError> {
-        self.0.report_token(alloc, number)
+        let reached = self.0;
+        let grammar = reached.unproductive.grammar();
+        grammar.invariant_holds();
+        let token = TIdx(to_storage(number));
+        let Some(name) = grammar.token_name(token) else {
+            return Ok(None);
+        };
+        if !reached.is_useless(Symbol::Token(token)) {
+            return Ok(None);
+        }
+        let text = format!(in alloc;
+            "Token '{name}' is reached only through unusable productions"
+        )?;
+        let span = grammar.token_span(token).unwrap_or(Span::new(0, 0));
+        Ok(Some(Finding::at(alloc, FindingKind::UselessSymbol, span, text)?))
     }
 }
 
@@ -200,7 +186,8 @@ fn searched(
         unproductive,
         only_usable,
     };
-    let mut search = Search::through(alloc, node_count(grammar))?;
+    let nodes = usize::from(grammar.rules_len()) + usize::from(grammar.tokens_len());
+    let mut search = Search::through(alloc, nodes)?;
     search.reach(usize::from(grammar.start_rule_idx()))?;
     search.go_on(&followed)?;
     Ok(search)
@@ -273,13 +260,6 @@ fn reach_symbols(
         search.reach(node_of(grammar, *symbol))?;
     }
     Ok(())
-}
-
-/// How many nodes a search through the symbols of a grammar has.
-fn node_count(grammar: &YaccGrammar<u32>) -> usize
-    ensures { result ≡ nodes grammar.now }
-{
-    usize::from(grammar.rules_len()) + usize::from(grammar.tokens_len())
 }
 
 /// The node of a symbol: the rules have the first ones.

@@ -4,12 +4,12 @@ use Rattle.std.proofs.lemmas.List.{get_or_default, take_all}
 use Rattle.std.proofs.lemmas.List.Elements.{Contains-get_or}
 use Rattle.cfgrammar.specs.TreeView.{syntax}
 use Rattle.cfgfindings.specs.Findings.{IsStartRule, rules_added}
-use Rattle.cfgfindings.proofs.UnproductiveRules.{comes_before, first_or_not, has_start, more_others}
+use Rattle.cfgfindings.proofs.UnproductiveRules.{comes_before, first_or_not, has_start, more_others, starts_as}
 use Rattle.cfgfindings.proofs.unproductive_rules.is_first_root.Goals as goal
-use Rattle.cfgfindings.proofs.unproductive_rules.is_first_root.Goals.{else-first-other-via-then-first-other+else-is_start_rule, then-other-rule, else-other-rule, else-first-other-via-else-first-other}
+use Rattle.cfgfindings.proofs.unproductive_rules.is_first_root.Goals.{else-first-other-via-then-first-other+else-is_start, then-other-rule, else-other-rule, else-first-other-via-else-first-other}
 
-pub returns-then-is_start_rule : goal.returns-then-is_start_rule
-returns-then-is_start_rule c =
+pub returns-then-is_start : goal.returns-then-is_start
+returns-then-is_start c =
     let s = syntax c.args.ast.now in
     let g = c.args.grammar.now in
     let group = c.args.group.now in
@@ -19,7 +19,8 @@ returns-then-is_start_rule c =
     elim c.if-other-rule.branch [
       | then-other-rule w ↦ comes_before g c.args.rule group c.requires.group s q held own w.if-other-rule.true
       | else-other-rule w ↦
-          let start = subst (λ b. MatchBool b (IsStartRule s g q) (IsStartRule s g q → ⊥)) (sym w.value-is ∙ c.if-is_start_rule.true) w.is_start_rule.ensures in
+          let start = subst (λ b. MatchBool b (IsStartRule s g q) (IsStartRule s g q → ⊥)) (sym w.value-is ∙ c.if-is_start.true)
+          (starts_as s g q w.to_storage.result w.to_storage.ensures w.rule_name_str.result.now w.rule_name_str.ensures w.is_start.result w.is_start.ensures) in
           has_start g c.args.rule group c.requires.group s q held own start
     ]
 
@@ -33,11 +34,12 @@ loop-other-preserved c =
     let q = get_or group n 0 in
     more_others (λ q. rules_added g ≤ q → (c.args.rule ≤ q) × (IsStartRule s g q → ⊥)) group n q lt (get_or_default group n 0 q lt) c.loop-other.invariant
     (elim c.else-first-other.branch [
-      | else-first-other-via-then-first-other+else-is_start_rule w ↦ elim w.if-other-rule.branch [
-        | then-other-rule w' ↦ let after = ltb-false q c.args.rule (sym w'.value-is ∙ w.if-is_start_rule.false) in absurd (omega (arith, after, w'.if-other-rule.true))
+      | else-first-other-via-then-first-other+else-is_start w ↦ elim w.if-other-rule.branch [
+        | then-other-rule w' ↦ let after = ltb-false q c.args.rule (sym w'.value-is ∙ w.if-is_start.false) in absurd (omega (arith, after, w'.if-other-rule.true))
         | else-other-rule w' ↦ λ own. (
           w'.if-other-rule.false,
-          subst (λ b. MatchBool b (IsStartRule s g q) (IsStartRule s g q → ⊥)) (sym w'.value-is ∙ w.if-is_start_rule.false) w'.is_start_rule.ensures,
+          subst (λ b. MatchBool b (IsStartRule s g q) (IsStartRule s g q → ⊥)) (sym w'.value-is ∙ w.if-is_start.false)
+              (starts_as s g q w'.to_storage.result w'.to_storage.ensures w'.rule_name_str.result.now w'.rule_name_str.ensures w'.is_start.result w'.is_start.ensures),
         )
       ]
       | else-first-other-via-else-first-other w ↦ λ own. absurd (omega (arith, own, w.if-first-other.false, c.rules_added-first.ensures))

@@ -9,7 +9,7 @@ use Rattle.cfgfindings.proofs.useless.searched.Goals as goal
 pub returns : goal.returns
 returns c =
     let b = begun _ _ _ _ c.in_ok-search.ensures c.in_ok-reach.ensures in
-    let start : c.from.result ≡ 0 = c.from.ensures ∙ c.start_rule_idx.ensures.value in
+    let start : c.from-3.result ≡ 0 = c.from-3.ensures ∙ c.start_rule_idx.ensures.value in
     let is = subst (λ (n : Numbered). IsGrammar (core n)) c.grammar-grammar.ensures c.invariant_holds.ensures.whole.grammar in
     knows c.args.unproductive.now is c.args.only_usable (IsReachableIn c.reach.new.self)
     (λ n. ((λ h. (b.seeds n).0 h ∙ start), (λ at. (b.seeds n).1 (at ∙ sym start)))) c.go_on.new.self c.in_ok-go_on.ensures.reachable

@@ -1,12 +1,13 @@
-use Rattle.std.proofs.Common.{◌≡◌, ℕ, List, Some, true, false, MatchBool, get_or, slice_get, option_map, string_bytes, unwrap_or, ap, sym, subst, ◌∙◌}
+use Rattle.std.proofs.Common.{◌≡◌, ℕ, List, Some, true, false, MatchBool, codes, get_or, slice_get, option_map, string_bytes, unwrap_or, ap, sym, subst, ◌∙◌}
 use Rattle.std.proofs.lemmas.Option.{slice_get-map, unwrap_or-slice_get}
 use Rattle.cfgrammar.specs.Span.{Span}
 use Rattle.cfgrammar.specs.SyntaxView.{precedence_entry}
 use Rattle.cfgrammar.specs.Precedence.{Precedence}
 use Rattle.cfgrammar.specs.TreeView.{syntax}
 use Rattle.cfgfindings.specs.Findings.{TakesPart}
-use Rattle.cfgfindings.specs.Shown.{unused_precedence}
+use Rattle.cfglint_shell.specs.declared.finding_kind.FindingKind.TheVariants.{UnusedPrecedence}
 use Rattle.cfgfindings.proofs.Marking.{key_at}
+use Rattle.cfgfindings.proofs.Texts.{after_quoted, shown_at}
 use Rattle.cfgfindings.proofs.precedences.IdleReporter.report.Goals as goal
 
 pub returns-then-takes_part : goal.returns-then-takes_part
@@ -16,8 +17,8 @@ returns-then-takes_part c = λ marked name span idle.
     sym (unwrap_or-slice_get c.args.self.now.taking c.args.number false) ∙ ap (λ o. unwrap_or o false) (sym c.get.ensures) ∙ sym c.unwrap_or-takes_part.ensures ∙ c.if-takes_part.true in
     idle.idle (subst (λ b. MatchBool b (TakesPart s name) (TakesPart s name → ⊥)) on (marked c.args.number name (key_at s.tables.precedences c.args.number (name, (idle.precedence, span)) idle.given)))
 
-pub returns-in_ok-unused_precedence-in-Some : goal.returns-in_ok-unused_precedence-in-Some
-returns-in_ok-unused_precedence-in-Some c = λ marked.
+pub returns : goal.returns
+returns c = λ marked.
     let s = syntax c.args.self.now.ast.now in
     let name = string_bytes c.in-Some.name.now in
     let said = c.in-Some.field-0-1.now in
@@ -34,5 +35,7 @@ returns-in_ok-unused_precedence-in-Some c = λ marked.
         given = there;
         idle = subst (λ b. MatchBool b (TakesPart s name) (TakesPart s name → ⊥)) off (marked c.args.number name (key_at s.tables.precedences c.args.number (name, said) there));
       },
-      c.in_ok-unused_precedence-in-Some.ensures ∙ ap (λ name. unused_precedence name said.1) c.deref.ensures,
+      c.in_ok-at.ensures
+          ∙ ap (shown_at UnusedPrecedence said.1)
+          (c.in_ok-text.ensures.ok ∙ after_quoted name (codes "Unused precedence: token ") (codes " is not a symbol of any production, and none takes its precedence from it")),
     )

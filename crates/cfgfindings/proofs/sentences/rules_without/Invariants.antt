@@ -1,6 +1,6 @@
 use Rattle.std.proofs.Common.{◌≡◌, ◌<◌, ◌≤◌, ℕ, false, get_or, length}
 use Rattle.cfgfindings.specs.Inner.Unproductive.{UnproductiveOrNot}
-use Rattle.cfgfindings.proofs.sentences.without_of.Given as goal
+use Rattle.cfgfindings.proofs.sentences.rules_without.Given as goal
 
 -- the indices that are left are those of rules, and for those before them it is known whether they are unproductive
 abbrev pub invariant-loop-rule : goal.invariant-loop-rule

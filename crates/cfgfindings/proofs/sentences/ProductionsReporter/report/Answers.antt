@@ -6,7 +6,7 @@ use Rattle.cfglint_shell.specs.declared.finding_kind.FindingKind.TheVariants.{Un
 use Rattle.cfgfindings.proofs.Read.{production_seen, rule_seen}
 use Rattle.cfgfindings.proofs.Texts.{shown_at, unusable_reported}
 use Rattle.cfgfindings.proofs.Unusable.{UsesByRules, first_read, is_unusable, not_unusable}
-use Rattle.cfgfindings.proofs.sentences.Unproductive.report_production.Goals as goal
+use Rattle.cfgfindings.proofs.sentences.ProductionsReporter.report.Goals as goal
 
 -- a production before the start rule's exists
 inside : (g h : Numbered) → h ≡ g → (p start : ℕ) → start ≡ h.start_production → start < length h.productions → p < g.start_production → p < length g.productions
@@ -21,25 +21,25 @@ stored g h view p start is there before k same =
     subst (λ (g : Numbered). k < length g.productions) (sym view) (subst (λ n. n < length g.productions) (sym same) (inside g h view p start is there before))
 
 pub prod_to_rule-requires : goal.prod_to_rule-requires
-prod_to_rule-requires c = stored c.args.self.now c.self.inside.grammar.now c.self.view_is c.args.number c.start_prod-start.result.0 c.start_prod-start.ensures.value c.start_prod-start.ensures.within c.requires c.to_storage.result c.to_storage.ensures
+prod_to_rule-requires c = stored c.args.self.now.0.now c.grammar-grammar.result.now c.grammar-grammar.ensures c.args.number c.start_prod-start.result.0 c.start_prod-start.ensures.value c.start_prod-start.ensures.within c.requires c.to_storage.result c.to_storage.ensures
 
 pub prod-requires : goal.prod-requires
-prod-requires c = stored c.args.self.now c.self.inside.grammar.now c.self.view_is c.args.number c.start_prod-start.result.0 c.start_prod-start.ensures.value c.start_prod-start.ensures.within c.requires c.to_storage.result c.to_storage.ensures
+prod-requires c = stored c.args.self.now.0.now c.grammar-grammar.result.now c.grammar-grammar.ensures c.args.number c.start_prod-start.result.0 c.start_prod-start.ensures.value c.start_prod-start.ensures.within c.requires c.to_storage.result c.to_storage.ensures
 
 pub first_without-requires : goal.first_without-requires
-first_without-requires c = subst (λ g. All (IsSymbolWithin (λ s. s) g) c.prod.result.now) c.self.view_is c.prod.ensures.within
+first_without-requires c = subst (λ g. All (IsSymbolWithin (λ s. s) g) c.prod.result.now) c.grammar-grammar.ensures c.prod.ensures.within
 
 pub rule_name_str-name-requires : goal.rule_name_str-name-requires
-rule_name_str-name-requires c = subst (λ (g : Numbered). c.in-Some.rule.0 < length g.rules) (sym c.self.view_is) c.in-Some.ensures.within
+rule_name_str-name-requires c = subst (λ (g : Numbered). c.in-Some.rule.0 < length g.rules) (sym c.grammar-grammar.ensures) c.in-Some.ensures.within
 
 pub prod_span-span-requires : goal.prod_span-span-requires
-prod_span-span-requires c = stored c.args.self.now c.self.inside.grammar.now c.self.view_is c.args.number c.start_prod-start.result.0 c.start_prod-start.ensures.value c.start_prod-start.ensures.within c.requires c.to_storage.result c.to_storage.ensures
+prod_span-span-requires c = stored c.args.self.now.0.now c.grammar-grammar.result.now c.grammar-grammar.ensures c.args.number c.start_prod-start.result.0 c.start_prod-start.ensures.value c.start_prod-start.ensures.within c.requires c.to_storage.result c.to_storage.ensures
 
 pub returns-in_default : goal.returns-in_default
 returns-in_default c =
-    let g = c.args.self.now in
-    let h = c.self.inside.grammar.now in
-    let view : h ≡ g = c.self.view_is in
+    let g = c.args.self.now.0.now in
+    let h = c.grammar-grammar.result.now in
+    let view : h ≡ g = c.grammar-grammar.ensures in
     let p = c.args.number in
     let k = c.to_storage.result in
     let same : k ≡ p = c.to_storage.ensures in
@@ -52,9 +52,9 @@ returns-in_default c =
 
 pub returns : goal.returns
 returns c =
-    let g = c.args.self.now in
-    let h = c.self.inside.grammar.now in
-    let view : h ≡ g = c.self.view_is in
+    let g = c.args.self.now.0.now in
+    let h = c.grammar-grammar.result.now in
+    let view : h ≡ g = c.grammar-grammar.ensures in
     let p = c.args.number in
     let k = c.to_storage.result in
     let same : k ≡ p = c.to_storage.ensures in

@@ -9,12 +9,12 @@ use Rattle.cfgrammar.specs.Unused.{AreUnused, IsUnused, RuleName}
 use Rattle.cfgfindings.specs.Findings.{IsShadowed}
 use Rattle.cfglint_shell.specs.declared.finding_kind.FindingKind.TheVariants.{UnusedRule}
 use Rattle.cfgfindings.proofs.UsedRules.{from_none, from_some, rule_at, rule_key, same_name}
-use Rattle.cfgfindings.proofs.unused.Usage.report_unused_rule.Goals as goal
-use Rattle.cfgfindings.proofs.unused.Usage.report_unused_rule.Goals.{then-not-index-via-else-not-index+then-is_some, then-not-index-via-then-not-index}
+use Rattle.cfgfindings.proofs.unused.UnusedRulesReporter.report.Goals as goal
+use Rattle.cfgfindings.proofs.unused.UnusedRulesReporter.report.Goals.{then-not-index-via-else-not-index+then-is_some, then-not-index-via-then-not-index}
 
 pub shadowing-requires : goal.shadowing-requires
 shadowing-requires c =
-    rule_key (syntax c.self.inside.ast.now) c.args.self.now c.self.view_is c.rules.result.now.entries c.rules.ensures c.args.number _ (sym c.in-Some.ensures.entry)
+    rule_key (syntax c.usage.inside.ast.now) c.args.self.now.0.now c.usage.view_is c.rules.result.now.entries c.rules.ensures c.args.number _ (sym c.in-Some.ensures.entry)
     ∙ ap Some (sym c.deref.ensures)
 
 -- whether a rule is unused, by the bit that was read
@@ -26,16 +26,16 @@ by_bit s bits are n within bit read result is rule at = subst (λ b. MatchBool b
 
 pub returns-then-not-index : goal.returns-then-not-index
 returns-then-not-index c = λ rule unused.
-    let s = c.args.self.now in
-    let bits = c.self.inside.unused.items in
+    let s = c.args.self.now.0.now in
+    let bits = c.usage.inside.unused.items in
     let n = c.args.number in
-    let are : AreUnused s bits = subst (λ (s : Syntax). AreUnused s bits) c.self.view_is c.self.invariant.0 in
+    let are : AreUnused s bits = subst (λ (s : Syntax). AreUnused s bits) c.usage.view_is c.usage.invariant.0 in
     elim c.then-not-index.branch [
       | then-not-index-via-then-not-index w ↦
           by_bit s bits are n c.requires c.index.result.now (λ within. get_or_read bits n c.index.result.now within c.index.ensures false) false w.if-not-index.true
           rule unused.given unused.unused
       | then-not-index-via-else-not-index+then-is_some w ↦
-          let same = same_name (syntax c.self.inside.ast.now) s c.self.view_is c.rules.result.now.entries c.rules.ensures n _ (sym c.in-Some.ensures.entry) rule unused.given
+          let same = same_name (syntax c.usage.inside.ast.now) s c.usage.view_is c.rules.result.now.entries c.rules.ensures n _ (sym c.in-Some.ensures.entry) rule unused.given
           ∙ sym w.deref.ensures in
           let (token, shadowed) = from_some _ (IsShadowed s w.deref.result.now) w.shadowing.result (sym w.is_some.ensures ∙ w.if-is_some.true) w.shadowing.ensures in
           unused.own token (subst (λ name. IsShadowed s name token) (sym same) shadowed)
@@ -43,12 +43,12 @@ returns-then-not-index c = λ rule unused.
 
 pub returns : goal.returns
 returns c =
-    let s = c.args.self.now in
-    let bits = c.self.inside.unused.items in
+    let s = c.args.self.now.0.now in
+    let bits = c.usage.inside.unused.items in
     let n = c.args.number in
     let entry : String Global × AstRule = (c.in-Some.name.now, c.in-Some.rule.now) in
-    let are : AreUnused s bits = subst (λ (s : Syntax). AreUnused s bits) c.self.view_is c.self.invariant.0 in
-    let at = rule_at (syntax c.self.inside.ast.now) s c.self.view_is c.rules.result.now.entries c.rules.ensures n entry (sym c.in-Some.ensures.entry) in (
+    let are : AreUnused s bits = subst (λ (s : Syntax). AreUnused s bits) c.usage.view_is c.usage.invariant.0 in
+    let at = rule_at (syntax c.usage.inside.ast.now) s c.usage.view_is c.rules.result.now.entries c.rules.ensures n entry (sym c.in-Some.ensures.entry) in (
       rule_entry entry,
       record {
         given = at;

@@ -6,22 +6,22 @@ use Rattle.cfglint_shell.specs.declared.finding_kind.FindingKind.TheVariants.{No
 use Rattle.cfgfindings.specs.Findings.{AreOthers, IsFirstRoot}
 use Rattle.cfgfindings.specs.Shown.{rule_span}
 use Rattle.cfgfindings.proofs.Texts.{no_sentence_text, shown_with}
-use Rattle.cfgfindings.proofs.unproductive_rules.no_sentence.Goals as goal
+use Rattle.cfgfindings.proofs.unproductive_rules.RulesWithoutReporter.report.Goals as goal
 
 pub returns : goal.returns
 returns c =
-    let g = c.args.roots.now in
+    let g = c.args.self.now.roots.now in
     let h = c.grammar-grammar.result.now in
-    let view : h ≡ g = c.grammar-grammar.ensures in
+    let view : h ≡ g = c.grammar-grammar.ensures ∙ c.unproductive-unproductive.ensures in
     let r = c.args.number in
     let name = c.in-Some.name.now in
-    let named = subst (λ (n : Numbered). rule_part (λ rule. rule.name) n r ≡ Some name) c.unproductive.ensures c.in-Some.ensures.1 in
+    let named = subst (λ (n : Numbered). rule_part (λ rule. rule.name) n r ≡ Some name) c.unproductive-unproductive.ensures c.in-Some.ensures.1 in
     let (others, are, shown) = c.in_ok-with_others-2.ensures in
     let text : string_bytes c.in_ok-text-2.text ≡ codes "Rule '" ++ (name ++ codes "' has no sentence") = c.in_ok-text-2.ensures.ok in (
       others,
       subst (λ (n : Numbered). AreOthers n r others) view are,
       inr (
-        subst (λ (n : Numbered). IsFirstRoot (syntax c.args.ast.now) n r) view c.if-not-is_first_root.ensures,
+        subst (λ (n : Numbered). IsFirstRoot (syntax c.args.self.now.ast.now) n r) view c.if-not-is_first_root.ensures,
         shown ∙ (λ i. shown_with NoSentence (map (rule_span (view i)) (r ∷ others)) ((text ∙ no_sentence_text g r name named) i)),
       ),
     )

@@ -6,13 +6,13 @@ use Rattle.cfgfindings.specs.Useless.{IsUseless}
 use Rattle.cfglint_shell.specs.declared.finding_kind.FindingKind.TheVariants.{UselessSymbol}
 use Rattle.cfgfindings.proofs.Read.{token_seen}
 use Rattle.cfgfindings.proofs.Texts.{shown_at, useless_token_reported}
-use Rattle.cfgfindings.proofs.useless.Reached.report_token.Goals as goal
+use Rattle.cfgfindings.proofs.useless.UselessTokensReporter.report.Goals as goal
 
 pub returns : goal.returns
 returns c =
-    let g = c.args.self.now in
+    let g = c.args.self.now.0.now in
     let h = c.grammar-grammar.result.now in
-    let view : h ≡ g = c.grammar-grammar.ensures ∙ c.self.view_is in
+    let view : h ≡ g = c.grammar-grammar.ensures ∙ c.reached.view_is in
     let t = c.args.number in
     let k = c.to_storage.result in
     let same : k ≡ t = c.to_storage.ensures in

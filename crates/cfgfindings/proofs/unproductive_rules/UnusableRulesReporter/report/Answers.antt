@@ -9,16 +9,16 @@ use Rattle.cfgfindings.specs.Findings.{IsUnproductiveRule}
 use Rattle.cfgfindings.proofs.Read.{rule_seen}
 use Rattle.cfgfindings.proofs.Texts.{shown_at, unusable_rule_reported}
 use Rattle.cfgfindings.proofs.UnproductiveRules.{is_root_by, no_root_by}
-use Rattle.cfgfindings.proofs.unproductive_rules.unusable_rule.Goals as goal
-use Rattle.cfgfindings.proofs.unproductive_rules.unusable_rule.Goals.{then-is_start-via-then-is_start, then-is_start-via-else-is_start+then-not-is_empty}
+use Rattle.cfgfindings.proofs.unproductive_rules.UnusableRulesReporter.report.Goals as goal
+use Rattle.cfgfindings.proofs.unproductive_rules.UnusableRulesReporter.report.Goals.{then-is_start-via-then-is_start, then-is_start-via-else-is_start+then-not-is_empty}
 
 pub returns-then-is_start : goal.returns-then-is_start
 returns-then-is_start c = λ unusable.
-    let s = syntax c.args.ast.now in
-    let g = c.args.roots.now in
+    let s = syntax c.args.self.now.ast.now in
+    let g = c.args.self.now.roots.now in
     let r = c.args.number in
     let name = c.in-Some.name.now in
-    let named = subst (λ (n : Numbered). rule_part (λ rule. rule.name) n r ≡ Some name) c.unproductive.ensures c.in-Some.ensures.1 in
+    let named = subst (λ (n : Numbered). rule_part (λ rule. rule.name) n r ≡ Some name) c.unproductive-unproductive.ensures c.in-Some.ensures.1 in
     elim c.then-is_start.branch [
       | then-is_start-via-then-is_start w ↦
           let starts : IsStart s (RuleName name) = subst (λ b. MatchBool b (IsStart s (RuleName name)) (IsStart s (RuleName name) → ⊥)) w.if-is_start.true c.is_start.ensures in
@@ -29,20 +29,20 @@ returns-then-is_start c = λ unusable.
 
 pub returns : goal.returns
 returns c =
-    let s = syntax c.args.ast.now in
-    let g = c.args.roots.now in
+    let s = syntax c.args.self.now.ast.now in
+    let g = c.args.self.now.roots.now in
     let h = c.grammar-grammar.result.now in
     let r = c.args.number in
     let name = c.in-Some.name.now in
     let span = c.rule_name_span-span.result in
-    let named = subst (λ (n : Numbered). rule_part (λ rule. rule.name) n r ≡ Some name) c.unproductive.ensures c.in-Some.ensures.1 in
+    let named = subst (λ (n : Numbered). rule_part (λ rule. rule.name) n r ≡ Some name) c.unproductive-unproductive.ensures c.in-Some.ensures.1 in
     let other : IsStart s (RuleName name) → ⊥ = subst (λ b. MatchBool b (IsStart s (RuleName name)) (IsStart s (RuleName name) → ⊥)) c.if-is_start.false c.is_start.ensures in
     let text : string_bytes c.in_ok-text.text ≡ codes "Unusable rule '" ++ (name ++ codes "': each of its productions has a rule without a sentence") = c.in_ok-text.ensures.ok in (
       record {
-        unproductive = subst (λ (n : Numbered). IsUnproductiveRule n r) c.unproductive.ensures c.in-Some.ensures.0;
+        unproductive = subst (λ (n : Numbered). IsUnproductiveRule n r) c.unproductive-unproductive.ensures c.in-Some.ensures.0;
         no_root = no_root_by g r c.group.result.now c.group.ensures c.is_empty.result c.is_empty.ensures c.if-not-is_empty.false;
         no_start = λ start. other (subst (λ n. IsStart s (RuleName n)) (rule_named g r name named) start);
       },
       c.in_ok-at.ensures ∙ ap (shown_at UnusableRule span) text
-          ∙ unusable_rule_reported g r name named span (rule_seen g h c.grammar-grammar.ensures r c.to_storage.result c.to_storage.ensures span (λ rule. rule.span) c.rule_name_span-span.ensures),
+          ∙ unusable_rule_reported g r name named span (rule_seen g h (c.grammar-grammar.ensures ∙ c.unproductive-unproductive.ensures) r c.to_storage.result c.to_storage.ensures span (λ rule. rule.span) c.rule_name_span-span.ensures),
     )

@@ -9,8 +9,8 @@ use Rattle.cfgfindings.specs.Findings.{IsRequested}
 use Rattle.cfgfindings.specs.Inner.Marks.{AreMarked}
 use Rattle.cfglint_shell.specs.declared.finding_kind.FindingKind.TheVariants.{UnusedToken}
 use Rattle.cfgfindings.proofs.UsedRules.{marked_as}
-use Rattle.cfgfindings.proofs.unused.Usage.report_unused_token.Goals as goal
-use Rattle.cfgfindings.proofs.unused.Usage.report_unused_token.Goals.{then-not-is_unused-via-else-not-is_unused+then-unwrap_or, then-not-is_unused-via-then-not-is_unused}
+use Rattle.cfgfindings.proofs.unused.UnusedTokensReporter.report.Goals as goal
+use Rattle.cfgfindings.proofs.unused.UnusedTokensReporter.report.Goals.{then-not-is_unused-via-else-not-is_unused+then-unwrap_or, then-not-is_unused-via-then-not-is_unused}
 
 -- whether a token is unused, by the bit that was read
 by_bit : (s : Syntax) (bits : List Bool) → AreUnused s bits → (n : ℕ) → n < length s.tokens → (before : ℕ) → before ≡ length s.rules → (bit : Bool)
@@ -21,14 +21,14 @@ by_bit s bits are n within before count bit read result is name at = subst (λ b
 
 pub returns-then-not-is_unused : goal.returns-then-not-is_unused
 returns-then-not-is_unused c = λ name span unused.
-    let s = c.args.self.now in
-    let bits = c.self.inside.unused.items in
-    let marks = c.self.inside.requested in
+    let s = c.args.self.now.0.now in
+    let bits = c.usage.inside.unused.items in
+    let marks = c.usage.inside.requested in
     let n = c.args.number in
-    let are : AreUnused s bits = subst (λ (s : Syntax). AreUnused s bits) c.self.view_is c.self.invariant.0 in
-    let marked : AreMarked s.tokens (IsRequested s) marks = subst (λ (s : Syntax). AreMarked s.tokens (IsRequested s) marks) c.self.view_is c.self.invariant.2 in
+    let are : AreUnused s bits = subst (λ (s : Syntax). AreUnused s bits) c.usage.view_is c.usage.invariant.0 in
+    let marked : AreMarked s.tokens (IsRequested s) marks = subst (λ (s : Syntax). AreMarked s.tokens (IsRequested s) marks) c.usage.view_is c.usage.invariant.2 in
     let count : c.len.result ≡ length s.rules =
-    c.len.ensures.len ∙ sym (length-map c.rules.result.now.entries rule_entry) ∙ ap length c.rules.ensures ∙ ap (λ (s : Syntax). length s.rules) c.self.view_is in
+    c.len.ensures.len ∙ sym (length-map c.rules.result.now.entries rule_entry) ∙ ap length c.rules.ensures ∙ ap (λ (s : Syntax). length s.rules) c.usage.view_is in
     elim c.then-not-is_unused.branch [
       | then-not-is_unused-via-then-not-is_unused w ↦
           by_bit s bits are n c.requires c.len.result count c.index-is_unused.result.now
@@ -41,26 +41,26 @@ returns-then-not-is_unused c = λ name span unused.
 pub returns-in_default-get : goal.returns-in_default-get
 returns-in_default-get c = λ name span unused.
     let n = c.args.number in
-    let none : slice_get c.args.self.now.spans n ≡ None = subst (λ (s : Syntax). slice_get s.spans n ≡ None) c.self.view_is
+    let none : slice_get c.args.self.now.0.now.spans n ≡ None = subst (λ (s : Syntax). slice_get s.spans n ≡ None) c.usage.view_is
     (ap (λ (spans : List Span). slice_get spans n) (sym c.spans.ensures) ∙ slice_get_past c.spans.result.now n c.in_default-get.ensures.lookup.3) in
     let no : None ≡ Some span = sym none ∙ unused.there in cc
 
 pub returns : goal.returns
 returns c =
-    let s = c.args.self.now in
-    let bits = c.self.inside.unused.items in
-    let marks = c.self.inside.requested in
+    let s = c.args.self.now.0.now in
+    let bits = c.usage.inside.unused.items in
+    let marks = c.usage.inside.requested in
     let n = c.args.number in
     let span = c.in-Some-get.span.now in
     let name = string_bytes c.in-Some.name.now in
-    let are : AreUnused s bits = subst (λ (s : Syntax). AreUnused s bits) c.self.view_is c.self.invariant.0 in
-    let marked : AreMarked s.tokens (IsRequested s) marks = subst (λ (s : Syntax). AreMarked s.tokens (IsRequested s) marks) c.self.view_is c.self.invariant.2 in
+    let are : AreUnused s bits = subst (λ (s : Syntax). AreUnused s bits) c.usage.view_is c.usage.invariant.0 in
+    let marked : AreMarked s.tokens (IsRequested s) marks = subst (λ (s : Syntax). AreMarked s.tokens (IsRequested s) marks) c.usage.view_is c.usage.invariant.2 in
     let count : c.len.result ≡ length s.rules =
-    c.len.ensures.len ∙ sym (length-map c.rules.result.now.entries rule_entry) ∙ ap length c.rules.ensures ∙ ap (λ (s : Syntax). length s.rules) c.self.view_is in
-    let token : slice_get s.tokens n ≡ Some name = subst (λ (s : Syntax). slice_get s.tokens n ≡ Some name) c.self.view_is
+    c.len.ensures.len ∙ sym (length-map c.rules.result.now.entries rule_entry) ∙ ap length c.rules.ensures ∙ ap (λ (s : Syntax). length s.rules) c.usage.view_is in
+    let token : slice_get s.tokens n ≡ Some name = subst (λ (s : Syntax). slice_get s.tokens n ≡ Some name) c.usage.view_is
     (ap (λ (tokens : List (List ℕ)). slice_get tokens n) (sym c.tokens.ensures) ∙ slice_get-map string_bytes c.tokens.result.now.keys n
     ∙ ap (option_map string_bytes) (sym c.in-Some.ensures.key)) in
-    let there : slice_get s.spans n ≡ Some span = subst (λ (s : Syntax). slice_get s.spans n ≡ Some span) c.self.view_is
+    let there : slice_get s.spans n ≡ Some span = subst (λ (s : Syntax). slice_get s.spans n ≡ Some span) c.usage.view_is
     (ap (λ (spans : List Span). slice_get spans n) (sym c.spans.ensures)
     ∙ slice_get_read c.spans.result.now _ n span refl c.in-Some-get.ensures.lookup.3.0 c.in-Some-get.ensures.lookup.1) in (
       name,
