@@ -17,10 +17,12 @@ module _ (s : Syntax) (word : Word) where
     spans = pushed_unless (sym known i) s.spans word.span;
   }
 
-  pub quoted-put : (tokens : List (List ℕ)) (spans : List Span) → tokens ≡ pushed_unless (has_name word.name s.tokens) s.tokens word.name
-      → spans ≡ pushed_unless (has_name word.name s.tokens) s.spans word.span → record s { tokens = tokens; spans = spans } ≡ add s (TokenQuoted word)
+  pub quoted-new : (tokens : List (List ℕ)) (spans : List Span) → has_name word.name s.tokens ≡ false → tokens ≡ s.tokens ++ word.name ∷ [] → spans ≡ s.spans ++ word.span ∷ []
+      → record s { tokens = tokens; spans = spans } ≡ add s (TokenQuoted word)
   unfolding add
-  quoted-put tokens spans names_are spans_are = λ i. record s { tokens = names_are i; spans = spans_are i }
+  quoted-new tokens spans new names_are spans_are =
+      (λ i. record s { tokens = names_are i; spans = spans_are i })
+      ∙ (λ i. record s { tokens = pushed_unless (sym new i) s.tokens word.name; spans = pushed_unless (sym new i) s.spans word.span })
 
   -- the word, if the index is noted
   abbrev pub word_again : Syntax → ℕ → Option Word

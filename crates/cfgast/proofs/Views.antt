@@ -1,5 +1,5 @@
 -- What the views of keys, entries and copies show.
-use Rattle.std.proofs.Common.{◌≡◌, ℕ, Bool, true, false, List, [], ◌∷◌, ◌++◌, map, position, slice_get, Option, Some, None, option_map, Result, Ok, Err, OnErr, String, Global, string_bytes, string_eq, if◌then◌else◌, is_some, unwrap_or, refl, sym, ap, ◌∙◌, true≢false}
+use Rattle.std.proofs.Common.{◌≡◌, ℕ, Bool, true, false, List, [], ◌∷◌, ◌++◌, map, position, slice_get, Option, Some, None, option_map, Result, Ok, Err, OnErr, String, Global, string_bytes, string_eq, if◌then◌else◌, is_some, refl, sym, ap, ◌∙◌}
 use Rattle.std.specs.List.{list_any, position_or_len, AllZip, IsDistinct}
 use Rattle.std.specs.Map.{lookup, set_value, keys_of, values_of}
 use Rattle.std.specs.Str.{bytes_eq}
@@ -45,25 +45,15 @@ keys-insert_key name keys key is =
     ∙ ap (λ n. pushed_unless (has_name n (map string_bytes keys)) (map string_bytes keys) n) is
 
 -- its index
-pub index_of-insert_key : (name : List ℕ) (keys new : List (String Global)) (key : String Global) → string_bytes key ≡ name → new ≡ insert_key string_eq keys key
-    → index_of name (map string_bytes new) ≡ position_or_len (is_key (string_bytes key)) keys
-index_of-insert_key name keys new key is same =
-    ap (λ ks. index_of name (map string_bytes ks)) same ∙ index_of-keys name (insert_key string_eq keys key)
+pub index_of-insert_key : (name : List ℕ) (keys : List (String Global)) (key : String Global) → string_bytes key ≡ name
+    → index_of name (map string_bytes (insert_key string_eq keys key)) ≡ position_or_len (is_key (string_bytes key)) keys
+index_of-insert_key name keys key is =
+    index_of-keys name (insert_key string_eq keys key)
     ∙ ap (λ n. position_or_len (is_key n) (insert_key string_eq keys key)) (sym is) ∙ go (list_any (is_key (string_bytes key)) keys)
   where
     go : (b : Bool) → position_or_len (is_key (string_bytes key)) (pushed_unless b keys key) ≡ position_or_len (is_key (string_bytes key)) keys
     go true = refl
     go false = position_or_len-push (is_key (string_bytes key)) keys key (nat_list_eq_equiv.refl (string_bytes key))
-
--- inserting the value that a key has changes nothing
-insert_entry-same : {K V : Type 0} (eq : K → K → Bool) (key : K) (value : V) (es : List (K × V)) → lookup (eq key) es ≡ Some value → insert_entry eq es key value ≡ es
-insert_entry-same eq key value [] there = absurd (true≢false (sym (ap is_some there)))
-insert_entry-same {K} {V} eq key value (e ∷ es) there = go (eq key e.0) there (insert_entry-same eq key value es)
-  where
-    go : (b : Bool) → (if b then Some e.1 else lookup (eq key) es) ≡ Some value → (lookup (eq key) es ≡ Some value → insert_entry eq es key value ≡ es)
-        → (if b then (e.0, value) ∷ es else e ∷ insert_entry eq es key value) ≡ e ∷ es
-    go true is rest = ap (λ v. (e.0, unwrap_or v value) ∷ es) (sym is)
-    go false is rest = ap (λ entries. e ∷ entries) (rest is)
 
 -- Entries under the bytes of their keys, with what they show of their values.
 module _ {V W : Type 0} (show : V → W) where
@@ -83,23 +73,6 @@ module _ {V W : Type 0} (show : V → W) where
       ap (λ n. lookup (is_key n) m.entries) is ∙ None-from_is_some _ (sym (has_entry-entries name m.entries) ∙ new) in
       ap (map shown_entry) (insert_entry-new string_eq m key value absent)
       ∙ map-append shown_entry m.entries ((key, value) ∷ []) ∙ ap (λ n. map shown_entry m.entries ++ (n, show value) ∷ []) is
-
-  -- an entry under a name that keeps its value if it has one
-  pub entries-or_insert : {S : Type 0} (name : List ℕ) (m : IndexMap (String Global) V S) (key : String Global) (value : V) → string_bytes key ≡ name
-      → map shown_entry (insert_entry string_eq m.entries key (unwrap_or (lookup (string_eq key) m.entries) value)) ≡ with_entry (Some (name, show value)) (map shown_entry m.entries)
-  entries-or_insert name m key value is = go (lookup (string_eq key) m.entries) refl
-    where
-      known : has_entry name (map shown_entry m.entries) ≡ is_some (lookup (string_eq key) m.entries)
-      known = has_entry-entries name m.entries ∙ ap (λ n. is_some (lookup (is_key n) m.entries)) (sym is)
-
-      go : (found : Option V) → lookup (string_eq key) m.entries ≡ found
-          → map shown_entry (insert_entry string_eq m.entries key (unwrap_or found value)) ≡ with_entry (Some (name, show value)) (map shown_entry m.entries)
-      go None none =
-          let new : has_entry name (map shown_entry m.entries) ≡ false = known ∙ ap is_some none in
-          entries-new name m key value is new ∙ ap (λ b. pushed_unless b (map shown_entry m.entries) (name, show value)) (sym new)
-      go (Some v) there =
-          ap (map shown_entry) (insert_entry-same string_eq key v m.entries there)
-          ∙ ap (λ b. pushed_unless b (map shown_entry m.entries) (name, show value)) (sym (known ∙ ap is_some there))
 
 -- a value that is put under a name, by what it shows
 pub shown-put : {V W : Type 0} (show : V → W) (name : List ℕ) (value : V) (before after : List (String Global × V))

@@ -58,7 +58,7 @@ impl AstBuilder {
         ensures { OnOk result (syntax_built self.new
             ≡ add (syntax_built self.old) (TokenDeclared (word_view word.entry))) }
     {
-        let index = self.insert_token(alloc, word)?;
+        let index = self.put_token(alloc, word)?;
         if !self.syntax.token_directives.insert(index)? {
             let name = String::from_str(alloc, word.name)?;
             self.syntax.repeated_tokens.push((name, word.span))?;
@@ -287,8 +287,8 @@ impl AstBuilder {
         ensures { OnOk result (syntax_built self.new
             ≡ add (syntax_built self.old) (RuleNamed (head_view head.entry))) }
     {
-        let rule = self.new_rule(alloc, head)?;
-        put_entry(alloc, &mut self.syntax.rules, head.name.name, rule)
+        self.put_rule(alloc, head)?;
+        Ok(())
     }
 
     /// Adds a finished production of a rule, which is named as by `name_rule`. Its symbols are tokens if they are
@@ -371,20 +371,9 @@ impl AstBuilder {
         if let Some(index) = self.syntax.tokens.get_index_of(word.name) {
             return Ok(index);
         }
-        self.insert_token(alloc, word)
-    }
-
-    // The same, for a token that is mostly new: its name is looked up only once.
-    fn insert_token(&mut self, alloc: Global, word: Word<'_>) -> Result<usize, AllocError>
-        ensures added { OnOk result (syntax_built self.new
-            ≡ add (syntax_built self.old) (TokenQuoted (word_view word.entry))) }
-        ensures index { IfOk result (λ index. index ≡ index_of word.entry.name.now (syntax_built self.new).tokens) }
-    {
+        self.syntax.spans.push(word.span)?;
         let name = String::from_str(alloc, word.name)?;
-        let (index, is_new) = self.syntax.tokens.insert_full(name)?;
-        if is_new {
-            self.syntax.spans.push(word.span)?;
-        }
+        let (index, _) = self.syntax.tokens.insert_full(name)?;
         Ok(index)
     }
 

@@ -80,8 +80,9 @@ pub(crate) fn put_entry<V: Drop>(
     ensures { OnOk result (map (λ entry. (string_bytes entry.0, entry.1)) entries.new.entries
         ≡ with_entry (Some (name.now, value)) (map (λ entry. (string_bytes entry.0, entry.1)) entries.old.entries)) }
 {
-    let key = String::from_str(alloc, name)?;
-    entries.entry(key)?.or_insert(value);
+    if !entries.contains_key(name) {
+        entries.insert(String::from_str(alloc, name)?, value)?;
+    }
     Ok(())
 }
 

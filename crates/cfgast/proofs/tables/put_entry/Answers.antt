@@ -1,15 +1,23 @@
-use Rattle.std.proofs.Common.{◌≡◌, map, unwrap_or, ap, ◌∙◌, string_eq, rules}
-use Rattle.std.specs.Map.{lookup}
-use Rattle.indexmap.specs.IndexMap.{insert_entry}
-use Rattle.indexmap.specs.Entry.{map_with_value}
-use Rattle.cfgast.proofs.Views.{shown_entry, entries-or_insert}
+use Rattle.std.proofs.Common.{◌≡◌, true, false, map, sym, ap, ◌∙◌}
+use Rattle.lemmas.specs.Lists.{pushed_unless}
+use Rattle.cfgast.specs.Building.{has_entry}
+use Rattle.cfgast.proofs.Views.{shown_entry, has_entry-entries, entries-new}
 use Rattle.cfgast.proofs.tables.put_entry.Goals as goal
 
-pub returns : goal.returns
-returns g c =
-    let new : (map_with_value c.in_ok-entries.field-0 c.or_insert.result.now).entries
-        ≡ insert_entry string_eq c.args.entries.now.entries c.in_ok-key.key (unwrap_or (lookup (string_eq c.in_ok-key.key) c.args.entries.now.entries) c.args.value)
-    = c.in_ok-entries.ensures.update.1 c.or_insert.result.now
-        ∙ ap (insert_entry string_eq c.args.entries.now.entries c.in_ok-key.key) (c.or_insert.ensures.value ∙ ap (λ found. unwrap_or found c.args.value) c.in_ok-entries.ensures.value) in
-    ap (map (shown_entry (λ v. v))) (search rules) ∙ ap (map (shown_entry (λ v. v))) new
-    ∙ entries-or_insert (λ v. v) c.args.name.now c.args.entries.now c.in_ok-key.key c.args.value c.in_ok-key.ensures.ok
+pub returns-in_ok-insert : goal.returns-in_ok-insert
+returns-in_ok-insert g c =
+    let name = c.args.name.now in
+    let old = c.args.entries.now in
+    let known : c.contains_key.result ≡ has_entry name (map (shown_entry (λ v. v)) old.entries) = c.contains_key.ensures ∙ sym (has_entry-entries (λ v. v) name old.entries) in
+    let new : has_entry name (map (shown_entry (λ v. v)) old.entries) ≡ false = cc in
+    ap (map (shown_entry (λ v. v))) c.in_ok-insert.ensures.entries
+    ∙ entries-new (λ v. v) name old c.in_ok-from_str.field-0 c.args.value c.in_ok-from_str.ensures.ok new
+    ∙ ap (λ b. pushed_unless b (map (shown_entry (λ v. v)) old.entries) (name, c.args.value)) (sym new)
+
+pub returns-else-not-contains_key : goal.returns-else-not-contains_key
+returns-else-not-contains_key g c =
+    let name = c.args.name.now in
+    let old = c.args.entries.now in
+    let known : c.contains_key.result ≡ has_entry name (map (shown_entry (λ v. v)) old.entries) = c.contains_key.ensures ∙ sym (has_entry-entries (λ v. v) name old.entries) in
+    let there : has_entry name (map (shown_entry (λ v. v)) old.entries) ≡ true = cc in
+    ap (λ b. pushed_unless b (map (shown_entry (λ v. v)) old.entries) (name, c.args.value)) (sym there)
