@@ -50,6 +50,9 @@ LEVELS = {'--allow': None, '--warn': 'warning', '--deny': 'error'}
 VALIDATION = ('NoStartRule', 'InvalidStartRule', 'UnknownRuleRef', 'UnknownToken', 'NoPrecForToken', 'UnknownEPP')
 UNKNOWN = ('InvalidStartRule', 'UnknownRuleRef', 'UnknownToken', 'UnknownEPP')
 SUGGESTIONS = 20                                   # how many of the errors of a file are compared with its names
+NO_TOKEN = 'if it is a token, declare it by %token'
+STILL_NO_TOKEN = '%left, %right and %nonassoc declare no token: declare it by %token too'
+NO_PRECEDENCE = 'no %left, %right or %nonassoc names it'
 FORMATS = ('text', 'json')
 GREATEST = 4294967295
 NO_MEMORY = object()                               # in place of the bytes of a file
@@ -144,10 +147,7 @@ class Tally:
 
     def add_errors(self, options, name, t, errors, tree):
         for index, error in enumerate(shown_errors(errors, tree)):
-            words = hint(t, error)
-            if words is None and index < SUGGESTIONS and error.kind in UNKNOWN:
-                words = suggestion(error.name, [*tree.rules, *tree.tokens])
-            self.add_error(options, name, t, error, words)
+            self.add_error(options, name, t, error, hint(t, error) or suggestion(error, tree, index < SUGGESTIONS))
 
     def add_error(self, options, name, t, error, words):
         self.errors += 1
@@ -186,14 +186,29 @@ class Tally:
 def shown_errors(errors, tree):
     """The errors of a text that are printed: unless one stopped the reading, each fault of its tree."""
     shown = [error for error in errors if error.kind not in VALIDATION]
-    return shown if any(map(stops_reading, errors)) else shown + list(every_fault(tree))
+    if any(map(stops_reading, errors)):
+        return shown
+    shown += [fault for fault in every_fault(tree) if fault.kind != 'NoPrecForToken']
+    lacking = [p for p in tree.productions if p.precedence is not None and p.precedence not in tree.precedences]
+    return shown + [Fault('NoPrecForToken', p.span, p.precedence) for p in lacking]
 
 
-def suggestion(unknown, names):
-    """The note that suggests the nearest of the names for one that is unknown, or None."""
+def suggestion(error, tree, looks_up):
+    """The note on an error with an unknown name, or None. The nearest name is looked up for the first errors alone."""
+    if error.kind == 'NoPrecForToken':
+        near = looks_up and nearest(error.name, tree.precedences)
+        return NO_PRECEDENCE + (': ' + near if near else '')
+    if error.kind == 'UnknownRuleRef' and looks_up and error.name in tree.precedences:
+        return STILL_NO_TOKEN
+    near = nearest(error.name, [*tree.rules, *tree.tokens]) if looks_up and error.kind in UNKNOWN else None
+    return NO_TOKEN if near is None and error.kind == 'UnknownRuleRef' else near
+
+
+def nearest(unknown, names):
+    """The question whether the nearest of the names is meant, or None if none is near."""
     most = min((len(unknown) + 2) // 3, len(unknown) - 1)
-    near = [(edits, index) for index, n in enumerate(names) if n != unknown for edits in [distance(unknown, n)] if edits <= most]
-    return "did you mean '%s'?" % names[min(near)[1]] if near else None
+    near = [(edits, index, n) for index, n in enumerate(names) if n != unknown for edits in [distance(unknown, n)] if edits <= most]
+    return "did you mean '%s'?" % min(near)[2] if near else None
 
 
 def distance(one, other):

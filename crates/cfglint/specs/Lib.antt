@@ -1,2 +1,3 @@
 pub mod Reported
+pub mod ShownErrors
 pub mod Suggestions

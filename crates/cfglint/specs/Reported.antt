@@ -1,17 +1,16 @@
 -- What is reported for a text: its errors, or the findings about its grammar.
-use Rattle.std.specs.Prelude.{◌≡◌, ℕ, ◌+◌, Bool, true, false, not, if◌then◌else◌, List, [], ◌∷◌, ◌++◌, codes, drop, length, map, slice_get, take, Option, None}
-use Rattle.std.specs.List.{count_by, filter, flat_map, list_any}
+use Rattle.std.specs.Prelude.{◌≡◌, ℕ, ◌+◌, Bool, true, false, if◌then◌else◌, List, [], ◌∷◌, ◌++◌, codes, drop, length, map, slice_get, take, Option, None}
+use Rattle.std.specs.List.{count_by, flat_map}
 use Rattle.std.specs.Option.{option_map_or, option_or}
 use Rattle.cfgrammar.specs.YaccKind.TheVariants.{Original}
 use Rattle.cfgrammar.specs.YaccOriginalActionKind.TheVariants.{NoAction}
-use Rattle.cfgrammar.specs.Errors.{ErrorKind, GrammarError, DuplicatePrecedence, DuplicateAvoidInsertDeclaration, DuplicateImplicitTokensDeclaration, DuplicateExpectDeclaration, DuplicateExpectRRDeclaration, DuplicateStartDeclaration, DuplicateActiontypeDeclaration, DuplicateEPP, StorageTooSmall, NoStartRule, InvalidStartRule, UnknownRuleRef, UnknownToken, NoPrecForToken, UnknownEPP}
+use Rattle.cfgrammar.specs.Errors.{GrammarError}
 use Rattle.cfgrammar.specs.Errors as errors
 use Rattle.cfgrammar.specs.ErrorTexts.{error_text}
 use Rattle.cfgrammar.specs.Hints.{hint_text}
 use Rattle.cfgrammar.specs.Render.{note_line, rendered}
 use Rattle.cfgrammar.specs.Span.{Span}
 use Rattle.cfgrammar.specs.Answer.{Found}
-use Rattle.cfgrammar.specs.EveryError.{every_error}
 use Rattle.cfgrammar.specs.Numbered.{Numbered}
 use Rattle.cfgrammar.specs.Syntax.{Syntax}
 use Rattle.cfgprogram.specs.declared.kinds.KindArg.{KindArg}
@@ -27,7 +26,8 @@ use Rattle.cfglint_shell.specs.FindingKinds.{level_of, word_of}
 use Rattle.cfglint_shell.specs.Tally.{Printed}
 use Rattle.cfgfindings.specs.Findings.{AreFindings}
 use Rattle.cfgfindings.specs.Shown.{ShownFinding, spanskind_of}
-use Rattle.cfglint.specs.Suggestions.{most_suggestions, names_of, suggestion}
+use Rattle.cfglint.specs.ShownErrors.{shown_errors}
+use Rattle.cfglint.specs.Suggestions.{Names, most_suggestions, names_of, no_names, suggestion}
 
 -- a finding that is reported, as an error or as a warning
 pub record Reported : Type 0 where
@@ -51,61 +51,22 @@ abbrev pub finding_message : Reported → List ℕ
 finding_message reported = (if reported.is_error then codes "error" else codes "warning")
     ++ (codes ": " ++ (reported.finding.text ++ (codes " [" ++ (word_of reported.finding.kind ++ codes "]"))))
 
--- Whether an error of this kind is one of validation, of what was read; and whether it stopped the reading.
-abbrev pub is_of_validation : ErrorKind → Bool
-is_of_validation NoStartRule = true
-is_of_validation (InvalidStartRule name) = true
-is_of_validation (UnknownRuleRef name) = true
-is_of_validation (UnknownToken name) = true
-is_of_validation (NoPrecForToken name) = true
-is_of_validation (UnknownEPP name) = true
-is_of_validation _ = false
-
-abbrev pub stops_reading : ErrorKind → Bool
-stops_reading DuplicatePrecedence = false
-stops_reading DuplicateAvoidInsertDeclaration = false
-stops_reading DuplicateImplicitTokensDeclaration = false
-stops_reading DuplicateExpectDeclaration = false
-stops_reading DuplicateExpectRRDeclaration = false
-stops_reading DuplicateStartDeclaration = false
-stops_reading DuplicateActiontypeDeclaration = false
-stops_reading DuplicateEPP = false
-stops_reading StorageTooSmall = false
-stops_reading NoStartRule = false
-stops_reading (InvalidStartRule name) = false
-stops_reading (UnknownRuleRef name) = false
-stops_reading (UnknownToken name) = false
-stops_reading (NoPrecForToken name) = false
-stops_reading (UnknownEPP name) = false
-stops_reading _ = true
-
-abbrev pub is_stopped : List GrammarError → Bool
-is_stopped all = list_any (λ (error : GrammarError). stops_reading error.kind) all
-
--- The checks of validation that what was read fails; none where an error stopped the reading, since what was not read may mend them.
-abbrev pub failed_checks : Option Syntax → List GrammarError → List GrammarError
-failed_checks syntax all = if is_stopped all then [] else option_map_or every_error syntax []
-
--- the errors that are shown: those that aren't of validation, and then every check that fails
-abbrev pub shown_errors : Option Syntax → List GrammarError → List GrammarError
-shown_errors syntax all = filter (λ (error : GrammarError). not (is_of_validation error.kind)) all ++ failed_checks syntax all
-
 -- an error, and the note on it if there is one
 pub record NotedError : Type 0 where
   pub error : GrammarError
   pub hint : Option (List ℕ)
 
--- the note on an error, in a text whose rules and tokens have these names
-abbrev pub note_on : List ℕ → List (List ℕ) → GrammarError → Option (List ℕ)
+-- the note on an error, in a text with these names
+abbrev pub note_on : List ℕ → Names → GrammarError → Option (List ℕ)
 note_on text names error = option_or (hint_text text error) (suggestion names error.kind)
 
-abbrev pub noted : List ℕ → List (List ℕ) → GrammarError → NotedError
+abbrev pub noted : List ℕ → Names → GrammarError → NotedError
 noted text names error = record { error = error; hint = note_on text names error }
 
 -- Errors, each with its note. Only the first of them get names suggested, so that many errors don't take long.
-abbrev pub noted_errors : List ℕ → List (List ℕ) → List GrammarError → List NotedError
+abbrev pub noted_errors : List ℕ → Names → List GrammarError → List NotedError
 noted_errors text names all =
-    map (noted text names) (take most_suggestions all) ++ map (noted text []) (drop most_suggestions all)
+    map (noted text names) (take most_suggestions all) ++ map (noted text no_names) (drop most_suggestions all)
 
 -- the offset of an error, in bytes: the start of its first span
 abbrev pub error_offset : GrammarError → ℕ
@@ -162,7 +123,7 @@ module _ (format : Format) (name text : List ℕ) where
   -- that it has these errors, and was read as this syntax unless it names no kind: the errors that are shown, each with its note
   abbrev pub ReportsErrors : Option Syntax → List GrammarError → Printed → Type 0
   ReportsErrors syntax all reported =
-      AreErrorLines (noted_errors text (option_map_or names_of syntax []) (shown_errors syntax all)) reported.lines
+      AreErrorLines (noted_errors text (option_map_or names_of syntax no_names) (shown_errors syntax all)) reported.lines
       × (reported.errors ≡ length (shown_errors syntax all)) × (reported.warnings ≡ 0)
 
   -- the findings about its grammar, given its syntax and its numbers, with these levels; those that are no errors are warnings

@@ -9,7 +9,7 @@ use crate::reported::{
     ReportedError, error_count, error_lines, reported_errors, reported_findings,
 };
 use crate::shown::shown_errors;
-use crate::suggestion::names_of;
+use crate::suggestion::Names;
 use cfgdriver::{TextReader, read_text_or};
 use cfgfindings::findings;
 use cfgjson::{JsonLine, json_lines};
@@ -71,7 +71,7 @@ impl TextReader<Report> for FileReporter<'_> {
         errors: &[YaccGrammarError],
     ) -> Result<Report, AllocError> {
         let shown = shown_errors(alloc, ast, errors)?;
-        let names = names_of(alloc, ast)?;
+        let names = Names::of(alloc, ast)?;
         let reported = reported_errors(alloc, text, &names, &shown)?;
         let lines = lines_of_errors(alloc, self.format, self.name, text, &reported)?;
         Ok(Report {

@@ -6,7 +6,7 @@ ghost use Rattle.std.specs.Option.{option_map};
 ghost use Rattle.cfglint.specs.Reported.{error_lines, error_offset, note_on, noted, noted_errors, reported_by};
 ghost use Rattle.cfglint.specs.Suggestions.{most_suggestions};
 
-use crate::suggestion::suggestion;
+use crate::suggestion::{Names, suggestion};
 use cfgfindings::Finding;
 use cfgjson::{Diagnostic, JsonLine, push_line};
 use cfglint_shell::{Level, Levels};
@@ -177,15 +177,15 @@ impl JsonLine for ReportedFinding<'_> {
 pub(crate) fn reported_errors<'a>(
     alloc: Global,
     text: &str,
-    names: &[&str],
+    names: &Names<'_>,
     errors: &'a [YaccGrammarError],
 ) -> Result<Vec<ReportedError<'a>>, AllocError>
     ensures { IfOk result (λ reported. reported.items
-        ≡ noted_errors text.now (map (λ name. name.now) names.now) errors.now) }
+        ≡ noted_errors text.now names.now errors.now) }
 {
     let (first, rest) = first_errors(errors);
     let mut reported = noted(alloc, text, names, first)?;
-    reported.append(&mut noted(alloc, text, &[], rest)?)?;
+    reported.append(&mut noted(alloc, text, &Names::none(alloc), rest)?)?;
     Ok(reported)
 }
 
@@ -202,11 +202,11 @@ fn first_errors(errors: &[YaccGrammarError]) -> (&[YaccGrammarError], &[YaccGram
 fn noted<'a>(
     alloc: Global,
     text: &str,
-    names: &[&str],
+    names: &Names<'_>,
     errors: &'a [YaccGrammarError],
 ) -> Result<Vec<ReportedError<'a>>, AllocError>
     ensures { IfOk result (λ reported. reported.items
-        ≡ map (noted text.now (map (λ name. name.now) names.now)) errors.now) }
+        ≡ map (noted text.now names.now) errors.now) }
 {
     let mut reported = Vec::new(alloc);
     for error in errors {
@@ -220,11 +220,11 @@ fn noted<'a>(
 fn hint_of(
     alloc: Global,
     text: &str,
-    names: &[&str],
+    names: &Names<'_>,
     error: &YaccGrammarError,
 ) -> Result<Option<String>, AllocError>
     ensures { IfOk result (λ hint. option_map (λ words. string_bytes words) hint
-        ≡ note_on text.now (map (λ name. name.now) names.now) error.now) }
+        ≡ note_on text.now names.now error.now) }
 {
     match hint_for(text, error) {
         Some(hint) => Ok(Some(hint.to_string(alloc)?)),

@@ -1,13 +1,17 @@
 //! The errors that are shown.
 
-ghost use Rattle.std.specs.Prelude.{◌≡◌, ◌++◌, IfOk, not};
-ghost use Rattle.std.specs.List.{filter};
-ghost use Rattle.std.specs.Option.{option_map};
-ghost use Rattle.cfgrammar.specs.Errors.{kind_view};
+ghost use Rattle.std.specs.Prelude.{◌≡◌, ◌++◌, IfOk, OnOk, not};
+ghost use Rattle.std.specs.List.{filter, filter_map};
+ghost use Rattle.std.specs.Option.{option_map, option_to_list};
+ghost use Rattle.cfgrammar.specs.Building.{has_entry};
+ghost use Rattle.cfgrammar.specs.Errors.{GrammarError, kind_view};
+ghost use Rattle.cfgrammar.specs.EveryError.{every_error};
+ghost use Rattle.cfgrammar.specs.SyntaxView.{production_view};
 ghost use Rattle.cfgrammar.specs.TreeView.{syntax};
-ghost use Rattle.cfglint.specs.Reported.{failed_checks, is_of_validation, is_stopped, shown_errors, stops_reading};
+ghost use Rattle.cfglint.specs.ShownErrors.{every_check, failed_checks, is_of_precedence, is_of_validation, is_stopped};
+ghost use Rattle.cfglint.specs.ShownErrors.{precedence_error, shown_errors, stops_reading};
 
-use cfgrammar::yacc::ast::{GrammarAST, every_error};
+use cfgrammar::yacc::ast::{GrammarAST, Production, every_error};
 use cfgrammar::yacc::{YaccGrammarError, YaccGrammarErrorKind};
 use std::alloc::{AllocError, Global};
 
@@ -46,9 +50,68 @@ fn failed_checks(
         ≡ failed_checks (option_map (λ ast. syntax ast.now) ast.entry) errors.now) }
 {
     match ast {
-        Some(ast) if !is_stopped(errors) => every_error(alloc, ast),
+        Some(ast) if !is_stopped(errors) => every_check(alloc, ast),
         _ => Ok(Vec::new(alloc)),
     }
+}
+
+/// Every check of validation that fails: those of `%prec`s last, and at their productions.
+fn every_check(alloc: Global, ast: &GrammarAST) -> Result<Vec<YaccGrammarError>, AllocError>
+    ensures { IfOk result (λ failed. failed.items ≡ every_check (syntax ast.now)) }
+{
+    let mut failed = other_checks(alloc, ast)?;
+    for production in ast.prods() {
+        push_precedence_error(alloc, &mut failed, ast, production)?;
+    }
+    Ok(failed)
+}
+
+/// Every check of validation that fails and isn't one of a `%prec`.
+fn other_checks(alloc: Global, ast: &GrammarAST) -> Result<Vec<YaccGrammarError>, AllocError>
+    ensures { IfOk result (λ failed. failed.items
+        ≡ filter (λ (error : GrammarError). not (is_of_precedence error.kind)) (every_error (syntax ast.now))) }
+{
+    every_error(alloc, ast)?
+        .into_iter()
+        .filter(|error| !is_of_precedence(error.kind()))
+        .collect(alloc)
+}
+
+/// Adds the error of a production whose `%prec` names a token without a precedence.
+fn push_precedence_error(
+    alloc: Global,
+    failed: &mut Vec<YaccGrammarError>,
+    ast: &GrammarAST,
+    production: &Production,
+) -> Result<(), AllocError>
+    ensures { OnOk result (failed.new.items ≡ failed.old.items
+        ++ option_to_list (precedence_error (syntax ast.now) (production_view production.now))) }
+{
+    let Some(name) = &production.precedence else {
+        return Ok(());
+    };
+    if has_precedence(ast, name) {
+        return Ok(());
+    }
+    let mut spans = Vec::new(alloc);
+    spans.push(production.prod_span)?;
+    let kind = YaccGrammarErrorKind::NoPrecForToken(name.clone()?);
+    failed.push(YaccGrammarError::new(kind, spans))?;
+    Ok(())
+}
+
+/// Whether the token with this name has a precedence.
+fn has_precedence(ast: &GrammarAST, name: &str) -> bool
+    ensures { result ≡ has_entry name.now (syntax ast.now).tables.precedences }
+{
+    ast.precs().contains_key(name)
+}
+
+/// Whether an error of this kind is that of a `%prec`.
+fn is_of_precedence(kind: &YaccGrammarErrorKind) -> bool
+    ensures { result ≡ is_of_precedence (kind_view kind.now) }
+{
+    matches!(kind, YaccGrammarErrorKind::NoPrecForToken(_))
 }
 
 /// Whether one of the errors stopped the reading.

@@ -4,4 +4,4 @@ use Rattle.cfglint.proofs.reported.noted.Given as goal
 
 -- those of the errors so far
 abbrev pub invariant-loop-error : goal.invariant-loop-error
-invariant-loop-error l = l.reported.items ≡ map (noted l.text (map (λ name. name.now) l.names)) (take l.error-index l.errors)
+invariant-loop-error l = l.reported.items ≡ map (noted l.text l.names) (take l.error-index l.errors)

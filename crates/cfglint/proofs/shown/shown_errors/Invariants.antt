@@ -1,7 +1,7 @@
 use Rattle.std.proofs.Common.{◌≡◌, not, take}
 use Rattle.std.specs.List.{filter}
 use Rattle.cfgrammar.specs.Errors.{GrammarError}
-use Rattle.cfglint.specs.Reported.{is_of_validation}
+use Rattle.cfglint.specs.ShownErrors.{is_of_validation}
 use Rattle.cfglint.proofs.shown.shown_errors.Given as goal
 
 -- those of the errors so far
