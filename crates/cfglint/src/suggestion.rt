@@ -130,10 +130,10 @@ pub(crate) fn suggestion(
         YaccGrammarErrorKind::InvalidStartRule(name)
         | YaccGrammarErrorKind::UnknownToken(name)
         | YaccGrammarErrorKind::UnknownEPP(name) => question_of(alloc, &names.symbols, name),
-        YaccGrammarErrorKind::UnknownRuleRef(name) => { Ok(Some(rule_note(alloc, names, name)?)) }
-        YaccGrammarErrorKind::NoPrecForToken(name) => {
-            Ok(Some(precedence_note(alloc, names, name)?))
-        }
+        YaccGrammarErrorKind::UnknownRuleRef(name) => Ok(Some(rule_note(alloc, names, name)?)),
+        YaccGrammarErrorKind::NoPrecForToken(name) => Ok(Some(precedence_note(
+            alloc, names, name,
+        )?)),
         _ => Ok(None),
     }
 }
