@@ -41,6 +41,7 @@ Of several --allow, --warn and --deny with the same one the last counts.
 status: 0 without errors or denied warnings; 1 with either; 2 if the arguments are wrong, a file can't be read or
 the output can't be written; 3 if there is no memory left
 '''
+OPTIONS = '--kind, --format, --allow, --warn, --deny, --deny-warnings, --quiet, --stdin-name, -h, --help, --version, --'
 KINDS = ('original-noaction', 'original-useraction', 'original-genericparsetree', 'grmtools', 'eco', 'section')
 FINDINGS = ('unused-rule', 'unused-token', 'shadowed-rule', 'start-without-sentence', 'no-sentence', 'unusable-rule',
             'unusable-production', 'useless-symbol', 'cyclic-rule', 'repeated-production', 'unused-precedence',
@@ -115,7 +116,7 @@ def options_of(arguments):
                 raise Wrong("option '%s' needs a value" % option)
             options.set(option, value if equals else left.pop(0))
         elif argument.startswith('-') and argument != '-':
-            raise Wrong("unknown option '%s'" % argument)
+            raise Wrong("unknown option '%s': the options are %s" % (argument, OPTIONS))
         else:
             options.files.append(argument)
     if not options.files:

@@ -173,7 +173,7 @@ usage = codes "usage: cfglint [OPTION..] [--] FILE..\n"
 
 -- the line that says what is wrong
 abbrev pub usage_error_text : UsageError → List ℕ
-usage_error_text (UnknownOption option) = codes "cfglint: unknown option '" ++ (option ++ codes "'\n")
+usage_error_text (UnknownOption option) = codes "cfglint: unknown option '" ++ (option ++ codes "': the options are --kind, --format, --allow, --warn, --deny, --deny-warnings, --quiet, --stdin-name, -h, --help, --version, --\n")
 usage_error_text (UnknownKind kind) = codes "cfglint: unknown kind '" ++ (kind ++ codes "': the kinds are original-noaction, original-useraction, original-genericparsetree, grmtools, eco, section\n")
 usage_error_text (UnknownFormat format) = codes "cfglint: unknown format '" ++ (format ++ codes "': the formats are text, json\n")
 usage_error_text (UnknownFinding finding) = codes "cfglint: unknown finding '" ++ (finding ++ codes "': the findings are unused-rule, unused-token, shadowed-rule, start-without-sentence, no-sentence, unusable-rule, unusable-production, useless-symbol, cyclic-rule, repeated-production, unused-precedence, repeated-token, overridden-precedence\n")

@@ -115,7 +115,9 @@ impl UsageError<'_> {
     {
         match *self {
             UsageError::UnknownOption(option) => {
-                format!(in alloc; "cfglint: unknown option '{option}'\n{USAGE}")
+                format!(in alloc;
+                    "cfglint: unknown option '{option}': the options are {OPTIONS}\n{USAGE}"
+                )
             }
             UsageError::UnknownKind(kind) => {
                 format!(in alloc; "cfglint: unknown kind '{kind}': the kinds are {KINDS}\n{USAGE}")
@@ -138,6 +140,10 @@ impl UsageError<'_> {
         }
     }
 }
+
+/// The options.
+const OPTIONS: &str =
+    "--kind, --format, --allow, --warn, --deny, --deny-warnings, --quiet, --stdin-name, -h, --help, --version, --";
 
 /// The values of `--kind`.
 const KINDS: &str =
