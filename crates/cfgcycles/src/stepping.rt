@@ -1,6 +1,6 @@
 //! The unit steps of a grammar.
 
-ghost use Rattle.std.specs.Prelude.{◌≡◌, ◌<◌, ◌≤◌, ◌↔◌, ℕ, length, map, IfOk, OnOk};
+ghost use Rattle.std.specs.Prelude.{◌≡◌, ◌<◌, ◌≤◌, ◌↔◌, ℕ, length, map, IfOk, OnErr, OnOk};
 ghost use Rattle.derivation.specs.Grammar.{Rule};
 ghost use Rattle.cfgtables.specs.NumberedSymbols.{sym_of};
 ghost use Rattle.cfganalysis.specs.Firsts.{AreFirsts};
@@ -68,6 +68,10 @@ fn put_steps<S: Storage, T: Tables<S>>(
 }
 
 /// Adds the step at this index of the production to those of the rule, if the symbol at the index is a rule.
+///
+/// # Errors
+///
+/// Out of memory, but not for a token.
 fn put_step<S: Storage>(
     steps: &mut Steps,
     rule: usize,
@@ -80,6 +84,7 @@ fn put_step<S: Storage>(
         × (step.production ≡ production) × (step.index ≡ index)) steps.old steps.new) }
     ensures order { OnOk result (AreAllInOrder steps.old
         → ((step : Step) → HasStep steps.old rule step → IsEarlier production index step) → AreAllInOrder steps.new) }
+    ensures refused { OnErr result ((next : ℕ) × (sym_of S.number symbol ≡ Rule next)) }
 {
     match symbol {
         Symbol::Rule(next) => {

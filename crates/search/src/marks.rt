@@ -1,7 +1,7 @@
 //! The marks of a search.
 
 ghost use Rattle.std.specs.Prelude.{◌≡◌, ◌<◌, Bool, List, Some, false, length, not, slice_get, slice_index_or};
-ghost use Rattle.std.specs.Prelude.{IfOk, IsOk, OnOk, slice_set, true};
+ghost use Rattle.std.specs.Prelude.{IfOk, IsOk, OnErr, OnOk, slice_set, true};
 ghost use Rattle.search.specs.Inner.Marks.{bits_at};
 
 use cfgindex::Vob;
@@ -21,11 +21,12 @@ pub trait Marks: Drop {
     ///
     /// # Errors
     ///
-    /// `AllocError` if an allocation fails.
+    /// `AllocError` if an allocation fails. It doesn't for a number that is marked.
     fn mark(&mut self, number: usize) -> Result<bool, AllocError>
         requires { number < length (bits self.old) }
         ensures bits { OnOk result (bits self.new ≡ slice_set (bits self.old) number true) }
-        ensures changed { IfOk result (λ fresh. slice_get (bits self.old) number ≡ Some (not fresh)) };
+        ensures changed { IfOk result (λ fresh. slice_get (bits self.old) number ≡ Some (not fresh)) }
+        ensures refused { OnErr result (slice_get (bits self.old) number ≡ Some false) };
 }
 
 /// A bit for each number.
