@@ -36,6 +36,7 @@ pub use cfgwords::laws::{
     integers_found, line_rest_is_graph, names_found, prefix_is_graph, quoted_tokens_found,
     section_names_found, texts_found, tokens_found,
 };
+pub use cfgyacc::laws::texts_are_read_as_the_kind_they_name;
 
 // What `==`, order, hash and `clone` of types compare and copy.
 pub use cfgast::laws::{

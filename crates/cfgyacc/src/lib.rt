@@ -2,5 +2,6 @@
 #![tactic(auto)]
 
 pub mod grammar;
+pub mod laws;
 
 pub use grammar::YaccGrammar;
