@@ -20,9 +20,9 @@ to_naming text naming names found is = subst (λ n. IsFoundNamed text n found) (
 
 pub returns-clause-named : goal.returns-clause-named
 returns-clause-named c text kind names max result = (
-    λ it. (it.0, from_naming text (Ok kind) names it.0 it.1.0 it.1.1, it.2),
-    λ it. (it.0, (one_naming text, to_naming text (Ok kind) names it.0 it.1), it.2),
-  )
+  λ it. (it.0, from_naming text (Ok kind) names it.0 it.1.0 it.1.1, it.2),
+  λ it. (it.0, (one_naming text, to_naming text (Ok kind) names it.0 it.1), it.2),
+)
 
 pub returns-clause-unnamed : goal.returns-clause-unnamed
 returns-clause-unnamed c text errors names max result =

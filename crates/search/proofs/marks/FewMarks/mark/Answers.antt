@@ -21,5 +21,6 @@ returns-in_err-insert-clause-refused c =
     let within = subst (λ n. c.args.number < n) (bits_length few.bound few.numbers) c.requires in
     let refused = bit_was few.bound few.numbers c.args.number within true (sym (ap not c.in_err-insert.ensures.absent)) in
     elim c.from_residual.result as (λ r. OnErr r (slice_get (bits_at few.bound few.numbers) c.args.number ≡ Some false)) [
-      Ok _ ↦ tt | Err _ ↦ refused
+      | Ok _ ↦ tt
+      | Err _ ↦ refused
     ]
