@@ -1,13 +1,13 @@
 //! FIRST and FOLLOW.
 
-ghost use Rattle.std.specs.Prelude.{◌<◌, length};
+ghost use Rattle.std.specs.Prelude.{◌-◌, ◌^◌, ◌<◌, length};
 ghost use Rattle.cfgrammar.specs.Numbered.{core};
 ghost use Rattle.cfgrammar.specs.Firsts.{AreFirsts};
 
 use cfgrammar::yacc::YaccGrammar;
 use cfgrammar::yacc::firsts::{YaccFirsts, firsts_over};
 use cfgrammar::yacc::follows::{YaccFollows, follows_over};
-use cfgrammar::yacc::grammar::Productions;
+use cfgrammar::yacc::grammar::{CountedTables, Productions};
 use cfgrammar::{PIdx, RIdx, Storage, Symbol, TIdx, Vob};
 use std::alloc::{AllocError, Global};
 
@@ -30,7 +30,7 @@ pub fn counted_firsts<S: Storage>(
     alloc: Global,
     grammar: &YaccGrammar<S>,
 ) -> Result<YaccFirsts<S>, AllocError> {
-    let mut productions = grammar.productions(alloc)?;
+    let mut productions: CountedTables<'_, S, YaccGrammar<S>> = grammar.productions(alloc)?;
     firsts_over(alloc, &mut productions)
 }
 
@@ -89,16 +89,17 @@ pub fn lengths<S: Storage, P: Productions<S>>(
     )
 }
 
-/// A production that is opened.
-pub fn opened<S: Storage>(
-    alloc: Global,
-    grammar: &YaccGrammar<S>,
-) -> Result<(RIdx<S>, u64, usize), AllocError> {
-    let mut productions = grammar.productions(alloc)?;
-    let first: PIdx<S> = grammar.start_prod();
-    let rule: RIdx<S> = productions.rule_of(first);
-    let symbols: &[Symbol<S>] = productions.open(first);
-    let len = symbols.len();
-    let opened: u64 = productions.opened(first);
-    Ok((rule, opened, len))
+/// A production of any grammar, which is opened.
+pub fn opened<S: Storage, P: Productions<S>>(
+    productions: &mut P,
+    production: PIdx<S>,
+) -> (RIdx<S>, u64, usize)
+    requires in_range { S.number production.0 < length (P.content productions.old).productions }
+    requires countable { P.opened productions.old (S.number production.0) < 2 ^ 64 - 1 }
+    requires all_countable { P.opened_all productions.old < 2 ^ 128 - 1 }
+{
+    let rule: RIdx<S> = productions.rule_of(production);
+    let opened: u64 = productions.opened(production);
+    let symbols: &[Symbol<S>] = productions.open(production);
+    (rule, opened, symbols.len())
 }

@@ -1,11 +1,12 @@
 //! The reading of a file, its errors and its warnings.
 
+use cfgrammar::header::HeaderErrorKind;
 use cfgrammar::yacc::ast::{
     ASTModificationError, ASTWithValidityInfo, GrammarAST, KindSource, Rule, StartFault,
 };
 use cfgrammar::yacc::{
     YaccFault, YaccGrammarError, YaccGrammarErrorKind, YaccGrammarResult, YaccGrammarWarning,
-    YaccGrammarWarningKind, YaccKind, YaccOriginalActionKind,
+    YaccGrammarWarningKind, YaccKind, YaccOriginalActionKind, parser,
 };
 use cfgrammar::{Span, Spanned, SpansKind};
 use std::alloc::{AllocError, Global};
@@ -60,18 +61,30 @@ pub fn made(
     Result<ASTWithValidityInfo, AllocError>,
     Result<GrammarAST, AllocError>,
 ) {
+    let ast: &GrammarAST = parsed.ast();
     (
-        parsed.ast().warnings(alloc),
+        ast.warnings(alloc),
         parsed.clone_and_change_start_rule(alloc, rule),
         parsed.clone(),
-        parsed.ast().clone(),
+        ast.clone(),
     )
 }
 
+/// Whether the text named its kind.
+pub fn is_named(source: KindSource) -> bool {
+    match source {
+        KindSource::Section => true,
+        KindSource::Default => false,
+    }
+}
+
 /// Why it can't have another start rule.
-pub fn start_error(fault: &StartFault) -> Option<&ASTModificationError> {
+pub fn start_error(fault: &StartFault) -> Option<(&ASTModificationError, &YaccGrammarErrorKind)> {
     match fault {
-        StartFault::Modification(error) => Some(error),
+        StartFault::Modification(error) => {
+            let error: &ASTModificationError = error;
+            Some((error, error.kind()))
+        }
         StartFault::OutOfMemory => None,
     }
 }
@@ -92,6 +105,78 @@ pub fn first_error(fault: &YaccFault) -> Option<(bool, bool, Option<Span>)> {
         }
         YaccFault::OutOfMemory => None,
     }
+}
+
+/// What an error's kind holds: a name, a character, or what is wrong with a section.
+pub fn held_by(
+    kind: &YaccGrammarErrorKind,
+) -> (
+    Option<&String>,
+    Option<char>,
+    Option<(HeaderErrorKind, SpansKind)>,
+) {
+    match kind {
+        YaccGrammarErrorKind::IllegalInteger
+        | YaccGrammarErrorKind::IllegalName
+        | YaccGrammarErrorKind::IllegalString
+        | YaccGrammarErrorKind::IncompleteRule
+        | YaccGrammarErrorKind::IncompleteComment
+        | YaccGrammarErrorKind::IncompleteAction
+        | YaccGrammarErrorKind::MissingColon
+        | YaccGrammarErrorKind::MissingRightArrow
+        | YaccGrammarErrorKind::MismatchedBrace
+        | YaccGrammarErrorKind::NonEmptyProduction
+        | YaccGrammarErrorKind::PrematureEnd
+        | YaccGrammarErrorKind::ProductionNotTerminated
+        | YaccGrammarErrorKind::ProgramsNotSupported
+        | YaccGrammarErrorKind::UnknownDeclaration
+        | YaccGrammarErrorKind::PrecNotFollowedByToken
+        | YaccGrammarErrorKind::DuplicatePrecedence
+        | YaccGrammarErrorKind::DuplicateAvoidInsertDeclaration
+        | YaccGrammarErrorKind::DuplicateImplicitTokensDeclaration
+        | YaccGrammarErrorKind::DuplicateExpectDeclaration
+        | YaccGrammarErrorKind::DuplicateExpectRRDeclaration
+        | YaccGrammarErrorKind::DuplicateStartDeclaration
+        | YaccGrammarErrorKind::DuplicateActiontypeDeclaration
+        | YaccGrammarErrorKind::DuplicateEPP
+        | YaccGrammarErrorKind::ReachedEOL
+        | YaccGrammarErrorKind::InvalidString
+        | YaccGrammarErrorKind::NoStartRule
+        | YaccGrammarErrorKind::UnknownSymbol
+        | YaccGrammarErrorKind::InvalidYaccKind
+        | YaccGrammarErrorKind::StorageTooSmall => (None, None, None),
+        YaccGrammarErrorKind::InvalidStartRule(name)
+        | YaccGrammarErrorKind::UnknownRuleRef(name)
+        | YaccGrammarErrorKind::UnknownToken(name)
+        | YaccGrammarErrorKind::NoPrecForToken(name)
+        | YaccGrammarErrorKind::UnknownEPP(name) => (Some(name), None, None),
+        YaccGrammarErrorKind::ExpectedInput(character) => (None, Some(*character), None),
+        YaccGrammarErrorKind::Header(kind, spanskind) => (None, None, Some((*kind, *spanskind))),
+    }
+}
+
+/// Errors and warnings, by their other paths.
+pub fn of_parser(
+    error: parser::YaccGrammarError,
+    kind: parser::YaccGrammarErrorKind,
+    warning: parser::YaccGrammarWarning,
+    warning_kind: parser::YaccGrammarWarningKind,
+    spanskind: parser::SpansKind,
+) -> (
+    YaccGrammarError,
+    YaccGrammarErrorKind,
+    YaccGrammarWarning,
+    YaccGrammarWarningKind,
+    SpansKind,
+) {
+    (error, kind, warning, warning_kind, spanskind)
+}
+
+/// Results of reading, by their other paths.
+pub fn read_by_parser(
+    outcome: parser::YaccGrammarResult<ASTWithValidityInfo>,
+) -> Result<ASTWithValidityInfo, parser::YaccFault> {
+    outcome
 }
 
 /// An error of one's own.

@@ -4,6 +4,7 @@ use cfgrammar::markmap::{
     Entry, Keys, MarkMap, MarkMapIterRef, MergeBehavior, MergeError, MergeFault, OccupiedEntry,
     VacantEntry,
 };
+use cfgrammar::{Location, TIdx};
 use std::alloc::{AllocError, Global};
 
 /// A map without keys.
@@ -48,7 +49,8 @@ pub fn entered(
     key: u32,
     value: String,
 ) -> Result<u16, (u32, String)> {
-    match map.entry(key) {
+    let entry: Entry<'_, u32, String> = map.entry(key);
+    match entry {
         Entry::Occupied(entry) => {
             let mut entry: OccupiedEntry<'_, u32, String> = entry;
             let _value: &String = entry.get();
@@ -105,10 +107,40 @@ pub fn merged(
     mine.merge_from(theirs, |value: String| Ok(value))
 }
 
+/// A map of other keys and values, merged with one whose values are converted.
+pub fn converted(
+    mine: &mut MarkMap<String, u64>,
+    theirs: MarkMap<String, u32>,
+) -> Result<(), MergeFault<String, u64, ()>> {
+    mine.merge_from(theirs, |value: u32| Ok(u64::from(value)))
+}
+
+/// A map over any keys and values, and how often a walk through another finds a value.
+pub fn counted<K: Ord + Clone + Drop, V: Drop>(
+    alloc: Global,
+    map: &MarkMap<TIdx<u32>, Location>,
+) -> (MarkMap<K, V>, usize) {
+    let mut count = 0usize;
+    for (_token, _location) in map {
+        count = count.saturating_add(1);
+    }
+    (MarkMap::new(alloc), count)
+}
+
+/// Behaviors as numbers.
+pub fn bits() -> [u8; 3] {
+    [
+        MergeBehavior::Theirs as u8,
+        MergeBehavior::Ours as u8,
+        MergeBehavior::MutuallyExclusive as u8,
+    ]
+}
+
 /// Where merging stopped.
 pub fn stopped(fault: &MergeFault<u32, String, AllocError>) -> Option<(u32, bool)> {
     match fault {
-        MergeFault::Conflict(MergeError::Exclusivity(key, value)) => {
+        MergeFault::Conflict(error) => {
+            let MergeError::Exclusivity(key, value): &MergeError<u32, Box<String>> = error;
             let value: &Box<String> = value;
             Some((*key, value.is_empty()))
         }

@@ -22,7 +22,8 @@ pub fn entry(
     offset: usize,
 ) -> Option<Result<(String, Span, Value<Span>, usize), HeaderFault>> {
     if text.is_char_boundary(offset) {
-        Some(GrmtoolsSectionParser::new(text, false).parse_key_value(alloc, offset))
+        let parser: GrmtoolsSectionParser<'_> = GrmtoolsSectionParser::new(text, false);
+        Some(parser.parse_key_value(alloc, offset))
     } else {
         None
     }
@@ -47,10 +48,34 @@ pub fn first_error(fault: &HeaderFault) -> Option<(HeaderErrorKind, Option<Span>
     }
 }
 
+/// What the kind of an error holds: a character, and what is said of it.
+pub fn held_by(kind: HeaderErrorKind) -> (Option<char>, Option<(&'static str, &'static str)>) {
+    match kind {
+        HeaderErrorKind::MissingGrmtoolsSection
+        | HeaderErrorKind::IllegalName
+        | HeaderErrorKind::DuplicateEntry => (None, None),
+        HeaderErrorKind::ExpectedToken(character) => (Some(character), None),
+        HeaderErrorKind::UnexpectedToken(character, hint) => (Some(character), Some((hint, hint))),
+        HeaderErrorKind::InvalidEntry(what) => (None, Some((what, what))),
+        HeaderErrorKind::ConversionError(what, why) => (None, Some((what, why))),
+    }
+}
+
+/// Copies of errors.
+pub fn copied(
+    error: &HeaderError<Span>,
+    located: &HeaderError<Location>,
+) -> (
+    Result<HeaderError<Span>, AllocError>,
+    Result<HeaderError<Location>, AllocError>,
+) {
+    (error.clone(), located.clone())
+}
+
 /// The parts of a value.
 pub fn number_of<T: Copy>(value: &HeaderValue<T>) -> Option<(u64, T)> {
-    let HeaderValue(_key, value): &HeaderValue<T> = value;
-    match value {
+    let _key: T = value.0;
+    match &value.1 {
         Value::Flag(_, position) => Some((0, *position)),
         Value::Setting(Setting::Num(number, position)) => Some((*number, *position)),
         Value::Setting(Setting::String(_, position)) => Some((1, *position)),
@@ -100,10 +125,21 @@ pub fn named_kind(alloc: Global, value: &Value<Span>) -> Result<Value<Location>,
     Ok(Value::try_from_kind(alloc, kind)?)
 }
 
+/// The kind that a value with locations names.
+pub fn kind_of_located(
+    alloc: Global,
+    value: &Value<Location>,
+) -> Result<YaccKind, KindFault<Location>> {
+    YaccKind::try_from_value::<Location>(alloc, value)
+}
+
 /// The error of a file for an error of its section.
 pub fn error_of(fault: KindFault<Span>) -> Option<YaccGrammarError> {
     match fault {
-        KindFault::Error(error) => Some(YaccGrammarError::from(error)),
+        KindFault::Error(error) => {
+            let error: HeaderError<Span> = error;
+            Some(YaccGrammarError::from(error))
+        }
         KindFault::OutOfMemory => None,
     }
 }

@@ -12,12 +12,11 @@ pub fn span_parts(len: usize, location: &Location) -> (usize, usize, usize, bool
     let span: Span = Span::new(0, len);
     let same: span::Span = span;
     match location {
-        Location::Span(at) => (
-            at.start(),
-            at.end(),
-            at.len(),
-            at.is_empty() && span == same,
-        ),
+        Location::Span(at) => {
+            let at: &Span = at;
+            let is_same: bool = at.is_empty() && span == same;
+            (at.start(), at.end(), at.len(), is_same)
+        }
         Location::CommandLine | Location::Other(_) => (0, 0, 0, true),
     }
 }
@@ -49,7 +48,7 @@ pub fn first_span<E: Spanned>(error: &E) -> (Option<Span>, bool) {
 }
 
 /// The text of what has spans.
-pub fn shown<E: Spanned>(alloc: Global, error: &E) -> Result<String, AllocError> {
+pub fn shown<E: span::Spanned>(alloc: Global, error: &E) -> Result<String, AllocError> {
     format!(in alloc; "{error}")
 }
 
@@ -67,10 +66,12 @@ pub fn indices<S: Storage, H: Hasher>(
         symbol.as_storaget(),
         token.as_storaget(),
     );
+    let numbers: (S, S, S, S) = (rule.0, production.0, symbol.0, token.0);
     let by_number: bool = rule <= RIdx(stored.0)
         && production == PIdx(stored.1)
         && symbol == SIdx(stored.2)
-        && token == TIdx(stored.3);
+        && token == TIdx(stored.3)
+        && numbers == stored;
     let symbols: (Symbol<S>, Symbol<S>) = (Symbol::Rule(rule), Symbol::Token(token));
     symbols.0.hash(hasher);
     rule.hash(hasher);
@@ -99,7 +100,10 @@ pub fn stored<S: Storage>(number: usize) -> Option<usize> {
         <u32 as Storage>::from_usize(number),
     );
     match (stored, bytes) {
-        (Some(stored), (None, _, _)) => Some(stored.to_usize()),
+        (Some(stored), (None, _, _)) => {
+            let stored: S = stored;
+            Some(stored.to_usize())
+        }
         _ => None,
     }
 }
@@ -121,7 +125,10 @@ pub fn bit_calls(bits: &mut Vob, others: &Vob) -> (usize, bool) {
 }
 
 /// A cache of the lines of a text that comes in pieces.
-pub fn lines_of_pieces(alloc: Global, pieces: &[&str]) -> Result<NewlineCache, FeedError> {
+pub fn lines_of_pieces(
+    alloc: Global,
+    pieces: &[&str],
+) -> Result<newlinecache::NewlineCache, FeedError> {
     NewlineCache::from_pieces(alloc, pieces.iter().copied())
 }
 
@@ -131,7 +138,7 @@ pub fn position(
     text: &str,
     byte: usize,
 ) -> Result<Option<(usize, usize)>, FeedError> {
-    let whole: newlinecache::NewlineCache = NewlineCache::from_str(alloc, text)?;
+    let whole: NewlineCache = NewlineCache::from_str(alloc, text)?;
     let position: Option<(usize, usize)> = whole.byte_to_line_num_and_col_num(text, byte);
     Ok(position)
 }

@@ -2,7 +2,7 @@
 
 use cfgrammar::yacc::ast::ASTWithValidityInfo;
 use cfgrammar::yacc::grammar::{self, PIdxIter, RIdxIter, TIdxIter};
-use cfgrammar::yacc::{Precedence, YaccGrammar, YaccGrammarResult, YaccKind};
+use cfgrammar::yacc::{AssocKind, Precedence, YaccGrammar, YaccGrammarResult, YaccKind};
 use cfgrammar::{PIdx, RIdx, SIdx, Span, Storage, Symbol, TIdx};
 use std::alloc::{AllocError, Global};
 use std::collections::HashMap;
@@ -22,7 +22,7 @@ pub fn made<S: Storage>(
     (
         YaccGrammar::<u32>::new(alloc, kind, text),
         YaccGrammar::<S>::new_with_storaget(alloc, kind, text),
-        grammar::YaccGrammar::new_from_ast_with_validity_info(alloc, parsed),
+        YaccGrammar::new_from_ast_with_validity_info(alloc, parsed),
         YaccGrammar::from_str(alloc, text),
     )
 }
@@ -123,15 +123,21 @@ pub fn tokens<S: Storage>(grammar: &YaccGrammar<S>, name: &str) -> Option<TIdx<S
     grammar.token_idx(name)
 }
 
-/// A table of a lexer, as a lexer built on this library takes it.
-fn lexer_rules(names: &HashMap<&str, TIdx<u32>>) -> usize {
-    names.len()
+/// The names of tokens, as a lexer built on this library takes them.
+pub fn named_tokens<'a, S: Storage>(
+    alloc: Global,
+    grammar: &'a YaccGrammar<S>,
+) -> Result<HashMap<&'a str, TIdx<S>>, AllocError> {
+    let names: HashMap<&'a str, TIdx<S>> = grammar.tokens_map(alloc)?;
+    Ok(names)
 }
 
-/// The names of tokens, passed to a lexer.
-pub fn named_tokens(alloc: Global, grammar: &YaccGrammar<u32>) -> Result<usize, AllocError> {
-    let names: HashMap<&str, TIdx<u32>> = grammar.tokens_map(alloc)?;
-    Ok(lexer_rules(&names))
+/// A precedence, by its other paths.
+pub fn level_of(precedence: grammar::Precedence) -> (grammar::AssocKind, u64) {
+    let kind: AssocKind = precedence.kind;
+    let level: grammar::PrecedenceLevel = precedence.level;
+    let number: u64 = level;
+    (kind, number)
 }
 
 /// A production's text, and whether one rule leads to another.

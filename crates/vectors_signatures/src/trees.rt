@@ -36,13 +36,13 @@ pub fn declared(ast: &GrammarAST, name: &str) -> Option<PrecedenceLevel> {
     let implicit_tokens: &Option<IndexMap<String, Span>> = ast.implicit_tokens();
     let epp: &IndexMap<String, (Span, (String, Span))> = ast.epp();
     let (precedence, _): &(Precedence, Span) = precs.get(name)?;
+    let precedence: Precedence = *precedence;
     let kind: AssocKind = precedence.kind;
     let level: PrecedenceLevel = precedence.level;
     let is_plain: bool = avoid_insert.is_none() && implicit_tokens.is_none() && epp.is_empty();
-    if is_plain && kind == AssocKind::Left {
-        Some(level)
-    } else {
-        None
+    match kind {
+        AssocKind::Left | AssocKind::Right if is_plain => Some(level),
+        AssocKind::Left | AssocKind::Right | AssocKind::Nonassoc => None,
     }
 }
 
