@@ -6,7 +6,7 @@ ghost use Rattle.cfglint_shell.specs.Run.{Handles, ending_errors, ending_faults,
 ghost use Rattle.cfglint.specs.Reported.{ReportsText};
 
 use crate::linter::Lints;
-use cfgprogram::source::Source;
+use cfgprogram::source::SourceWithReasons;
 use cfgsink::sink::Sink;
 use std::alloc::Global;
 
@@ -14,7 +14,7 @@ use std::alloc::Global;
 /// arguments, and a summary, are written to `out`. A line for each file without a text, or on whatever else failed, is
 /// written to `err`, as far as `err` accepts it. Nothing is written before all files are read. If the arguments are
 /// wrong, `source` is left as it was.
-pub fn lint<S: Source, O: Sink, E: Sink>(
+pub fn lint<S: SourceWithReasons, O: Sink, E: Sink>(
     alloc: Global,
     args: &[&str],
     source: &mut S,
@@ -25,7 +25,7 @@ pub fn lint<S: Source, O: Sink, E: Sink>(
     requires err_counts { E.faults_counted err.old < 2 ^ 64 - 1 }
     ensures small { result ≤ 3 }
     ensures ends { EndsWith ending_status ending_faults ending_errors
-        (Handles ReportsText S.fetches source.old source.new (map (λ word. word.now) args.now))
+        (Handles ReportsText S.fetches S.reason source.old source.new (map (λ word. word.now) args.now))
         O.written O.faults_counted out.old out.new E.written E.faults_counted err.old err.new result }
 {
     cfglint_shell::lint(alloc, &Lints, args, source, out, err)

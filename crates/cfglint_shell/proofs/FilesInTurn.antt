@@ -4,6 +4,7 @@ use Rattle.std.specs.Prelude.{OnErr}
 use Rattle.std.specs.Borrow.{Bor}
 use Rattle.std.proofs.lemmas.List.{append-nil, map-append, map_more, take-append-drop}
 use Rattle.cfgprogram.specs.declared.source.Input.{Input}
+use Rattle.cfgprogram.specs.declared.source.ReadError.{ReadError}
 use Rattle.cfglint_shell.specs.declared.linter.LintOptions.{LintOptions}
 use Rattle.cfglint_shell.specs.Requests.{Options, name_of}
 use Rattle.cfglint_shell.specs.Files.{AsksFirst, IsRequested, IsFileOutcome, Lints}
@@ -46,24 +47,24 @@ module _ {S : Type 0} (Fetches : S → List ℕ → Input → S → Type 0) wher
     fetched = subst (λ names. IsRequested Fetches before names after) (sym (map_more (λ (file : Bor (List ℕ)). file.now) files i d within)) (IsRequested-more (get_or files i d).now answer requested fetched);
   }
 
-  module _ (Reports : LintOptions → List ℕ → List ℕ → Printed → Type 0) (options : Options) where
+  module _ (reason : S → ReadError) (Reports : LintOptions → List ℕ → List ℕ → Printed → Type 0) (options : Options) where
     -- files that are linted were requested
-    pub IsRequested-from_lints : {before after : S} {tally last : Tally} {files : List (List ℕ)} → Lints Reports options Fetches before tally files after last → IsRequested Fetches before files after
+    pub IsRequested-from_lints : {before after : S} {tally last : Tally} {files : List (List ℕ)} → Lints Reports options Fetches reason before tally files after last → IsRequested Fetches before files after
     IsRequested-from_lints Lints.none = IsRequested.none
     IsRequested-from_lints (Lints.next outcome fetched is rest) = IsRequested.next fetched (IsRequested-from_lints rest)
 
     -- one more file is linted
     Lints-more : {before between after : S} {tally last : Tally} {files : List (List ℕ)} (file : List ℕ) (answer : Input) (outcome : FileOutcome)
-        → Lints Reports options Fetches before tally files between last → Fetches between file answer after → IsFileOutcome Reports options (name_of options file) answer outcome
-        → Lints Reports options Fetches before tally (files ++ file ∷ []) after (with_file (name_of options file) outcome last)
+        → Lints Reports options Fetches reason before tally files between last → Fetches between file answer after → IsFileOutcome Reports options (name_of options file) answer (reason after) outcome
+        → Lints Reports options Fetches reason before tally (files ++ file ∷ []) after (with_file (name_of options file) outcome last)
     Lints-more file answer outcome Lints.none fetched is = Lints.next outcome fetched is Lints.none
     Lints-more file answer outcome (Lints.next before first was rest) fetched is = Lints.next before first was (Lints-more file answer outcome rest fetched is)
 
     -- the last file that is linted has this index
     pub linted_up_to : (files : List (Bor (List ℕ))) (i : ℕ) (d : Bor (List ℕ)) → i < length files → (before between after : S) (tally last : Tally) (answer : Input) (outcome : FileOutcome)
-        → Lints Reports options Fetches before tally (map (λ file. file.now) (take i files)) between last
-        → Fetches between (get_or files i d).now answer after → IsFileOutcome Reports options (name_of options (get_or files i d).now) answer outcome
-        → Lints Reports options Fetches before tally (map (λ file. file.now) (take (i + 1) files)) after (with_file (name_of options (get_or files i d).now) outcome last)
+        → Lints Reports options Fetches reason before tally (map (λ file. file.now) (take i files)) between last
+        → Fetches between (get_or files i d).now answer after → IsFileOutcome Reports options (name_of options (get_or files i d).now) answer (reason after) outcome
+        → Lints Reports options Fetches reason before tally (map (λ file. file.now) (take (i + 1) files)) after (with_file (name_of options (get_or files i d).now) outcome last)
     linted_up_to files i d within before between after tally last answer outcome linted fetched is =
-        subst (λ names. Lints Reports options Fetches before tally names after (with_file (name_of options (get_or files i d).now) outcome last)) (sym (map_more (λ (file : Bor (List ℕ)). file.now) files i d within))
+        subst (λ names. Lints Reports options Fetches reason before tally names after (with_file (name_of options (get_or files i d).now) outcome last)) (sym (map_more (λ (file : Bor (List ℕ)). file.now) files i d within))
         (Lints-more (get_or files i d).now answer outcome linted fetched is)

@@ -5,6 +5,7 @@ use Rattle.cfgsink.specs.Sinks.{AppendsPrefix}
 use Rattle.cfgprogram.specs.declared.arguments.ArgumentsFault.{ArgumentsFault}
 use Rattle.cfgprogram.specs.declared.arguments.ArgumentsFault.TheVariants as arguments
 use Rattle.cfgprogram.specs.declared.source.Input.{Input}
+use Rattle.cfgprogram.specs.declared.source.ReadError.{ReadError}
 use Rattle.cfglint_shell.specs.declared.linter.LintOptions.{LintOptions}
 use Rattle.cfglint_shell.specs.Files.{AsksFirst, Lints}
 use Rattle.cfglint_shell.specs.Tally.{Tally, Printed, no_files, status_of, summary}
@@ -60,15 +61,15 @@ abbrev pub ending_without : ArgumentsFault → Ending
 ending_without arguments.NotUtf8 = Answered (refused (codes "cfglint: an argument is not UTF-8\n"))
 ending_without arguments.OutOfMemory = NoMemory
 
--- `Reports` says what may be reported about a text, and `Fetches` what a source may return for a file, and what the source then is: it was
--- `before`, and is `after`.
-module _ (Reports : LintOptions → List ℕ → List ℕ → Printed → Type 0) {S : Type 0} (Fetches : S → List ℕ → Input → S → Type 0) (before after : S) where
+-- `Reports` says what may be reported about a text, `Fetches` what a source may return for a file, and what the source then is, and `reason`
+-- why it then could not read the file. The source was `before`, and is `after`.
+module _ (Reports : LintOptions → List ℕ → List ℕ → Printed → Type 0) {S : Type 0} (Fetches : S → List ℕ → Input → S → Type 0) (reason : S → ReadError) (before after : S) where
   -- the result of a request
   abbrev pub Answers : Requested → Answer → Type 0
   Answers Help answer = (after ≡ before) × (answer ≡ written help)
   Answers Version answer = (after ≡ before) × (answer ≡ written version)
   Answers (Wrong error) answer = (after ≡ before) × (answer ≡ refused (usage_error_text error))
-  Answers (Lint options) answer = (tally : Tally) × Lints Reports options Fetches before no_files options.files after tally
+  Answers (Lint options) answer = (tally : Tally) × Lints Reports options Fetches reason before no_files options.files after tally
       × (answer ≡ answer_of options tally)
 
   -- what a run does with its arguments, and its output's known bytes: if it runs out of memory, a prefix of the

@@ -10,7 +10,7 @@ ghost use Rattle.cfglint_shell.specs.Tally.{FileOutcome, no_files, with_file};
 use crate::arguments::Options;
 use crate::linter::Linter;
 use crate::tally::Tally;
-use cfgprogram::source::{Input, Source};
+use cfgprogram::source::{Input, SourceWithReasons};
 use std::alloc::{AllocError, Global};
 
 /// What is reported about files, one by one, with these options.
@@ -18,14 +18,14 @@ use std::alloc::{AllocError, Global};
 /// # Errors
 ///
 /// Running out of memory; only a prefix of the files was then requested of `source`.
-pub(crate) fn lint_files<'a, L: Linter, S: Source>(
+pub(crate) fn lint_files<'a, L: Linter, S: SourceWithReasons>(
     alloc: Global,
     linter: &L,
     options: &Options<'a>,
     files: &[&'a str],
     source: &mut S,
 ) -> Result<Tally, AllocError>
-    ensures ok { IfOk result (λ tally. Lints L.reports (options_view options.now) S.fetches source.old no_files
+    ensures ok { IfOk result (λ tally. Lints L.reports (options_view options.now) S.fetches S.reason source.old no_files
         (map (λ file. file.now) files.now) source.new tally) }
     ensures err { OnErr result (AsksFirst S.fetches source.old source.new (map (λ file. file.now) files.now)) }
 {
@@ -37,7 +37,7 @@ pub(crate) fn lint_files<'a, L: Linter, S: Source>(
 }
 
 /// Adds what is reported about a file.
-fn lint_file<'a, L: Linter, S: Source>(
+fn lint_file<'a, L: Linter, S: SourceWithReasons>(
     alloc: Global,
     linter: &L,
     options: &Options<'a>,
@@ -49,14 +49,14 @@ fn lint_file<'a, L: Linter, S: Source>(
     ensures ok { OnOk result ((answer : Input) × (outcome : FileOutcome)
         × S.fetches source.old file.now answer source.new
         × IsFileOutcome L.reports (options_view options.now)
-        (name_of (options_view options.now) file.now) answer outcome
+        (name_of (options_view options.now) file.now) answer (S.reason source.new) outcome
         × (tally.new ≡ with_file (name_of (options_view options.now) file.now) outcome tally.old)) }
     ensures err { OnErr result ((answer : Input) × S.fetches source.old file.now answer source.new) }
 {
     let name = options.name_of(file);
     match source.fetch(file) {
         Input::Bytes(bytes) => lint_bytes(alloc, linter, options, name, &bytes, tally),
-        Input::Unreadable(reason) => tally.add_unread(name, reason),
+        Input::Unreadable => tally.add_unread(name, source.reason()),
         Input::OutOfMemory => Err(AllocError),
     }
 }

@@ -13,7 +13,7 @@ use crate::arguments::{Options, Requested, Stop, requested_by};
 use crate::files::lint_files;
 use crate::linter::Linter;
 use crate::usage::{HELP, VERSION};
-use cfgprogram::source::Source;
+use cfgprogram::source::SourceWithReasons;
 use cfgsink::sink::{Sink, write_whole};
 use std::alloc::{AllocError, Global};
 
@@ -21,7 +21,7 @@ use std::alloc::{AllocError, Global};
 /// name, and a summary, is written to `out`; a line for each file without text, or about what else went wrong, is
 /// written to `err`, as far as `err` accepts it. Nothing is written before all files are read. Wrong arguments leave
 /// `source` as it was.
-pub fn lint<L: Linter, S: Source, O: Sink, E: Sink>(
+pub fn lint<L: Linter, S: SourceWithReasons, O: Sink, E: Sink>(
     alloc: Global,
     linter: &L,
     args: &[&str],
@@ -33,7 +33,7 @@ pub fn lint<L: Linter, S: Source, O: Sink, E: Sink>(
     requires err_counts { E.faults_counted err.old < 2 ^ 64 - 1 }
     ensures small { result ≤ 3 }
     ensures ends { EndsWith ending_status ending_faults ending_errors
-        (Handles L.reports S.fetches source.old source.new (map (λ argument. argument.now) args.now))
+        (Handles L.reports S.fetches S.reason source.old source.new (map (λ argument. argument.now) args.now))
         O.written O.faults_counted out.old out.new E.written E.faults_counted err.old err.new result }
 {
     match answered(alloc, linter, args, source) {
@@ -50,13 +50,13 @@ pub fn lint<L: Linter, S: Source, O: Sink, E: Sink>(
 /// # Errors
 ///
 /// Running out of memory.
-fn answered<L: Linter, S: Source>(
+fn answered<L: Linter, S: SourceWithReasons>(
     alloc: Global,
     linter: &L,
     args: &[&str],
     source: &mut S,
 ) -> Result<Answer, AllocError>
-    ensures ok { IfOk result (λ answer. Answers L.reports S.fetches source.old source.new
+    ensures ok { IfOk result (λ answer. Answers L.reports S.fetches S.reason source.old source.new
         (requested (map (λ argument. argument.now) args.now)) answer) }
     ensures err { OnErr result (AsksFirst S.fetches source.old source.new
         (files_requested (requested (map (λ argument. argument.now) args.now)))) }
@@ -74,13 +74,13 @@ fn answered<L: Linter, S: Source>(
 /// # Errors
 ///
 /// Running out of memory; only a prefix of the files was then requested of `source`.
-fn linted<L: Linter, S: Source>(
+fn linted<L: Linter, S: SourceWithReasons>(
     alloc: Global,
     linter: &L,
     options: &Options<'_>,
     source: &mut S,
 ) -> Result<Answer, AllocError>
-    ensures ok { IfOk result (λ answer. Answers L.reports S.fetches source.old source.new
+    ensures ok { IfOk result (λ answer. Answers L.reports S.fetches S.reason source.old source.new
         (requests.Lint (options_view options.now)) answer) }
     ensures err { OnErr result (AsksFirst S.fetches source.old source.new (options_view options.now).files) }
 {

@@ -48,7 +48,7 @@ fn run_on_arguments<R: Env + Files + Input + Print + Eprint + AllocGlobal, L: Li
         rt.alloc(),
         linter,
         &args,
-        &mut SystemFiles { rt },
+        &mut SystemFiles::new(rt),
         &mut Counted::new(io::writer(rt)),
         &mut Counted::new(ErrorStream { rt }),
     ))

@@ -10,4 +10,4 @@ pub mod source;
 
 pub use ending::Ended;
 pub use kinds::KindArg;
-pub use source::{Input, ReadError, Source};
+pub use source::{Input, ReadError, Source, SourceWithReasons};

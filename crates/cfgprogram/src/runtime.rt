@@ -1,6 +1,9 @@
 //! The files and the error stream of a runtime.
 
-use crate::source::{self, ReadError, Source};
+ghost use Rattle.std.specs.Prelude.{◌≡◌};
+ghost use Rattle.cfgprogram.specs.declared.source.ReadError.TheVariants.{Other};
+
+use crate::source::{self, ReadError, Source, SourceWithReasons};
 use std::fs;
 use std::io::{self, Read, Write};
 use std::rt::Files;
@@ -8,8 +11,21 @@ use std::rt::Files;
 /// The files of a runtime, and its standard input under the name `-`.
 #[derive(Drop)]
 pub struct SystemFiles<'a, R> {
-    /// The runtime.
-    pub rt: &'a R,
+    rt: &'a R,
+    /// Why the last of the files that could not be read could not be read.
+    reason: ReadError,
+}
+
+impl<'a, R> SystemFiles<'a, R> {
+    /// The files of this runtime, before one is fetched.
+    pub fn new(rt: &'a R) -> Self
+        ensures { result.reason ≡ Other }
+    {
+        SystemFiles {
+            rt,
+            reason: ReadError::Other,
+        }
+    }
 }
 
 impl<R: Files + Input + AllocGlobal> Source for SystemFiles<'_, R> {
@@ -28,8 +44,19 @@ impl<R: Files + Input + AllocGlobal> Source for SystemFiles<'_, R> {
             Err(error) if error.kind() == io::ErrorKind::OutOfMemory => {
                 source::Input::OutOfMemory
             }
-            Err(error) => source::Input::Unreadable(read_error(error.kind())),
+            Err(error) => {
+                self.reason = read_error(error.kind());
+                source::Input::Unreadable
+            }
         }
+    }
+}
+
+impl<R: Files + Input + AllocGlobal> SourceWithReasons for SystemFiles<'_, R> {
+    ghost reason = { λ files. files.reason };
+
+    fn reason(&self) -> ReadError {
+        self.reason
     }
 }
 

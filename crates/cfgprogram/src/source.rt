@@ -12,6 +12,20 @@ pub trait Source {
         ensures { fetches self.old name.now result self.new };
 }
 
+/// A source that also says why it could not read a file.
+pub trait SourceWithReasons: Source {
+    ghost use Rattle.std.specs.Prelude.{◌≡◌};
+    ghost use Rattle.cfgprogram.specs.declared.source.ReadError.{ReadError};
+    ghost use Rattle.cfgprogram.specs.declared.source.ReadError.TheVariants.{Other};
+
+    // The reason that the source gives now.
+    ghost reason: { Self → ReadError } = { λ source. Other };
+
+    /// Why the file that was fetched last could not be read, if it could not.
+    fn reason(&self) -> ReadError
+        ensures { result ≡ reason self.now };
+}
+
 /// Why a file could not be read, as far as the system says; running out of memory is no such reason.
 #[derive(Clone, Copy, Debug, PartialEq, Eq)]
 pub enum ReadError {
@@ -30,8 +44,8 @@ pub enum ReadError {
 pub enum Input {
     /// The file's bytes.
     Bytes(Vec<u8>),
-    /// The file could not be read, for this reason.
-    Unreadable(ReadError),
+    /// The file could not be read.
+    Unreadable,
     /// There was no memory to read it.
     OutOfMemory,
 }

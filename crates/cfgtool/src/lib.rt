@@ -12,8 +12,8 @@ pub mod system;
 mod token_sets;
 
 pub use cfgtool_shell::{
-    Command, Counted, Ended, Input, KindArg, Outcome, ReadError, ReportFault, Sink, SinkFault,
-    Source, arguments, kinds, laws, sink, source,
+    Command, Counted, Ended, Input, KindArg, Outcome, ReportFault, Sink, SinkFault, Source,
+    arguments, kinds, laws, sink, source,
 };
 pub use engine::{report, report_lex};
 pub use program::run;

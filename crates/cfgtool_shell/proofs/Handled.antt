@@ -49,7 +49,7 @@ ended_so (Err run_fault) fault made = ap ending_with made
 fetched : (old new : Option (List ℕ)) (ending : Ending) (file : List ℕ) (answer : Input) (bytes : Vec ℕ Global) (Holds : List ℕ → Type 0) → IsFetched file answer (Ok bytes) → Holds bytes.items
     → WithBytes old new ending file answer Holds
 fetched old new ending file (input.Bytes given) bytes Holds is holds = subst (λ (v : Vec ℕ Global). Holds v.items) is holds
-fetched old new ending file (input.Unreadable reason) bytes Holds is holds = absurd is
+fetched old new ending file input.Unreadable bytes Holds is holds = absurd is
 fetched old new ending file input.OutOfMemory bytes Holds is holds = absurd is
 
 module _ (bytes : Vec ℕ Global) (handed : List ℕ) (handed_is : handed ≡ bytes.items) (ending : Ending) (file : List ℕ) (Holds : Type 0) where
@@ -80,7 +80,7 @@ module _ (ReportsLexer : KindArg → List ℕ → List ℕ → Option (List ℕ)
       → HandlesFirst ReportsLexer kind file names answer Fetches between after old new ending
   first (input.Bytes given) bytes is second fetches handles =
       (second, fetches, subst (λ (v : Vec ℕ Global). WithBytes old new ending names second (λ list. HandlesTexts ReportsLexer kind file names v.items list old new ending)) is handles)
-  first (input.Unreadable reason) bytes is second fetches handles = absurd is
+  first input.Unreadable bytes is second fetches handles = absurd is
   first input.OutOfMemory bytes is second fetches handles = absurd is
 
   pub read_both : (kind_argument : List ℕ) → Some kind ≡ kind_named kind_argument

@@ -74,6 +74,6 @@ faults_at NoMemory = 0
 -- what a run continues with if a source returns this for a file: its bytes, or why there are none
 abbrev pub IsFetched : List ℕ → Input → Result (Vec ℕ Global) RunFault → Type 0
 IsFetched file (input.Bytes bytes) (Ok fetched) = fetched ≡ bytes
-IsFetched file (input.Unreadable reason) (Err fault) = ending_with fault ≡ Unreadable file
+IsFetched file input.Unreadable (Err fault) = ending_with fault ≡ Unreadable file
 IsFetched file input.OutOfMemory (Err fault) = ending_with fault ≡ NoMemory
 IsFetched file answer fetched = ⊥

@@ -29,7 +29,7 @@ EndsReported Reported old new ending = (answer : Result Outcome ReportFault) × 
 module _ (old new : Option (List ℕ)) (ending : Ending) where
   -- What a run does with what its source returns for a file, if this holds of the file's bytes.
   abbrev pub WithBytes : List ℕ → Input → (List ℕ → Type 0) → Type 0
-  WithBytes file (input.Unreadable reason) Holds = EndsUnwritten (Unreadable file) old new ending
+  WithBytes file input.Unreadable Holds = EndsUnwritten (Unreadable file) old new ending
   WithBytes file input.OutOfMemory Holds = EndsUnwritten NoMemory old new ending
   WithBytes file (input.Bytes bytes) Holds = Holds bytes.items
 
@@ -54,7 +54,7 @@ module _ (ReportsLexer : KindArg → List ℕ → List ℕ → Option (List ℕ)
 
   -- What it does with what its source, which is then `between`, returns for the first file: the second is read only if that is bytes.
   abbrev pub HandlesFirst : {S : Type 0} → KindArg → List ℕ → List ℕ → Input → (S → List ℕ → Input → S → Type 0) → S → S → Option (List ℕ) → Option (List ℕ) → Ending → Type 0
-  HandlesFirst kind file names (input.Unreadable reason) Fetches between after old new ending = (after ≡ between) × EndsUnwritten (Unreadable file) old new ending
+  HandlesFirst kind file names input.Unreadable Fetches between after old new ending = (after ≡ between) × EndsUnwritten (Unreadable file) old new ending
   HandlesFirst kind file names input.OutOfMemory Fetches between after old new ending = (after ≡ between) × EndsUnwritten NoMemory old new ending
   HandlesFirst kind file names (input.Bytes bytes) Fetches between after old new ending =
       (answer : Input) × Fetches between names answer after

@@ -8,6 +8,6 @@ pub mod program;
 pub mod runtime;
 
 pub use arguments::Command;
-pub use cfgprogram::{Ended, Input, KindArg, ReadError, Source, ending, kinds, source};
+pub use cfgprogram::{Ended, Input, KindArg, Source, ending, kinds, source};
 pub use cfgsink::{Counted, Outcome, ReportFault, Sink, SinkFault, outcome, sink};
 pub use program::{Reporter, run};

@@ -177,7 +177,7 @@ fn fetch<'a, S: Source>(source: &mut S, file: &'a str) -> Result<Vec<u8>, RunFau
 {
     match source.fetch(file) {
         Input::Bytes(bytes) => Ok(bytes),
-        Input::Unreadable(_) => Err(RunFault::Unreadable(file)),
+        Input::Unreadable => Err(RunFault::Unreadable(file)),
         Input::OutOfMemory => Err(RunFault::OutOfMemory),
     }
 }

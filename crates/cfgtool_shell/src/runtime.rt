@@ -46,7 +46,7 @@ fn run_on_arguments<R: Env + Files + Input + Print + Eprint + AllocGlobal, P: Re
         rt.alloc(),
         reporter,
         &args,
-        &mut SystemFiles { rt },
+        &mut SystemFiles::new(rt),
         &mut Counted::new(io::writer(rt)),
         &mut Counted::new(ErrorStream { rt }),
     ))

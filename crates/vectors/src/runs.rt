@@ -2,8 +2,8 @@
 
 use crate::narrow::Narrow;
 use crate::rooms::{Run, write_rooms};
-use cfglint::lint;
-use cfgtool::{Counted, Input, ReadError, Sink, Source, run};
+use cfglint::{ReadError, SourceWithReasons, lint};
+use cfgtool::{Counted, Input, Sink, Source, run};
 use std::alloc::{AllocError, Global};
 use vectors_rows::page::Page;
 use vectors_rows::row::Row;
@@ -21,7 +21,13 @@ impl Source for TwoFiles {
         let next = self.second.take();
         let input = self.first.take();
         self.first = next;
-        input.unwrap_or(Input::Unreadable(ReadError::Other))
+        input.unwrap_or(Input::Unreadable)
+    }
+}
+
+impl SourceWithReasons for TwoFiles {
+    fn reason(&self) -> ReadError {
+        ReadError::Other
     }
 }
 
@@ -131,7 +137,7 @@ fn run_over(
 /// The content of the row's file.
 fn input(alloc: Global, row: &Row<'_>, text: &str) -> Result<Input, AllocError> {
     Ok(match row.first("input") {
-        Some("unreadable") => Input::Unreadable(ReadError::Other),
+        Some("unreadable") => Input::Unreadable,
         Some("memory") => Input::OutOfMemory,
         Some("latin") => Input::Bytes([0x41, 0xff].to_vec(alloc)?),
         _ => Input::Bytes(text.as_bytes().to_vec(alloc)?),

@@ -18,7 +18,7 @@ loop-file-preserved g c =
     let (answer, outcome, fetched, is, made) = c.in_ok-lint_file.ensures.ok in
     let files = c.args.files.now in
     rw made (record {
-      linted = linted_up_to g.S.Source.fetches g.L.Linter.reports (options_view c.args.options.now) files c.loop-file.file-index no_file c.loop-file-test.true
+      linted = linted_up_to g.S.Source.fetches g.S.SourceWithReasons.reason g.L.Linter.reports (options_view c.args.options.now) files c.loop-file.file-index no_file c.loop-file-test.true
           _ _ _ _ _ answer outcome c.loop-file.invariant.linted fetched is;
       few = omega (arith, texts-with_file (name_of (options_view c.args.options.now) (get_or files c.loop-file.file-index no_file).now) outcome c.loop-file.tally, c.loop-file.invariant.few);
     })
@@ -26,6 +26,6 @@ loop-file-preserved g c =
 pub returns-in_err-lint_file-clause-err : goal.returns-in_err-lint_file-clause-err
 returns-in_err-lint_file-clause-err g c =
     let p = err_from_is_err_and c.from_residual.result c.from_residual.ensures.1 in
-    let requested = IsRequested-from_lints g.S.Source.fetches g.L.Linter.reports (options_view c.args.options.now) c.loop-file.invariant.linted in
+    let requested = IsRequested-from_lints g.S.Source.fetches g.S.SourceWithReasons.reason g.L.Linter.reports (options_view c.args.options.now) c.loop-file.invariant.linted in
     let (answer, fetched) = c.in_err-lint_file.ensures.err in
     rw (p.1) (requested_up_to g.S.Source.fetches c.args.files.now c.loop-file.file-index no_file c.loop-file-test.true _ _ _ answer requested fetched)

@@ -14,7 +14,7 @@ pub returns-in-Stops-Help-clause-ok : goal.returns-in-Stops-Help-clause-ok
 returns-in-Stops-Help-clause-ok g c =
     let asks : Help ≡ requested (map (λ argument. argument.now) c.args.args.now) =
     ap stop_view (sym c.in-Stops-Help.field-0-is) ∙ (ap requested_view (sym c.in-Stops-Help.is) ∙ c.in_ok-requested_by.ensures) in
-    subst (λ (a : Requested). IfOk c.written.result (Answers g.L.Linter.reports g.S.Source.fetches c.args.source.now c.args.source.now a)) asks
+    subst (λ (a : Requested). IfOk c.written.result (Answers g.L.Linter.reports g.S.Source.fetches g.S.SourceWithReasons.reason c.args.source.now c.args.source.now a)) asks
     (IfOk-weaker c.written.result _ _ (λ answer is. (refl, is)) c.written.ensures)
 
 pub returns-in-Stops-Help-clause-err : goal.returns-in-Stops-Help-clause-err

@@ -7,7 +7,7 @@ use Rattle.cfglint_shell.proofs.program.linted.Goals as goal
 
 pub returns-clause-err : goal.returns-clause-err
 returns-clause-err g c =
-    let requested = IsRequested-from_lints g.S.Source.fetches g.L.Linter.reports (options_view c.args.options.now) c.in_ok-tally.ensures.ok in
+    let requested = IsRequested-from_lints g.S.Source.fetches g.S.SourceWithReasons.reason g.L.Linter.reports (options_view c.args.options.now) c.in_ok-tally.ensures.ok in
     on_err c.of_files.result
     (subst (λ (files : List (Bor (List ℕ))). AsksFirst g.S.Source.fetches c.args.source.now c.lint_files.new.source (map (λ file. file.now) files)) c.deref.ensures.value
     (all_requested g.S.Source.fetches _ _ _ requested))
