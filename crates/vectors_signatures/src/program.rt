@@ -91,7 +91,7 @@ pub fn fetched<S: Source>(source: &mut S, name: &str) -> Option<Vec<u8>> {
     let input: Input = source.fetch(name);
     match input {
         Input::Bytes(bytes) => Some(bytes),
-        Input::Unreadable(_) | Input::OutOfMemory => None,
+        Input::Unreadable | Input::OutOfMemory => None,
     }
 }
 
