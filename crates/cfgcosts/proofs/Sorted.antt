@@ -1,7 +1,7 @@
 -- Words of the code that were sorted, each once: as lists of numbers they are in lexicographic order.
-use Rattle.std.proofs.Common.{◌≡◌, ◌↔◌, ℕ, Bool, List, [], ◌∷◌, map, Contains, refl, sym, ap, subst, ◌∙◌}
+use Rattle.std.proofs.Common.{◌≡◌, ◌↔◌, ◌<◌, ◌≤◌, inl, inr, ℕ, zero, suc, Bool, List, Vec, [], ◌∷◌, get_or, length, map, take, Contains, refl, sym, ap, subst, ◌∙◌}
 use Rattle.std.specs.declared.cmp.Ordering.{Ordering}
-use Rattle.std.specs.declared.cmp.Ordering.TheVariants.{Less}
+use Rattle.std.specs.declared.cmp.Ordering.TheVariants.{Less, Equal, Greater}
 use Rattle.std.specs.Ordering.{eq_by_cmp, is_eq, is_lt, nat_cmp, on, ordering_then}
 use Rattle.std.specs.Cmp.{IsEquivalence, IsTotalOrder, eq_by_cmp_equiv}
 use Rattle.std.specs.Cmp.Lexicographic.{slice_cmp}
@@ -9,12 +9,19 @@ use Rattle.std.specs.List.{AllByRecursion, dedup}
 use Rattle.std.specs.List.Retain.{DiffersFromLast, IsFiltered}
 use Rattle.std.specs.List.Sorted.{IsPermutation, IsSorted, IsStrictlySortedBy}
 use Rattle.std.proofs.lemmas.Cmp.{nat_list_cmp_total, on_total}
-use Rattle.std.proofs.lemmas.List.Elements.{Contains-get_or}
+use Rattle.std.proofs.lemmas.List.{take-map, take_all}
+use Rattle.std.proofs.lemmas.List.Elements.{All-contains, Contains-get_or}
 use Rattle.std.proofs.lemmas.List.Filters.{dedup_is}
 use Rattle.std.proofs.lemmas.List.Kept.{Any-dedup, Contains-from_dedup, IsStrictlySortedBy-dedup}
 use Rattle.std.proofs.lemmas.List.Sorted.{Contains-permutation, IsPermutation-sym}
-use Rattle.lemmas.proofs.Contained.{contains_mapped, contains_source}
-use Rattle.cfgchoices.specs.FirstSentence.{lexicographic}
+use Rattle.lemmas.proofs.Contained.{contains_cases, contains_first, contains_later, contains_mapped, contains_none, contains_source}
+use Rattle.std.proofs.lemmas.Map.Views.{All-after_first}
+use Rattle.std.specs.declared.alloc.Global.{Global}
+use Rattle.cfgindex.specs.declared.idxnewtype.TIdx.{TIdx}
+use Rattle.derivation.specs.Grammar.{Sym}
+use Rattle.derivation.specs.Costs.{Minimal}
+use Rattle.cfgchoices.specs.FirstSentence.{FirstMinimal, lexicographic}
+use Rattle.cfgcosts.specs.Sentences.{numbers_of}
 use Rattle.std.specs.Cmp.{Equal-is}
 use Rattle.std.proofs.lemmas.Map.Lookups.{exact_bytes}
 
@@ -69,3 +76,59 @@ module _ {K : Type 0} (f : K → List ℕ) where
             subst (Contains (map f once)) (sym (exact_bytes (f v) (f u) ((Equal-is (lexicographic (f v) (f u))).0 (sym (reported v u) ∙ same))) ∙ is)
             (contains_mapped f once u (subst (λ l. Contains l u) (sym (dedup_is eq sorted once filtered)) there))),
       )
+
+-- of all minimal sentences, listed in lexicographic order, each is minimal, and the first is the first minimal one
+module _ {S : Type 0} (number : S → ℕ) (P : ℕ → List Sym → Type 0) (cost : ℕ → ℕ) (r : ℕ) where
+  pub listed_minimal : (sentences : List (Vec (TIdx S) Global)) → ((w : List ℕ) → Contains (map (numbers_of number) sentences) w ↔ Minimal P cost r w)
+      → (i : ℕ) (word : Vec (TIdx S) Global) → i < length sentences → word ≡ get_or sentences i word → Minimal P cost r (numbers_of number word)
+  listed_minimal sentences all i word within is = (all (numbers_of number word)).0 (contains_mapped (numbers_of number) sentences word (i, within, sym is))
+
+  none_before : (sentences : List (Vec (TIdx S) Global)) (word : Vec (TIdx S) Global) (v : List ℕ) → IsStrictlySortedBy lexicographic (map (numbers_of number) sentences)
+      → word ≡ get_or sentences 0 word → Contains (map (numbers_of number) sentences) v → lexicographic (numbers_of number word) v ≡ Greater → ⊥
+  none_before [] word v order is h g = contains_none v h
+  none_before (first ∷ others) word v order is h g = elim (contains_cases (numbers_of number first) v (map (numbers_of number) others) h) [
+    | inl same ↦
+        let one = ap (numbers_of number) is ∙ same in
+        let equal = (Equal-is (lexicographic v v)).0 ((eq_by_cmp_equiv nat_list_cmp_total).refl v) in
+        let no : ◌≡◌ {A = Ordering} Equal Greater = sym equal ∙ ap (λ l. lexicographic l v) (sym one) ∙ g in cc
+    | inr later ↦
+        let less = All-contains (λ q. lexicographic (numbers_of number first) q ≡ Less) (map (numbers_of number) others) v
+            (All-after_first lexicographic (numbers_of number first) (map (numbers_of number) others) order) later in
+        let no : ◌≡◌ {A = Ordering} Less Greater = sym less ∙ ap (λ l. lexicographic (numbers_of number l) v) (sym is) ∙ g in cc
+  ]
+
+  pub first_listed : (sentences : List (Vec (TIdx S) Global)) → ((w : List ℕ) → Contains (map (numbers_of number) sentences) w ↔ Minimal P cost r w)
+      → IsStrictlySortedBy lexicographic (map (numbers_of number) sentences) → (word : Vec (TIdx S) Global) → 0 < length sentences → word ≡ get_or sentences 0 word
+      → FirstMinimal P cost r (numbers_of number word)
+  first_listed sentences all order word within is =
+      (listed_minimal sentences all 0 word within is, λ v m g. none_before sentences word v order is ((all v).1 m) g)
+
+all_take : (P : List ℕ → Type 0) (n : ℕ) (words : List (List ℕ)) → AllByRecursion P words → AllByRecursion P (take n words)
+all_take P zero words all = tt
+all_take P (suc n) [] all = tt
+all_take P (suc n) (w ∷ words) all = (all.0, all_take P n words all.1)
+
+sorted_take : (n : ℕ) (words : List (List ℕ)) → IsStrictlySortedBy lexicographic words → IsStrictlySortedBy lexicographic (take n words)
+unfolding IsStrictlySortedBy
+sorted_take zero words order = tt
+sorted_take (suc n) [] order = tt
+sorted_take (suc n) (w ∷ words) order = (all_take (λ y. lexicographic w y ≡ Less) n words order.0, sorted_take n words order.1)
+
+contains_take : (n : ℕ) (words : List (List ℕ)) (v : List ℕ) → Contains (take n words) v → Contains words v
+contains_take zero words v h = absurd (contains_none v h)
+contains_take (suc n) [] v h = h
+contains_take (suc n) (w ∷ words) v h = elim (contains_cases w v (take n words) h) [
+  | inl same ↦ subst (Contains (w ∷ words)) same (contains_first w words)
+  | inr later ↦ contains_later w v words (contains_take n words v later)
+]
+
+-- of keys whose words are in lexicographic order, those up to a number
+module _ {K : Type 0} (f : K → List ℕ) (keys kept : List K) (n : ℕ) (is : kept ≡ take n keys) where
+  pub kept_sorted : IsStrictlySortedBy lexicographic (map f keys) → IsStrictlySortedBy lexicographic (map f kept)
+  kept_sorted order = subst (λ l. IsStrictlySortedBy lexicographic (map f l)) (sym is) (subst (IsStrictlySortedBy lexicographic) (take-map f n keys) (sorted_take n (map f keys) order))
+
+  pub kept_listed : (v : List ℕ) → Contains (map f kept) v → Contains (map f keys) v
+  kept_listed v h = contains_take n (map f keys) v (subst (λ l. Contains l v) (sym (take-map f n keys)) (subst (λ l. Contains (map f l) v) is h))
+
+  pub all_kept : length keys ≤ n → (v : List ℕ) → Contains (map f keys) v → Contains (map f kept) v
+  all_kept few v h = subst (λ l. Contains (map f l) v) (sym (is ∙ take_all n keys few)) h

@@ -1,3 +1,4 @@
+-- the sentences of the rule's last target are those of the rule
 use Rattle.std.proofs.Common.{◌++◌, ℕ, List, Contains, map, refl, sym, ap, ◌∙◌}
 use Rattle.std.specs.Result.{result_ok}
 use Rattle.derivation.specs.Grammar.{HasProduction}
@@ -16,22 +17,28 @@ pub all_sentences-requires-clause-known : goal.all_sentences-requires-clause-kno
 all_sentences-requires-clause-known g c =
     (c.in_ok-min_sentence_cost.field-0, c.last_target.ensures.cost ∙ sym c.min_sentence_cost.ensures.answer ∙ ap result_ok c.in_ok-min_sentence_cost.was)
 
-pub returns : goal.returns
-returns g c = record {
-  all = λ w.
-      let all = c.in_ok-sentences.ensures.all w in
-      let same = c.last_target.ensures.same w in
-      (λ h. same.0 (all.0 h), λ m. all.1 (same.1 m));
-  order = c.in_ok-sentences.ensures.order;
-  prefix_free = λ w rest h k.
-      let x = c.args.self.now in
-      let (n, is) = c.invariant_holds.ensures.generator in
-      let paid = productions_paid x.grammar x.costs c.invariant_holds.ensures.grammar is.tokens is.positive in
-      let minimal = λ (v : List ℕ) (k : Contains (map (numbers_of g.S.Storage.number) c.in_ok-sentences.sentences.items) v). (c.last_target.ensures.same v).0 ((c.in_ok-sentences.ensures.all v).0 k) in
-      begins_none (HasProduction x.grammar) (token_cost x) paid (g.S.Storage.number c.args.rule.0) w rest (minimal w h) (minimal (w ++ rest) k);
-  none = known_sentence c.in_ok-sentences.sentences c.in_ok-min_sentence_cost.field-0 NoSentence refl c.in_ok-min_sentence_cost.ensures.none;
-  too_large = known_sentence c.in_ok-sentences.sentences c.in_ok-min_sentence_cost.field-0 CostTooLarge refl c.in_ok-min_sentence_cost.ensures.too_large;
-}
+pub returns-clause-all : goal.returns-clause-all
+returns-clause-all g c = λ w.
+    let all = c.in_ok-sentences.ensures.all w in
+    let same = c.last_target.ensures.same w in
+    (λ h. same.0 (all.0 h), λ m. all.1 (same.1 m))
+
+pub returns-clause-order : goal.returns-clause-order
+returns-clause-order g c = c.in_ok-sentences.ensures.order
+
+pub returns-clause-prefix_free : goal.returns-clause-prefix_free
+returns-clause-prefix_free g c = λ w rest h k.
+    let x = c.args.self.now in
+    let (n, is) = c.invariant_holds.ensures.generator in
+    let paid = productions_paid x.grammar x.costs c.invariant_holds.ensures.grammar is.tokens is.positive in
+    let minimal = λ (v : List ℕ) (k : Contains (map (numbers_of g.S.Storage.number) c.in_ok-sentences.sentences.items) v). (c.last_target.ensures.same v).0 ((c.in_ok-sentences.ensures.all v).0 k) in
+    begins_none (HasProduction x.grammar) (token_cost x) paid (g.S.Storage.number c.args.rule.0) w rest (minimal w h) (minimal (w ++ rest) k)
+
+pub returns-clause-none : goal.returns-clause-none
+returns-clause-none g c = known_sentence _ c.in_ok-min_sentence_cost.field-0 NoSentence refl c.in_ok-min_sentence_cost.ensures.none
+
+pub returns-clause-too_large : goal.returns-clause-too_large
+returns-clause-too_large g c = known_sentence _ c.in_ok-min_sentence_cost.field-0 CostTooLarge refl c.in_ok-min_sentence_cost.ensures.too_large
 
 pub returns-in_err-min_sentence_cost-clause-none : goal.returns-in_err-min_sentence_cost-clause-none
 returns-in_err-min_sentence_cost-clause-none g c = refused c.in_err-min_sentence_cost.field-0.0 NoSentence c.from_residual.ensures.1 c.in_err-min_sentence_cost.ensures.none
