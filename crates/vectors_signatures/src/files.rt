@@ -3,6 +3,7 @@
 use cfgrammar::header::HeaderErrorKind;
 use cfgrammar::yacc::ast::{
     ASTModificationError, ASTWithValidityInfo, GrammarAST, KindSource, Rule, StartFault,
+    every_error,
 };
 use cfgrammar::yacc::{
     YaccFault, YaccGrammarError, YaccGrammarErrorKind, YaccGrammarResult, YaccGrammarWarning,
@@ -39,24 +40,31 @@ pub fn read(
     )
 }
 
-/// What was found out about a file.
-pub fn found(parsed: &ASTWithValidityInfo) -> (YaccKind, bool) {
+/// What was found out about a file, and whether the file named its kind.
+pub fn found(parsed: &ASTWithValidityInfo, source: KindSource) -> (YaccKind, bool, bool) {
     let ast: &GrammarAST = parsed.ast();
     let read_as: YaccKind = parsed.yacc_kind();
     let errors: &[YaccGrammarError] = parsed.errors();
+    let is_named: bool = match source {
+        KindSource::Section => true,
+        KindSource::Default => false,
+    };
     (
         read_as,
         parsed.is_valid() && errors.is_empty() && ast.prods().is_empty(),
+        is_named,
     )
 }
 
-/// The warnings of a file, what was read of it with another start rule, and copies of that and of its tree.
+/// The warnings of a file, every check of validation that its tree fails, what was read of it with another start rule,
+/// and copies of that and of its tree.
 pub fn made(
     alloc: Global,
     parsed: &ASTWithValidityInfo,
     rule: Rule,
 ) -> (
     Result<Vec<YaccGrammarWarning>, AllocError>,
+    Result<Vec<YaccGrammarError>, AllocError>,
     Result<ASTWithValidityInfo, StartFault>,
     Result<ASTWithValidityInfo, AllocError>,
     Result<GrammarAST, AllocError>,
@@ -64,18 +72,11 @@ pub fn made(
     let ast: &GrammarAST = parsed.ast();
     (
         ast.warnings(alloc),
+        every_error(alloc, ast),
         parsed.clone_and_change_start_rule(alloc, rule),
         parsed.clone(),
         ast.clone(),
     )
-}
-
-/// Whether the text named its kind.
-pub fn is_named(source: KindSource) -> bool {
-    match source {
-        KindSource::Section => true,
-        KindSource::Default => false,
-    }
 }
 
 /// Why it can't have another start rule.
@@ -155,28 +156,23 @@ pub fn held_by(
     }
 }
 
-/// Errors and warnings, by their other paths.
+/// Errors, warnings and results, by their other paths.
 pub fn of_parser(
     error: parser::YaccGrammarError,
     kind: parser::YaccGrammarErrorKind,
     warning: parser::YaccGrammarWarning,
     warning_kind: parser::YaccGrammarWarningKind,
     spanskind: parser::SpansKind,
+    outcome: parser::YaccGrammarResult<YaccKind>,
 ) -> (
     YaccGrammarError,
     YaccGrammarErrorKind,
     YaccGrammarWarning,
     YaccGrammarWarningKind,
     SpansKind,
+    Result<YaccKind, parser::YaccFault>,
 ) {
-    (error, kind, warning, warning_kind, spanskind)
-}
-
-/// Results of reading, by their other paths.
-pub fn read_by_parser(
-    outcome: parser::YaccGrammarResult<ASTWithValidityInfo>,
-) -> Result<ASTWithValidityInfo, parser::YaccFault> {
-    outcome
+    (error, kind, warning, warning_kind, spanskind, outcome)
 }
 
 /// An error of one's own.

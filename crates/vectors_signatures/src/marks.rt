@@ -7,11 +7,6 @@ use cfgrammar::markmap::{
 use cfgrammar::{Location, TIdx};
 use std::alloc::{AllocError, Global};
 
-/// A map without keys.
-pub fn empty(alloc: Global) -> MarkMap<u32, String> {
-    MarkMap::new(alloc)
-}
-
 /// The calls of a map that mark keys and ask for them.
 pub fn requested(
     map: &mut MarkMap<u32, String>,
@@ -24,14 +19,6 @@ pub fn requested(
     let value: Option<&String> = map.get(&key);
     let found: bool = value.is_some() && map.contains_key(&key);
     Ok((found, map.is_required(&key), map.is_used(&key)))
-}
-
-/// The lists of a map's keys: those that hold a value and weren't used, and those that are required and hold none.
-pub fn listed(
-    alloc: Global,
-    map: &MarkMap<u32, String>,
-) -> (Result<Vec<u32>, AllocError>, Result<Vec<&u32>, AllocError>) {
-    (map.unused(alloc), map.missing(alloc))
 }
 
 /// A value put under a key, and one taken from it.
@@ -85,8 +72,17 @@ pub fn filled<'a>(
     entry.insert(value)
 }
 
-/// The keys of a map, and its entries.
-pub fn walked(map: &MarkMap<u32, String>) -> (usize, bool) {
+/// The keys of a map, and its entries; the keys that hold a value and weren't used, and those that are required and hold
+/// none.
+pub fn walked(
+    alloc: Global,
+    map: &MarkMap<u32, String>,
+) -> (
+    usize,
+    bool,
+    Result<Vec<u32>, AllocError>,
+    Result<Vec<&u32>, AllocError>,
+) {
     let keys: Keys<'_, u32, String> = map.keys();
     let mut count = 0usize;
     for _key in keys {
@@ -96,44 +92,40 @@ pub fn walked(map: &MarkMap<u32, String>) -> (usize, bool) {
     for (_key, _value) in entries {
         count = count.saturating_add(1);
     }
-    (count, *map == *map)
+    (count, *map == *map, map.unused(alloc), map.missing(alloc))
 }
 
-/// Two maps merged.
+/// Two maps merged, and two of which the values of one are converted.
 pub fn merged(
     mine: &mut MarkMap<u32, String>,
     theirs: MarkMap<u32, String>,
-) -> Result<(), MergeFault<u32, String, AllocError>> {
-    mine.merge_from(theirs, |value: String| Ok(value))
+    wide: &mut MarkMap<String, u64>,
+    narrow: MarkMap<String, u32>,
+) -> (
+    Result<(), MergeFault<u32, String, AllocError>>,
+    Result<(), MergeFault<String, u64, ()>>,
+) {
+    (
+        mine.merge_from(theirs, |value: String| Ok(value)),
+        wide.merge_from(narrow, |value: u32| Ok(u64::from(value))),
+    )
 }
 
-/// A map of other keys and values, merged with one whose values are converted.
-pub fn converted(
-    mine: &mut MarkMap<String, u64>,
-    theirs: MarkMap<String, u32>,
-) -> Result<(), MergeFault<String, u64, ()>> {
-    mine.merge_from(theirs, |value: u32| Ok(u64::from(value)))
-}
-
-/// A map over any keys and values, and how often a walk through another finds a value.
+/// A map over any keys and values, how often a walk through another finds a value, and behaviors as numbers.
 pub fn counted<K: Ord + Clone + Drop, V: Drop>(
     alloc: Global,
     map: &MarkMap<TIdx<u32>, Location>,
-) -> (MarkMap<K, V>, usize) {
+) -> (MarkMap<K, V>, usize, [u8; 3]) {
     let mut count = 0usize;
     for (_token, _location) in map {
         count = count.saturating_add(1);
     }
-    (MarkMap::new(alloc), count)
-}
-
-/// Behaviors as numbers.
-pub fn bits() -> [u8; 3] {
-    [
+    let bits: [u8; 3] = [
         MergeBehavior::Theirs as u8,
         MergeBehavior::Ours as u8,
         MergeBehavior::MutuallyExclusive as u8,
-    ]
+    ];
+    (MarkMap::new(alloc), count, bits)
 }
 
 /// Where merging stopped.

@@ -13,29 +13,24 @@ use cfgrammar::yacc::{YaccGrammar, YaccGrammarError};
 use cfgrammar::{Hint, Positions, Source, Span, Spanned, Storage, hint_for, render, render_all};
 use std::alloc::{AllocError, Global};
 
-/// An error, and several, as a person reads them.
-pub fn rendered<E: Spanned>(
+/// An error, and several, as a person reads them; and their text, with the offsets of its lines and with a name.
+pub fn rendered<'a, E: Spanned>(
     alloc: Global,
-    text: &str,
+    text: &'a str,
     error: &E,
     errors: &[E],
-) -> (Result<String, AllocError>, Result<String, AllocError>) {
-    (
-        render(alloc, "file.y", text, error),
-        render_all(alloc, "file.y", text, errors),
-    )
-}
-
-/// A text, with the offsets of its lines and with a name.
-pub fn texts<'a>(
-    alloc: Global,
-    name: &'a str,
-    text: &'a str,
 ) -> (
+    Result<String, AllocError>,
+    Result<String, AllocError>,
     Result<Positions<'a>, AllocError>,
     Result<Source<'a>, AllocError>,
 ) {
-    (Positions::new(alloc, text), Source::new(alloc, name, text))
+    (
+        render(alloc, "file.y", text, error),
+        render_all(alloc, "file.y", text, errors),
+        Positions::new(alloc, text),
+        Source::new(alloc, "file.y", text),
+    )
 }
 
 /// An error of a text, and a note.
@@ -49,21 +44,18 @@ pub fn pushed<E: Spanned>(
     source.push_note(out, "note", 0)
 }
 
-/// Where a span of a text is.
+/// Where a span of a text is, and the note on an error.
 pub fn position_of<'a>(
     positions: &Positions<'a>,
     span: Span,
-) -> (&'a str, Option<(usize, usize)>, (usize, usize)) {
+    error: &YaccGrammarError,
+) -> (Option<(usize, usize)>, (usize, usize), Option<Hint<'a>>) {
+    let text: &'a str = positions.text();
     (
-        positions.text(),
         positions.line_and_column(span.start()),
         positions.span_line_bytes(span),
+        hint_for(text, error),
     )
-}
-
-/// The note on an error.
-pub fn note_on<'a>(text: &'a str, error: &YaccGrammarError) -> Option<Hint<'a>> {
-    hint_for(text, error)
 }
 
 /// The unit steps of a grammar.

@@ -22,8 +22,17 @@ pub fn differences<S: Storage>(
     Ok((unknown, missing))
 }
 
-/// The commands of the program, and the kinds that its arguments name.
-pub fn requests(kind: YaccKind) -> ([Command; 5], [KindArg; 2]) {
+/// The commands of the program, the kinds that its arguments name, and how a report ended.
+pub fn requests(
+    kind: YaccKind,
+    outcome: Result<Outcome, ReportFault>,
+) -> ([Command; 5], [KindArg; 2], u8) {
+    let status: u8 = match outcome {
+        Ok(Outcome::Done) => 0,
+        Ok(Outcome::Refused) => 1,
+        Err(ReportFault::Write) => 2,
+        Err(ReportFault::OutOfMemory) => 3,
+    };
     (
         [
             Command::Grammar,
@@ -33,6 +42,7 @@ pub fn requests(kind: YaccKind) -> ([Command; 5], [KindArg; 2]) {
             Command::Warnings,
         ],
         [KindArg::Named(kind), KindArg::Section],
+        status,
     )
 }
 
@@ -60,16 +70,6 @@ pub fn names_reported<W: Sink>(
     requires { W.faults_counted out.old < 2 ^ 64 - 1 }
 {
     report_lex(alloc, kind, text, names, out)
-}
-
-/// How a report ended.
-pub fn ended(outcome: Result<Outcome, ReportFault>) -> u8 {
-    match outcome {
-        Ok(Outcome::Done) => 0,
-        Ok(Outcome::Refused) => 1,
-        Err(ReportFault::Write) => 2,
-        Err(ReportFault::OutOfMemory) => 3,
-    }
 }
 
 /// A run of the program.

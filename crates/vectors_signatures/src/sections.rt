@@ -61,17 +61,6 @@ pub fn held_by(kind: HeaderErrorKind) -> (Option<char>, Option<(&'static str, &'
     }
 }
 
-/// Copies of errors.
-pub fn copied(
-    error: &HeaderError<Span>,
-    located: &HeaderError<Location>,
-) -> (
-    Result<HeaderError<Span>, AllocError>,
-    Result<HeaderError<Location>, AllocError>,
-) {
-    (error.clone(), located.clone())
-}
-
 /// The parts of a value.
 pub fn number_of<T: Copy>(value: &HeaderValue<T>) -> Option<(u64, T)> {
     let _key: T = value.0;
@@ -92,45 +81,45 @@ pub fn number_of<T: Copy>(value: &HeaderValue<T>) -> Option<(u64, T)> {
     }
 }
 
-/// Values and settings with locations in place of spans.
+/// Values and settings with locations in place of spans, and a copy of an error.
 pub fn located(
     alloc: Global,
     header_value: &HeaderValue<Span>,
     value: &Value<Span>,
     setting: &Setting<Span>,
+    error: &HeaderError<Location>,
 ) -> (
     Result<HeaderValue<Location>, AllocError>,
     Result<Value<Location>, AllocError>,
     Result<Setting<Location>, AllocError>,
+    Result<HeaderError<Location>, AllocError>,
 ) {
     (
         header_value.to_location(alloc),
         value.to_location(alloc),
         setting.to_location(alloc),
+        error.clone(),
     )
 }
 
-/// The location that represents a value, and whether two values are the same.
+/// The location that represents a value, whether two values are the same, and the kind that one names.
 pub fn position_of<'a>(
+    alloc: Global,
     value: &'a Value<Location>,
     other: &Value<Location>,
-) -> (&'a Location, bool) {
+) -> (&'a Location, bool, Result<YaccKind, KindFault<Location>>) {
     let position: &Location = value.primary_location();
-    (position, value == other)
+    (
+        position,
+        value == other,
+        YaccKind::try_from_value::<Location>(alloc, value),
+    )
 }
 
 /// The kind that a value names, and the value that names it.
 pub fn named_kind(alloc: Global, value: &Value<Span>) -> Result<Value<Location>, KindFault<Span>> {
     let kind: YaccKind = YaccKind::try_from_value(alloc, value)?;
     Ok(Value::try_from_kind(alloc, kind)?)
-}
-
-/// The kind that a value with locations names.
-pub fn kind_of_located(
-    alloc: Global,
-    value: &Value<Location>,
-) -> Result<YaccKind, KindFault<Location>> {
-    YaccKind::try_from_value::<Location>(alloc, value)
 }
 
 /// The error of a file for an error of its section.

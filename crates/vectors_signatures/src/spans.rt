@@ -38,18 +38,20 @@ pub fn is_copied(location: &Location) -> Result<bool, AllocError> {
     Ok(same == *location)
 }
 
-/// What has spans.
-pub fn first_span<E: Spanned>(error: &E) -> (Option<Span>, bool) {
+/// What has spans, and its text.
+pub fn first_span<E: Spanned>(
+    alloc: Global,
+    error: &E,
+) -> (Option<Span>, bool, Result<String, AllocError>) {
     let spans: &[Span] = error.spans();
     let kind: SpansKind = error.spanskind();
     let is_duplicate: bool = matches!(kind, SpansKind::DuplicationError)
         || kind != SpansKind::Error;
-    (spans.first().copied(), is_duplicate)
-}
-
-/// The text of what has spans.
-pub fn shown<E: span::Spanned>(alloc: Global, error: &E) -> Result<String, AllocError> {
-    format!(in alloc; "{error}")
+    (
+        spans.first().copied(),
+        is_duplicate,
+        format!(in alloc; "{error}"),
+    )
 }
 
 /// Indices, all their conversions, and symbols of productions.

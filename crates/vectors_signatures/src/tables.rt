@@ -2,7 +2,7 @@
 
 use cfgrammar::yacc::ast::ASTWithValidityInfo;
 use cfgrammar::yacc::grammar::{self, PIdxIter, RIdxIter, TIdxIter};
-use cfgrammar::yacc::{AssocKind, Precedence, YaccGrammar, YaccGrammarResult, YaccKind};
+use cfgrammar::yacc::{Precedence, YaccGrammar, YaccGrammarResult, YaccKind};
 use cfgrammar::{PIdx, RIdx, SIdx, Span, Storage, Symbol, TIdx};
 use std::alloc::{AllocError, Global};
 use std::collections::HashMap;
@@ -130,14 +130,6 @@ pub fn named_tokens<'a, S: Storage>(
 ) -> Result<HashMap<&'a str, TIdx<S>>, AllocError> {
     let names: HashMap<&'a str, TIdx<S>> = grammar.tokens_map(alloc)?;
     Ok(names)
-}
-
-/// A precedence, by its other paths.
-pub fn level_of(precedence: grammar::Precedence) -> (grammar::AssocKind, u64) {
-    let kind: AssocKind = precedence.kind;
-    let level: grammar::PrecedenceLevel = precedence.level;
-    let number: u64 = level;
-    (kind, number)
 }
 
 /// A production's text, and whether one rule leads to another.

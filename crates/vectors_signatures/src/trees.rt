@@ -1,8 +1,8 @@
 //! The syntax tree.
 
 use cfgrammar::Span;
-use cfgrammar::yacc::ast::{GrammarAST, Production, Rule, Symbol, every_error};
-use cfgrammar::yacc::{AssocKind, Precedence, PrecedenceLevel, YaccGrammarError};
+use cfgrammar::yacc::ast::{GrammarAST, Production, Rule, Symbol};
+use cfgrammar::yacc::{AssocKind, Precedence, PrecedenceLevel, grammar};
 use indexmap::{IndexMap, IndexSet};
 use std::alloc::{AllocError, Global};
 
@@ -30,7 +30,7 @@ pub fn parts<'a>(ast: &'a GrammarAST, name: &str) -> Option<&'a Rule> {
 }
 
 /// What the file says of precedences and of tokens.
-pub fn declared(ast: &GrammarAST, name: &str) -> Option<PrecedenceLevel> {
+pub fn declared(ast: &GrammarAST, name: &str) -> Option<(PrecedenceLevel, grammar::Precedence)> {
     let precs: &IndexMap<String, (Precedence, Span)> = ast.precs();
     let avoid_insert: &Option<IndexMap<String, Span>> = ast.avoid_insert();
     let implicit_tokens: &Option<IndexMap<String, Span>> = ast.implicit_tokens();
@@ -38,10 +38,16 @@ pub fn declared(ast: &GrammarAST, name: &str) -> Option<PrecedenceLevel> {
     let (precedence, _): &(Precedence, Span) = precs.get(name)?;
     let precedence: Precedence = *precedence;
     let kind: AssocKind = precedence.kind;
-    let level: PrecedenceLevel = precedence.level;
+    let level: grammar::PrecedenceLevel = precedence.level;
+    let number: u64 = level;
+    let same_kind: grammar::AssocKind = kind;
+    let same: grammar::Precedence = Precedence {
+        level,
+        kind: same_kind,
+    };
     let is_plain: bool = avoid_insert.is_none() && implicit_tokens.is_none() && epp.is_empty();
     match kind {
-        AssocKind::Left | AssocKind::Right if is_plain => Some(level),
+        AssocKind::Left | AssocKind::Right if is_plain => Some((number, same)),
         AssocKind::Left | AssocKind::Right | AssocKind::Nonassoc => None,
     }
 }
@@ -78,8 +84,9 @@ pub fn held<'a>(rule: &'a Rule, production: &'a Production) -> Option<(&'a Strin
     }
 }
 
-/// Copies of parts of a tree.
+/// Copies of parts of a tree, and what a symbol prints.
 pub fn copied(
+    alloc: Global,
     rule: &Rule,
     production: &Production,
     symbol: &Symbol,
@@ -87,8 +94,14 @@ pub fn copied(
     Result<Rule, AllocError>,
     Result<Production, AllocError>,
     Result<Symbol, AllocError>,
+    Result<String, AllocError>,
 ) {
-    (rule.clone(), production.clone(), symbol.clone())
+    (
+        rule.clone(),
+        production.clone(),
+        symbol.clone(),
+        format!(in alloc; "{symbol}"),
+    )
 }
 
 /// Whether parts of a tree are the same, and the name and the place of a symbol.
@@ -102,11 +115,6 @@ pub fn named<'a>(
         Symbol::Rule(name, span) => (same, name, span),
         Symbol::Token(name, span) => (!same, name, span),
     }
-}
-
-/// What a symbol prints.
-pub fn shown(alloc: Global, symbol: &Symbol) -> Result<String, AllocError> {
-    format!(in alloc; "{symbol}")
 }
 
 /// A rule and its production, written into a tree.
@@ -131,10 +139,4 @@ pub fn written(
 pub fn with_programs(ast: &mut GrammarAST, programs: (String, String)) {
     ast.set_programs(programs.0);
     ast.add_programs(programs.1);
-}
-
-/// Every check of validation that a tree fails.
-pub fn failed(alloc: Global, ast: &GrammarAST) -> Result<Vec<YaccGrammarError>, AllocError> {
-    let errors: Vec<YaccGrammarError> = every_error(alloc, ast)?;
-    Ok(errors)
 }
