@@ -72,8 +72,8 @@ pub fn filled<'a>(
     entry.insert(value)
 }
 
-/// The keys of a map, and its entries; the keys that hold a value and weren't used, and those that are required and hold
-/// none.
+/// The keys of a map, and its entries; the keys that hold a value and weren't used, and those that are required and
+/// hold none.
 pub fn walked(
     alloc: Global,
     map: &MarkMap<u32, String>,
