@@ -93,7 +93,7 @@ module _ {S : Type 0} (number : S → ℕ) (P : ℕ → List Sym → Type 0) (co
         let no : ◌≡◌ {A = Ordering} Equal Greater = sym equal ∙ ap (λ l. lexicographic l v) (sym one) ∙ g in cc
     | inr later ↦
         let less = All-contains (λ q. lexicographic (numbers_of number first) q ≡ Less) (map (numbers_of number) others) v
-            (All-after_first lexicographic (numbers_of number first) (map (numbers_of number) others) order) later in
+        (All-after_first lexicographic (numbers_of number first) (map (numbers_of number) others) order) later in
         let no : ◌≡◌ {A = Ordering} Less Greater = sym less ∙ ap (λ l. lexicographic (numbers_of number l) v) (sym is) ∙ g in cc
   ]
 
