@@ -3,6 +3,8 @@ use Rattle.derivation.specs.declared.errors.CostError.TheVariants.{NoSentence, C
 use Rattle.cfgcosts.proofs.Greatest.{answer_at}
 use Rattle.cfgcosts.proofs.generator.SentenceGenerator.max_sentence_cost.Goals as goal
 
+-- The table has for the rule what is true of it (`answer_at`):
+-- each clause says a part of that.
 pub returns-clause-none : goal.returns-clause-none
 returns-clause-none g c = (answer_at _ _ c.self.view_is _ c.self.invariant.1 _ _ c.from.ensures c.requires _ c.index.ensures).0 (Err NoSentence)
 
