@@ -1,10 +1,13 @@
 """The Rust crate cfgrammar 0.15.0 and the program of rows, side by side: for tools/beside, tools/original_rows and tools/bench.
 
 tools/original is a cargo project over the crate. ORIGINAL is the crate's folder, or a folder that has it as `cfgrammar`, or the word
-`registry`, for which cargo downloads it."""
+`registry`, for which cargo downloads it. Cargo.lock of tools/original has the versions of the dependencies over which the stored answers
+were made, with replacements for two of them. For a folder with other ones cargo refuses that lock, and says so: without the file it chooses
+anew, as it does for `registry`."""
 import os
 import re
 import shutil
+import stat
 import subprocess
 import sys
 import tempfile
@@ -12,14 +15,25 @@ import tempfile
 from explained import explained, normal, row_of
 
 ROOT = os.path.dirname(os.path.dirname(os.path.realpath(__file__)))
-COPY = f'{tempfile.gettempdir()}/cfgrammar-original-{os.getuid()}'
+CACHE = os.environ.get('XDG_CACHE_HOME') or os.path.expanduser('~/.cache')
+COPY = f'{CACHE}/cfgrammar-original'
 PROGRAM = f'{ROOT}/crates/vectors/out/vectors'
+
+
+def own_folder(path):
+    """A folder in the user's cache, where what is built once can be kept. Nobody else may write there."""
+    os.makedirs(path, mode=0o700, exist_ok=True)
+    found = os.lstat(path)
+    if not stat.S_ISDIR(found.st_mode) or found.st_uid != os.getuid() or found.st_mode & 0o022:
+        sys.exit(f'{path} is not a folder that only its user may write')
 
 
 def build(original):
     """Builds tools/original over the crate, and returns the program's path."""
+    own_folder(COPY)
     shutil.rmtree(f'{COPY}/project', ignore_errors=True)
-    shutil.copytree(f'{ROOT}/tools/original', f'{COPY}/project')
+    without = shutil.ignore_patterns('Cargo.lock') if original == 'registry' else None
+    shutil.copytree(f'{ROOT}/tools/original', f'{COPY}/project', ignore=without)
     command, folder = ['cargo', 'build', '--release', '--quiet', '--target-dir', f'{COPY}/target'], ROOT
     if original != 'registry':
         folder = os.path.realpath(original)
@@ -28,7 +42,7 @@ def build(original):
             sys.exit(f'{original} has no cfgrammar 0.15.0')
         with open(f'{COPY}/project/Cargo.toml', 'a', encoding='utf-8') as it:
             it.write(f'\n[patch.crates-io]\ncfgrammar = {{ path = "{crate}" }}\n')
-        command.append('--offline')
+        command += ['--offline', *['--locked'] * os.path.exists(f'{COPY}/project/Cargo.lock')]
     # cargo reads the configuration of the folder in which it runs
     ran = subprocess.run([*command, '--manifest-path', f'{COPY}/project/Cargo.toml'], cwd=folder, capture_output=True, text=True)
     if ran.returncode:
