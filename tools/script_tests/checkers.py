@@ -1,0 +1,288 @@
+"""Each checker against an input that is emptied, shortened or changed: it passes on a copy of the repository, and fails then."""
+import contextlib
+import os
+import re
+import shutil
+import stat
+import subprocess
+import sys
+
+ROOT = os.path.dirname(os.path.dirname(os.path.dirname(os.path.realpath(__file__))))
+TEXTS, ANSWERS = (f"crates/vectors/data/original/{it}" for it in ("texts.rows", "answers.txt"))
+LONG = "crates/vectors/data/long/beginnings"
+# bin/ and what builds its programs have tests of their own
+TOOLS = ["bench", "beside", "costs_by_rules", "expected.py", "fuzz", "gate_runs", "gate_times", "large", "lint_by_rules", "long_rows",
+         "original_rows", "pages", "picture", "real_runs", "refuse", "rows_by_rules", "samples", "sizes_by_rules", "surface", "words",
+         "wrong_bodies"]
+
+
+def copied(room):
+    """A copy of the repository, without what is built and without proofs."""
+    copy = f"{room}/copy"
+    return shutil.copytree(ROOT, copy, ignore=shutil.ignore_patterns(".git", "out", "proofs"))
+
+
+def run(copy, *command, where="", **variables):
+    """How a command of the copy ends, and all that it prints."""
+    ran = subprocess.run([f"{copy}/{command[0]}", *command[1:]], cwd=f"{copy}/{where}", env={**os.environ, **variables}, text=True,
+                         stdin=subprocess.DEVNULL, stdout=subprocess.PIPE, stderr=subprocess.STDOUT, check=False)
+    return ran.returncode, ran.stdout
+
+
+def passes(copy, *command, **given):
+    status, printed = run(copy, *command, **given)
+    assert status == 0, f"{command}: status {status}: {printed[-500:]}"
+
+
+def fails(copy, words, *command, status=1, **given):
+    """Whether a command fails for this reason, in place of a traceback."""
+    found, printed = run(copy, *command, **given)
+    assert found == status and words in printed and "Traceback" not in printed, f"{command}: status {found}: {printed[-500:]}"
+
+
+@contextlib.contextmanager
+def changed(copy, file, change):
+    """While a file of the copy has another text, or is gone if that is None."""
+    with open(f"{copy}/{file}", encoding="utf-8", newline="") as it:
+        before = it.read()
+    after = change(before)
+    assert after != before, f"{file} isn't changed"
+    os.remove(f"{copy}/{file}")
+    if after is not None:
+        write(f"{copy}/{file}", after)
+    yield
+    write(f"{copy}/{file}", before)
+
+
+def write(file, text, mode=0o644):
+    os.makedirs(os.path.dirname(file), exist_ok=True)
+    with open(file, "w", encoding="utf-8", newline="") as it:
+        it.write(text)
+    os.chmod(file, mode)
+
+
+def emptied(_):
+    return ""
+
+
+def gone(_):
+    return None
+
+
+def without(pattern):
+    """The text without the first match."""
+    return lambda text: re.sub(pattern, "", text, count=1, flags=re.M | re.S)
+
+
+def replaced(old, new):
+    return lambda text: text.replace(old, new, 1)
+
+
+# ---------------------------------------------------------------- the pages
+
+def test_pages(room):
+    copy = copied(room)
+    passes(copy, "tools/pages", "check")
+    for file, change, words in [
+        ("docs/PROMISES.md", emptied, "docs/PROMISES.md clauses: 0 found"),
+        ("docs/PROMISES.md", lambda it: it.replace("<!-- end -->\n", ""), "docs/PROMISES.md: "),
+        ("docs/PROMISES.md", without("<!-- end -->\n"), "there is a comment in the part"),
+        ("docs/GUIDE.md", gone, "docs/GUIDE.md code: 0 found"),
+        ("docs/GUIDE.md", replaced("<!-- tools/pages: ", "<!-- tools/page: "), "marks no part"),
+        ("docs/DECISIONS.md", emptied, "docs/DECISIONS.md headings: 0 found"),
+        ("README.md", gone, "README.md headings: 0 found"),
+        ("README.md", lambda it: re.sub(r"(\d)( worked rows)", lambda it: str((int(it[1]) + 1) % 10) + it[2], it), "worked rows"),
+        ("README.md", lambda it: re.sub(r"(\d)( results of the crate)", lambda it: str((int(it[1]) + 1) % 10) + it[2], it), "results of"),
+        ("README.md", replaced("worked rows", "rows"), "{} worked rows"),
+        ("tools/last_runs.txt", replaced(" texts, 0", "1 texts, 0"), "Last runs: "),
+        ("tools/expected.txt", emptied, "0 expected"),
+        ("tools/expected.txt", gone, "expected.txt is gone"),
+    ]:
+        with changed(copy, file, change):
+            fails(copy, words, "tools/pages", "check")
+
+
+FAKE = """#!/bin/sh
+case $* in
+"examples/search.y") cat {0}/lint ;;
+"eco grammar a.y") echo "1:7: Unknown reference to rule 'B'"; exit 1 ;;
+esac
+"""
+
+
+def test_samples(room):
+    """Of a program that prints what README.md says of one file, that sample passes; so do those of calls of the library."""
+    copy = copied(room)
+    with open(f"{copy}/README.md", encoding="utf-8") as it:
+        block = re.search(r"^    \$ bin/cfglint.*\n((?:    .*\n)*)", it.read(), re.M)[1]
+    write(f"{room}/lint", re.sub("^    ", "", block, flags=re.M))
+    for name in ("cfgtool", "cfglint"):
+        write(f"{room}/{name}", FAKE.format(room), 0o755)
+    ours = ("README.md: $ bin/cfglint", "README.md: bin/cfgtool eco", "the errors of `", "from_str of `")
+    for file, change, broken in [
+        ("README.md", None, []),
+        ("README.md", replaced("search.y:7:9: warning", "search.y:7:8: warning"), [ours[0]]),
+        ("README.md", replaced("`1:7: Unknown", "`1:8: Unknown"), [ours[1]]),
+        ("docs/BEHAVIOUR.md", replaced("(7,8), (16,17) |", "(7,8), (16,18) |"), [ours[2]]),
+        ("docs/BEHAVIOUR.md", replaced("are `UnknownRuleRef(\"C\")` (31,32) |", "are `UnknownRuleRef(\"C\")` (31,33) |"), [ours[3]]),
+    ]:
+        with changed(copy, file, change) if change else contextlib.nullcontext():
+            _, printed = run(copy, "tools/samples", f"{room}/cfgtool", f"{room}/cfglint")
+        assert re.search(r"^\d+ passed, \d+ failed$", printed, re.M), printed
+        assert [it for it in ours if it in printed] == broken, f"{file}, {broken}: {printed[:2000]}"
+    with changed(copy, "docs/BEHAVIOUR.md", replaced("| Text | Errors |", "| Texts | Errors |")):
+        fails(copy, "lists_of_errors: 0 found", "tools/samples", "/bin/true", "/bin/true")
+
+
+# ---------------------------------------------------------------- rows
+
+def test_rows(room):
+    copy = copied(room)
+    passes(copy, "tools/expected.py", "check")
+    for file, change, words in [
+        ("crates/vectors/data/vectors/worked.rows", without(r"^row .*?\n(?=row )"), "rows vectors/worked.rows"),
+        ("crates/vectors/data/lint/many.rows", emptied, "rows lint/many.rows: 0 found"),
+        ("crates/vectors/data/lint/json.rows", gone, "rows lint/json.rows: 0 found"),
+        ("crates/vectors/args", without(r"^values/marks.rows\n"), "rows values/marks.rows: 0 found"),
+        ("crates/vectors/stdout", without(r"^== .*?\n(?=== )"), "rows stdout"),
+        ("tools/expected.txt", without(r"^rows lint/many.rows.*?\n"), "rows lint/many.rows"),
+    ]:
+        with changed(copy, file, change):
+            fails(copy, words, "tools/expected.py", "check")
+
+
+def test_original_rows(room):
+    copy = copied(room)
+    both = ["tools/original_rows", "--program", "/bin/true"]
+    for file, change, words in [
+        (TEXTS, emptied, "original_rows texts: 0 found"),
+        (TEXTS, without(r"^row row-7\n.*?\n(?=\n)"), "original_rows texts: "),
+        (TEXTS, replaced("row row-7\n", "row row-7-x\n"), "row-7 "),
+        (ANSWERS, emptied, "original_rows answers: 0 found"),
+        (ANSWERS, without(r"^@.*?\n"), "original_rows answers: "),
+        ("docs/DIFFERENCES.md", without(r"^\|[^\n]* \| `follow` \|\n"), "original_rows differences: "),
+    ]:
+        with changed(copy, file, change):
+            fails(copy, words, *both)
+    with changed(copy, TEXTS, emptied), changed(copy, ANSWERS, emptied):
+        fails(copy, "original_rows texts: 0 found", *both)
+
+
+def test_long_rows(room):
+    """The program prints what is stored of the row that it is given."""
+    copy = copied(room)
+    stored = f"{copy}/{LONG}.stdout"
+    write(f"{room}/program", f'#!/bin/sh\nread -r _ name <"$1"\nawk -v n="== $name" \'/^== /{{on=$0==n}} on\' {room}/stdout\n', 0o755)
+    shutil.copy(stored, f"{room}/stdout")
+    passes(copy, "tools/long_rows", "--program", f"{room}/program")
+    rows = [changed(copy, f"{LONG}.rows", emptied), changed(copy, f"{LONG}.stdout", emptied)]
+    with rows[0], rows[1]:
+        fails(copy, "long_rows rows: 0 found", "tools/long_rows", "--program", f"{room}/program")
+    with changed(copy, f"{LONG}.rows", without(r"^cuts .*?\n(?=cuts )")), changed(copy, f"{LONG}.stdout", without(r"^== .*?\n(?=== )")):
+        fails(copy, "long_rows rows: ", "tools/long_rows", "--program", f"{room}/program")
+    with changed(copy, f"{LONG}.stdout", lambda it: re.sub(r"digest .", "digest x", it, count=1)):
+        fails(copy, "1 failed", "tools/long_rows", "--program", f"{room}/program")
+
+
+def test_no_texts(room):
+    """A run on no text at all is no success."""
+    copy = copied(room)
+    fails(copy, "0 texts, 0 differences", "tools/fuzz", "--program", "/bin/true", "--texts", "0")
+    fails(copy, "0 texts, 0 that differ", "tools/beside", "x", "--driver", "/bin/true", "--program", "/bin/true", "--texts", "0")
+    with changed(copy, "crates/vectors/data/vectors/pairs.rows", without(r"^row .*?\n(?=row )")):
+        fails(copy, "fuzz texts of rows and examples: ", "tools/fuzz", "--program", "/bin/true", "--texts", "0")
+    for tool in ("rows_by_rules", "costs_by_rules", "lint_by_rules"):
+        fails(copy, "/dev/null has no rows", f"tools/{tool}", "/dev/null")
+
+
+def test_large(room):
+    copy = copied(room)
+    fails(copy, "invalid choice: 'nosuch'", "tools/large", "nosuch", status=2, CFGTOOL="/bin/true", CFGLINT="/bin/true")
+
+
+# ---------------------------------------------------------------- sources
+
+def test_words(room):
+    copy = copied(room)
+    fails(copy, "git lists no files of the repository", "tools/words", GIT_CEILING_DIRECTORIES=room)
+    for command in (["init", "-q"], ["add", "-A"]):
+        subprocess.run(["git", *command], cwd=copy, check=True)
+    passes(copy, "tools/words")
+    passes(copy, "tools/words", where="docs")
+    with changed(copy, "README.md", lambda it: it + "\nIt goes without saying.\n"):
+        fails(copy, "1  in all", "tools/words")
+        fails(copy, "1  in all", "tools/words", where="docs")
+
+
+def test_pictures(room):
+    """A shape is gone from the tables, and so from the picture that is drawn of them."""
+    copy = copied(room)
+    passes(copy, "tools/picture", "check")
+    with changed(copy, "docs/performance/tables.md", without(r"^### wide\n.*?(?=^### )")):
+        passes(copy, "tools/picture")
+        fails(copy, "picture shapes: ", "tools/picture", "check")
+
+
+def test_surface(room):
+    """A file of the crate is gone, and so are the lines of what it writes out."""
+    copy = copied(room)
+    source = "crates/vectors_signatures/src"
+    passes(copy, "tools/surface", "check")
+    name = sorted(it for it in os.listdir(f"{copy}/{source}") if it != "lib.rt")[0]
+    with changed(copy, f"{source}/{name}", gone), changed(copy, f"{source}/lib.rt", without(rf"^(pub )?mod {name[:-3]};\n")):
+        _, lines = run(copy, "tools/surface", "list")
+        with changed(copy, "docs/SURFACE.txt", lambda _: lines):
+            fails(copy, "surface files: ", "tools/surface", "check")
+
+
+def test_wrong_bodies(room):
+    copy = copied(room)
+    passes(copy, "tools/wrong_bodies", "--check")
+    for folder in ("wrong-bodies/cfgsyntax", "crates/cfganalysis/must-fail"):
+        edit = sorted(os.listdir(f"{copy}/{folder}"))[-1]
+        with changed(copy, f"{folder}/{edit}", gone):
+            fails(copy, f"wrong_bodies {folder}: ", "tools/wrong_bodies", "--check")
+
+
+# ---------------------------------------------------------------- how tools are called
+
+def test_help(room):
+    """Each tool prints its usage if that is requested, and as an error if it is given what it doesn't know."""
+    copy = copied(room)
+    for tool in TOOLS:
+        ran = subprocess.run([f"{copy}/tools/{tool}", "--help"], stdin=subprocess.DEVNULL, capture_output=True, check=False, timeout=20)
+        assert (ran.returncode, ran.stderr) == (0, b"") and len(ran.stdout) > 100, f"{tool} --help: {ran}"
+        ran = subprocess.run([f"{copy}/tools/{tool}", "--nosuch"], stdin=subprocess.DEVNULL, capture_output=True, check=False, timeout=20)
+        assert (ran.returncode, ran.stdout) == (2, b"") and len(ran.stderr) > 50, f"{tool} --nosuch: {ran}"
+
+
+def test_refuse_without_compiler(room):
+    """Nothing is built if nothing can be tried."""
+    copy = copied(room)
+    os.makedirs(f"{room}/bin")
+    os.symlink(sys.executable, f"{room}/bin/python3")
+    write(f"{copy}/tools/build_program", f"#!/bin/sh\n: >{room}/built\n", 0o755)
+    fails(copy, "there is no C compiler", "tools/refuse", status=77, PATH=f"{room}/bin")
+    assert not os.path.exists(f"{room}/built")
+
+
+# ---------------------------------------------------------------- where tools build
+
+BUILD = "import sys; sys.dont_write_bytecode = True; sys.path.insert(0, 'tools'); import beside_crate; print(beside_crate.build('{}'))"
+
+
+def test_original_is_built_in_the_cache(room):
+    """The Rust crate's program is built in a folder that only the user may write, with the versions of the lock file."""
+    copy = copied(room)
+    write(f"{room}/crate/Cargo.toml", '[package]\nname = "cfgrammar"\nversion = "0.15.0"\n')
+    write(f"{room}/bin/cargo", f'#!/bin/sh\necho "$@" >>{room}/cargo\n', 0o755)
+    given = {**os.environ, "PATH": f"{room}/bin:{os.environ['PATH']}", "XDG_CACHE_HOME": f"{room}/cache", "TMPDIR": room}
+    build = [sys.executable, "-c", BUILD.format(f"{room}/crate")]
+    found = subprocess.run(build, cwd=copy, env=given, capture_output=True, text=True, check=True).stdout
+    assert found.startswith(f"{room}/cache/cfgrammar-original/"), found
+    assert stat.S_IMODE(os.stat(f"{room}/cache/cfgrammar-original").st_mode) == 0o700
+    with open(f"{room}/cargo", encoding="utf-8") as it:
+        assert "--offline --locked" in it.read()
+    os.chmod(f"{room}/cache/cfgrammar-original", 0o777)
+    ran = subprocess.run(build, cwd=copy, env=given, capture_output=True, text=True, check=False)
+    assert ran.returncode == 1 and "only its user may write" in ran.stderr, ran
