@@ -1,13 +1,13 @@
 #!/usr/bin/env python3
-"""expected.py: how many things each checker has to find. tools/expected.txt lists them, so an input that is removed, emptied or renamed
-is found, and a change that adds or removes something changes the list.
+"""expected.py: how many things each checker has to find. tools/expected.txt lists them, so an input that is removed,
+emptied or renamed is found, and a change that adds or removes something changes the list.
 
   tools/expected.py write    counts them anew, and writes the list
   tools/expected.py check    shows where the list differs from what is there; the status is 1 if it does anywhere
 
-A checker has a function `counts`, and fails (`require`) if what it counts isn't what the list has of it. Beside the list,
-tools/last_runs.txt has the last lines of tools whose runs nothing repeats: `--keep` has a tool put its own there. tools/pages puts the
-numbers of both files into the pages.
+A checker has a function `counts`, and fails (`require`) if what it counts isn't what the list has of it. Beside the
+list, tools/last_runs.txt has the last lines of tools whose runs nothing repeats: `--keep` has a tool put its own there.
+tools/pages puts the numbers of both files into the pages.
 """
 import os
 import re
@@ -21,8 +21,8 @@ from usage import usage
 HERE = os.path.dirname(os.path.realpath(__file__))
 LIST, RUNS = f"{HERE}/expected.txt", f"{HERE}/last_runs.txt"
 DATA = f"{os.path.dirname(HERE)}/crates/vectors"
-CHECKERS = ("pages", "samples", "picture", "wrong_bodies", "surface", "words", "long_rows", "original_rows", "fuzz", "refuse", "real_runs",
-            "large")
+CHECKERS = ("pages", "samples", "picture", "wrong_bodies", "surface", "words", "long_rows", "original_rows", "fuzz",
+            "refuse", "real_runs", "large")
 HEAD = "# How many things each checker has to find, by 'tools/expected.py write'.\n"
 
 
@@ -75,9 +75,8 @@ def listed():
 
 def differing(found, expected):
     """What is there in another number than the list has, and of what there is nothing, as messages."""
-    names = sorted({*found, *expected})
-    said = [f"{it}: {found.get(it, 0)} found, {expected.get(it, 0)} expected" for it in names if found.get(it) != expected.get(it)]
-    said += [f"{it}: nothing is there" for it in names if found.get(it) == 0 == expected.get(it)]
+    names = [it for it in sorted({*found, *expected}) if found.get(it) != expected.get(it) or not found[it]]
+    said = [f"{it}: {found.get(it, 0)} found, {expected.get(it, 0)} expected" for it in names]
     return said or ["nothing is found"] * (not found)
 
 
