@@ -1,4 +1,4 @@
-"""Each checker against inputs that are emptied, shortened or changed: on a copy of the repository it passes, then fails."""
+"""Each checker, on a copy of the repository, against inputs that are emptied, shortened or changed."""
 import contextlib
 import os
 import re
