@@ -13,7 +13,7 @@ use Rattle.std.proofs.lemmas.List.{take-map, take_all}
 use Rattle.std.proofs.lemmas.List.Elements.{All-contains, Contains-get_or}
 use Rattle.std.proofs.lemmas.List.Filters.{dedup_is}
 use Rattle.std.proofs.lemmas.List.Kept.{Any-dedup, Contains-from_dedup, IsStrictlySortedBy-dedup}
-use Rattle.std.proofs.lemmas.List.Sorted.{Contains-permutation, IsPermutation-sym}
+use Rattle.std.proofs.lemmas.List.Sorted.{Contains-permutation, IsPermutation-map, IsPermutation-sym}
 use Rattle.lemmas.proofs.Contained.{contains_cases, contains_first, contains_later, contains_mapped, contains_none, contains_source}
 use Rattle.std.proofs.lemmas.Map.Views.{All-after_first}
 use Rattle.std.specs.declared.alloc.Global.{Global}
@@ -38,6 +38,12 @@ module _ {K : Type 0} (f : K → List ℕ) where
   all_less : (k : K) (xs : List K) → AllByRecursion (λ y. by_words k y ≡ Less) xs → AllByRecursion (λ y. lexicographic (f k) y ≡ Less) (map f xs)
   all_less k [] g = tt
   all_less k (x ∷ xs) g = (g.0, all_less k xs g.1)
+
+  -- in another order they are the same words
+  pub moved_words : (keys moved : List K) → IsPermutation keys moved → (w : List ℕ) → Contains (map f moved) w ↔ Contains (map f keys) w
+  moved_words keys moved p w =
+      let q = IsPermutation-map f keys moved p in
+      (Contains-permutation (map f moved) (map f keys) w (IsPermutation-sym (map f keys) (map f moved) q), Contains-permutation (map f keys) (map f moved) w q)
 
   sorted_shown : (keys : List K) → IsStrictlySortedBy by_words keys → IsStrictlySortedBy lexicographic (map f keys)
   unfolding IsStrictlySortedBy
@@ -64,18 +70,19 @@ module _ {K : Type 0} (f : K → List ℕ) where
           (IsStrictlySortedBy-dedup total reported sorted (λ k d low high. ap is_lt (sym (shown _ _)) ∙ order k d low high)))
 
       pub same_words : (words : List K) → IsPermutation words sorted → (w : List ℕ) → Contains (map f once) w ↔ Contains (map f words) w
-      same_words words moved w = (
-        (λ h.
-            let (v, among, is) = contains_source f once w h in
-            let before = Contains-from_dedup eq sorted v (subst (λ l. Contains l v) (dedup_is eq sorted once filtered) among) in
-            subst (Contains (map f words)) is (contains_mapped f words v (Contains-permutation sorted words v (IsPermutation-sym words sorted moved) before))),
-        (λ h.
-            let (v, among, is) = contains_source f words w h in
-            let (k, u, lt, at, same) = Any-dedup equal sorted v (Contains-permutation words sorted v moved among) in
-            let there = subst (Contains (dedup eq sorted)) at (Contains-get_or (dedup eq sorted) k u lt) in
-            subst (Contains (map f once)) (sym (exact_bytes (f v) (f u) ((Equal-is (lexicographic (f v) (f u))).0 (sym (reported v u) ∙ same))) ∙ is)
-            (contains_mapped f once u (subst (λ l. Contains l u) (sym (dedup_is eq sorted once filtered)) there))),
-      )
+      same_words words moved w =
+          let same = moved_words words sorted moved w in (
+            (λ h.
+                let (v, among, is) = contains_source f once w h in
+                let before = Contains-from_dedup eq sorted v (subst (λ l. Contains l v) (dedup_is eq sorted once filtered) among) in
+                same.0 (subst (Contains (map f sorted)) is (contains_mapped f sorted v before))),
+            (λ h.
+                let (v, among, is) = contains_source f sorted w (same.1 h) in
+                let (k, u, lt, at, equals) = Any-dedup equal sorted v among in
+                let there = subst (Contains (dedup eq sorted)) at (Contains-get_or (dedup eq sorted) k u lt) in
+                subst (Contains (map f once)) (sym (exact_bytes (f v) (f u) ((Equal-is (lexicographic (f v) (f u))).0 (sym (reported v u) ∙ equals))) ∙ is)
+                (contains_mapped f once u (subst (λ l. Contains l u) (sym (dedup_is eq sorted once filtered)) there))),
+          )
 
 -- of all minimal sentences, listed in lexicographic order, each is minimal, and the first is the first minimal one
 module _ {S : Type 0} (number : S → ℕ) (P : ℕ → List Sym → Type 0) (cost : ℕ → ℕ) (r : ℕ) where
