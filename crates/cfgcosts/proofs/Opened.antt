@@ -1,19 +1,21 @@
 -- What the counts of productions say of a walk that opened them, and of a rule of cost 0, if one of its productions alone was opened.
-use Rattle.std.proofs.Common.{◌≡◌, ◌⊎◌, inl, inr, ℕ, ◌<◌, List, [], ◌∷◌, ◌++◌, length, Result, Ok, Err, append-nil, arith, refl, ap, subst, sym, ◌∙◌}
-use Rattle.std.specs.Prelude.{IfOk}
+use Rattle.std.proofs.Common.{◌≡◌, ◌⊎◌, inl, inr, ℕ, ◌<◌, List, [], ◌∷◌, ◌++◌, length, Result, Ok, Err, append-nil, arith, refl, ap, subst, sym, ◌∙◌, ◌↔◌, ◌+◌, ◌*◌, ◌≤◌, All}
+use Rattle.std.specs.Prelude.{IfOk, slice_index}
 use Rattle.std.proofs.lemmas.List.{length-append}
+use Rattle.std.proofs.Math.Nat.{mul-le-mul_right}
 use Rattle.lemmas.proofs.Popped.{none_left}
 use Rattle.derivation.specs.Grammar.{Grammar, Sym, IsGrammar, HasProduction}
-use Rattle.derivation.specs.Sentence.{Sentence}
+use Rattle.derivation.specs.Sentence.{Sentence, cost_of}
 use Rattle.derivation.specs.Costs.{Least, Minimal}
 use Rattle.derivation.specs.Tree as trees
 use Rattle.derivation.proofs.Costs.{least_is_one, minimal_costs_least}
 use Rattle.derivation.proofs.Trees.{derivation_from_trees, trees_from_derivation}
 use Rattle.cfgtables.specs.Openings.{OpensOne, nth_production}
 use Rattle.cfgtables.proofs.Located.{same_production}
-use Rattle.cfgleast.specs.Generator.{CostTables, IsGenerator, IsLeastProduction, token_cost}
+use Rattle.cfgleast.specs.Generator.{CostTables, IsGenerator, IsLeastProduction, token_cost, HasNone}
 use Rattle.cfgchoices.specs.Splits.{Split, done, part}
 use Rattle.cfgchoices.proofs.Lengths.{sentence_length}
+use Rattle.cfgchoices.proofs.Splits.{Split-map}
 use Rattle.cfgcosts.specs.declared.errors.SentenceError.{SentenceError}
 use Rattle.cfgcosts.specs.declared.errors.SentenceError.TheVariants.{NoSentence, CostTooLarge, OutOfMemory}
 use Rattle.cfgcosts.specs.DerivedBy.{IsDerivedBy, IsFree, OpensNoneFree, none, next, times}
@@ -87,3 +89,54 @@ module _ (x : CostTables) (n : ℕ) (is : IsGenerator x n) (grammar : IsGrammar 
         counted = λ q h. counts.each q (subst (λ (g : Grammar). q < length g.productions) (sym (o.stays ∙ same)) h);
         together = counts.together;
       })
+
+-- rules of cost 0 are the same, whatever the tokens cost
+free_still : (g : Grammar) (costs : List ℕ) (other : ℕ → ℕ) → IsGrammar g → length costs ≡ g.tokens → All (λ c. 0 < c) costs
+    → (r : ℕ) → Least (HasProduction g) (slice_index costs) r 0 → Least (HasProduction g) other r 0
+free_still g costs other grammar tokens positive r least =
+    let (w, sentence, none) = least.0 in
+    let short = sentence_length g costs grammar tokens positive r w sentence in
+    let empty : w ≡ [] = none_left w (omega (arith, short, none)) in
+    ((w, sentence, ap (cost_of other) empty), λ v s. omega arith)
+
+-- what a walk by another generator of the same grammar gave, by the costs of this one
+module _ {x y : CostTables} (grammar : IsGrammar x.grammar) (is : (n : ℕ) × IsGenerator x n) (other : (n : ℕ) × IsGenerator y n) (same : y.grammar ≡ x.grammar) where
+  pub short_still : (r : ℕ) (w : List ℕ) → Sentence (HasProduction y.grammar) r w → length w ≤ cost_of (token_cost x) w
+  short_still r w sentence = sentence_length x.grammar x.costs grammar is.1.tokens is.1.positive r w (subst (λ g. Sentence (HasProduction g) r w) same sentence)
+
+  pub within_still : (w : List ℕ) → All (λ t. t + 1 < y.grammar.tokens) w → All (λ t. t + 1 < x.grammar.tokens) w
+  within_still w h = subst (λ (g : Grammar). All (λ t. t + 1 < g.tokens) w) same h
+
+  pub few_still : (n many : ℕ) → n ≤ 1 + many * y.grammar.rules → n ≤ 1 + many * x.grammar.rules
+  few_still n many h = subst (λ (g : Grammar). n ≤ 1 + many * g.rules) same h
+
+  pub none_still : {A : Type 0} (r : ℕ) → A ↔ HasNone (HasProduction y.grammar) r → A ↔ HasNone (HasProduction x.grammar) r
+  none_still {A} r h = subst (λ g. A ↔ HasNone (HasProduction g) r) same h
+
+  pub none_free_still : (opened : ℕ → ℕ) → OpensNoneFree y.grammar (token_cost y) opened → OpensNoneFree x.grammar (token_cost x) opened
+  none_free_still opened free p within least =
+      subst (λ g. OpensNoneFree g (token_cost y) opened) same free p within
+      (free_still x.grammar x.costs (token_cost y) grammar is.1.tokens is.1.positive (nth_production x.grammar p).rule least)
+
+  pub derived_still : (opened : ℕ → ℕ) (all r : ℕ) (w : List ℕ) → IsDerivedBy y.grammar (token_cost y) opened all r w → IsDerivedBy x.grammar (token_cost x) opened all r w
+  derived_still opened all r w h =
+      let d = subst (λ g. IsDerivedBy g (token_cost y) opened all r w) same h in
+      let tokens : length y.costs ≡ x.grammar.tokens = other.1.tokens ∙ ap (λ (g : Grammar). g.tokens) same in
+      record {
+        positions = d.positions;
+        list = d.list;
+        derived = d.derived;
+        tokens = Split-map (IsFree x.grammar (token_cost y)) (IsFree x.grammar (token_cost x))
+            (λ q u free. (free_still x.grammar y.costs (token_cost x) grammar tokens other.1.positive q free.0, free.1)) d.tokens;
+        counted = d.counted;
+        together = d.together;
+      }
+
+  -- if the rule's least cost by those of the other is no greater
+  pub stopped_still : (r n least fewest c : ℕ) → Least (HasProduction x.grammar) (token_cost x) r least → fewest ≤ least → n ≤ 1 + fewest * y.grammar.rules
+      → Least (HasProduction x.grammar) (token_cost x) r c → n ≤ 1 + c * x.grammar.rules
+  stopped_still r n least fewest c found fits few h =
+      let one = least_is_one (HasProduction x.grammar) (token_cost x) r least c found h in
+      let most : fewest * x.grammar.rules ≤ c * x.grammar.rules = mul-le-mul_right x.grammar.rules (omega (arith, one, fits)) in
+      let own = few_still n fewest few in
+      omega (arith, most, own)
