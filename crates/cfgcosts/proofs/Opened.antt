@@ -94,9 +94,9 @@ module _ (x : CostTables) (n : ℕ) (is : IsGenerator x n) (grammar : IsGrammar 
 free_still : (g : Grammar) (costs : List ℕ) (other : ℕ → ℕ) → IsGrammar g → length costs ≡ g.tokens → All (λ c. 0 < c) costs
     → (r : ℕ) → Least (HasProduction g) (slice_index costs) r 0 → Least (HasProduction g) other r 0
 free_still g costs other grammar tokens positive r least =
-    let (w, sentence, none) = least.0 in
+    let (w, sentence, nothing) = least.0 in
     let short = sentence_length g costs grammar tokens positive r w sentence in
-    let empty : w ≡ [] = none_left w (omega (arith, short, none)) in
+    let empty : w ≡ [] = none_left w (omega (arith, short, nothing)) in
     ((w, sentence, ap (cost_of other) empty), λ v s. omega arith)
 
 -- what a walk by another generator of the same grammar gave, by the costs of this one
