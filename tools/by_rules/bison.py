@@ -1,0 +1,517 @@
+"""What a Yacc or Bison file means, as Bison 3.8 reads it: its declarations, its rules, what they become, and its errors.
+
+A fault of the text doesn't end the reading: after one in a declaration it goes on at the next declaration, and after one in the rules at the
+next `;` or `%%`. What was skipped may have declared a symbol or given a rule, so then no symbol, no start and no rule is reported as missing.
+"""
+from .bison_words import DECLARATIONS, DIRECTIVES, FLAGS, IN_PRODUCTIONS, NAMED_FILES, TextFault, words_of
+from .lint import nearest
+
+ASSOCIATIVITIES = {'left': 'Left', 'right': 'Right', 'nonassoc': 'Nonassoc', 'binary': 'Nonassoc', 'precedence': 'Nonassoc'}
+# the faults of names; all others are of the text
+OF_NAMES = ('UnknownSymbol', 'RuleIsToken', 'NotForRules', 'InvalidStart', 'SeveralStarts', 'DuplicatePrecedence', 'NoRule')
+# tokens that need no declaration, and the other names of theirs
+BUILT_IN = {'error': 'YYerror', 'YYUNDEF': '$undefined', 'YYEOF': None}
+SYMBOLS = ('identifier', 'literal', 'string')
+
+
+class Unexpected(Exception):
+    pass
+
+
+class Symbol:
+    """What a file says of a symbol: whether it is a token or a rule, where that was said first, and its alias."""
+
+    def __init__(self, kind=None, span=None, alias=None):
+        self.kind, self.span, self.alias = kind, span, alias
+
+
+class Token:
+    """A token: its span, and its alias or None, as it is spelled, with its span and its value."""
+
+    def __init__(self, span):
+        self.span, self.alias = span, None
+
+
+class Rule:
+    """A rule: its span, and the indices of its productions."""
+
+    def __init__(self, span):
+        self.span, self.productions = span, []
+
+
+class Production:
+    """A production: its span, its symbols (is it a token, name, span), the token of its %prec or None, and its action or None."""
+
+    def __init__(self, span, symbols, precedence, action):
+        self.span, self.symbols, self.precedence, self.action = span, symbols, precedence, action
+
+
+class Tree:
+    """What was read of a file."""
+
+    def __init__(self):
+        self.start = None              # (name, span)
+        self.expect = None             # (number, span); the last one counts
+        self.expectrr = None
+        self.has_default_precedence = True
+        self.tokens = {}               # name: Token, in order
+        self.precedences = {}          # name: (level, associativity, span), in order
+        self.only_precedence = []      # the names in %precedence lists
+        self.rules = {}                # name: Rule, in order of the first productions; then %nterm names without a rule
+        self.productions = []          # those of `$@N` come before the one that has the action
+        self.programs = None           # the epilogue
+
+    def precedence_token(self, production):
+        """The token whose precedence a production has, or None."""
+        if production.precedence is None and self.has_default_precedence:
+            return next((n for is_token, n, _ in reversed(production.symbols) if is_token), None)
+        return production.precedence
+
+
+class Draft:
+    """A production that is being read. Its symbols are keys, with their spans."""
+
+    def __init__(self, begin):
+        self.begin, self.end = begin, begin
+        self.symbols, self.precedence, self.once = [], None, {}
+        self.pending = None            # the word of code, or of a predicate, that isn't before another symbol so far
+
+
+class Reader:
+    """Reads words. A symbol's key is its kind and its value, so `'a'`, `"a"` and `a` are three; an alias is resolved at the end."""
+
+    def __init__(self, words, faults):
+        self.words, self.next, self.expected = words, 0, []
+        self.faults = faults
+        self.symbols = {('identifier', n): Symbol('token', None, alias) for n, alias in BUILT_IN.items()}
+        self.tokens = {}               # key: span, in order
+        self.rules = {}                # key: span, in order of their first productions
+        self.nonterminals = {}         # key: span of %nterm names
+        self.owners = {}               # the key of an alias: that of its token
+        self.aliases = {}              # key of a token: (text, span, value)
+        self.levels, self.precedences = 0, []
+        self.start, self.expect, self.expectrr, self.has_default_precedence = None, None, None, True
+        self.drafts, self.inner = [], 0
+        self.used = []                 # (key, span) of the symbols of productions
+
+    # ------------------------------------------------------------ words
+
+    def at(self, *kinds, called=None):
+        """Whether the next word is one of these. If not, they are among those that may be there, perhaps as what they are called."""
+        if self.words[self.next].kind in kinds:
+            return True
+        self.expected += [it for it in ([called] if called else kinds) if it not in self.expected]
+        return False
+
+    def take(self, *kinds):
+        return self.advance() if self.at(*kinds) else None
+
+    def need(self, *kinds):
+        return self.take(*kinds) or self.unexpected()
+
+    def advance(self):
+        self.next, self.expected = self.next + 1, []
+        return self.words[self.next - 1]
+
+    def unexpected(self):
+        word = self.words[self.next]
+        if word.kind != 'fault':
+            self.faults.append(TextFault('Unexpected', word.span, None, word.kind, tuple(self.expected)))
+        raise Unexpected
+
+    def fault(self, kind, span, name=None, repeats=()):
+        self.faults.append(TextFault(kind, span, name, repeats=repeats))
+
+    def skip_to(self, *kinds):
+        while self.words[self.next].kind not in (*kinds, 'end'):
+            self.advance()
+
+    # ------------------------------------------------------------ symbols
+
+    def key(self, word):
+        """The key of a symbol's word. `YYerror` is another name of `error`."""
+        if word.kind in ('string', 'translatable'):
+            return ('string', word.value[0])
+        if word.kind == 'literal':
+            return ('literal', word.value)
+        return ('identifier', 'error' if word.value == 'YYerror' else word.value)
+
+    def symbol(self, key):
+        return self.symbols.setdefault(key, Symbol())
+
+    def is_a(self, kind, key, span):
+        """Says that a symbol is a token, or a rule. It can't be both."""
+        symbol = self.symbol(key)
+        if symbol.kind is None:
+            symbol.kind, symbol.span = kind, span
+        elif symbol.kind != kind and symbol.kind != 'both':
+            self.fault('RuleIsToken', span, key[1], [symbol.span] if symbol.span else [])
+            symbol.kind = 'both'
+        if kind == 'token':
+            self.tokens.setdefault(key, span)
+
+    def mention(self, word):
+        """A symbol in a list that declares none, or in a production. Literals and strings are tokens all the same."""
+        if word.kind != 'identifier' or self.key(word)[1] in BUILT_IN:
+            self.is_a('token', self.key(word), word.span)
+
+    def alias(self, key, word):
+        """Gives a token its alias. If it has one, or the string is that of another token, nothing changes but that the string is a token."""
+        string, symbol = self.key(word), self.symbol(key)
+        self.is_a('token', string, word.span)
+        if symbol.alias is None and string not in self.owners:
+            symbol.alias, self.owners[string] = string, key
+            self.aliases[key] = (word.value[0], word.span, word.value[1])
+
+    # ------------------------------------------------------------ declarations
+
+    def declarations(self):
+        """The declarations and the first `%%`. Whether there is one."""
+        while not self.take('%%'):
+            try:
+                self.declaration()
+            except Unexpected:
+                self.skip_to('%%', 'prologue', *PLACED)
+                if self.words[self.next].kind == 'end':
+                    return False
+        return True
+
+    def declaration(self):
+        if not self.take(';', 'prologue'):
+            self.at(*PLACED, called='declaration') or self.unexpected()
+            self.declared()
+
+    def declared(self):
+        directive = self.advance().kind
+        PLACED[directive](self, directive[1:])
+
+    def tagged(self, item):
+        """Reads items, at least one, and one at least after each tag, which may also be before the first."""
+        self.take('tag')
+        item() or self.unexpected()
+        while item() or self.take('tag') and (item() or self.unexpected()):
+            pass
+
+    def token_list(self, _):
+        self.tagged(self.token_item)
+
+    def token_item(self):
+        word = self.take('identifier', 'literal')
+        if word:
+            key = self.key(word)
+            self.is_a('token', key, word.span)
+            self.take('number')
+            alias = self.take('string', 'translatable')
+            if alias:
+                self.alias(key, alias)
+        return word
+
+    def rule_list(self, _):
+        self.tagged(self.rule_item)
+
+    def rule_item(self):
+        """A name of a rule. What a token could have besides is a fault."""
+        word = self.take('identifier', 'literal')
+        if word and word.kind == 'literal':
+            self.fault('NotForRules', word.span)
+        elif word:
+            self.is_a('rule', self.key(word), word.span)
+            self.nonterminals.setdefault(self.key(word), word.span)
+        for kinds in (('number',), ('string', 'translatable')):
+            extra = word and self.take(*kinds)
+            if extra:
+                self.fault('NotForRules', extra.span)
+        return word
+
+    def type_list(self, _):
+        self.tagged(self.type_item)
+
+    def type_item(self):
+        word = self.take(*SYMBOLS)
+        if word:
+            self.mention(word)
+        return word
+
+    def precedence_list(self, name):
+        level, associativity = self.levels, name
+        self.levels += 1
+        self.tagged(lambda: self.precedence_item(level, associativity))
+
+    def precedence_item(self, level, associativity):
+        word = self.take(*SYMBOLS)
+        if word:
+            self.is_a('token', self.key(word), word.span)
+            self.precedences.append((self.key(word), level, associativity, word.span))
+        if word and word.kind != 'string':
+            self.take('number')
+        return word
+
+    def start_symbol(self, _):
+        word = self.need(*SYMBOLS)
+        while word:
+            if self.start is None:
+                self.start = (self.key(word), word.span)
+            elif self.start[0] != self.key(word):
+                self.fault('SeveralStarts', word.span, None, [self.start[1]])
+            self.mention(word)
+            word = self.take(*SYMBOLS)
+
+    def code_for_symbols(self, _):
+        self.need('code')
+        word = self.need(*SYMBOLS, 'tag', '<*>', '<>')
+        while word:
+            if word.kind in SYMBOLS:
+                self.mention(word)
+            word = self.take(*SYMBOLS, 'tag', '<*>', '<>')
+
+    def named_code(self, _):
+        self.take('identifier')
+        self.need('code')
+
+    def only_code(self, _):
+        self.need('code')
+
+    def codes(self, _):
+        self.need('code')
+        while self.take('code'):
+            pass
+
+    def default_precedence(self, name):
+        self.has_default_precedence = name == 'default-prec'
+
+    def variable(self, _):
+        self.need('identifier')
+        self.take('identifier', 'string', 'code')
+
+    def number_of_conflicts(self, name):
+        word = self.need('number')
+        if name == 'expect':
+            self.expect = (word.value, word.span)
+        else:
+            self.expectrr = (word.value, word.span)
+
+    def only_string(self, _):
+        self.need('string')
+
+    def maybe_string(self, _):
+        self.take('string')
+
+    def flag(self, _):
+        pass
+
+    # ------------------------------------------------------------ rules
+
+    def grammar(self):
+        """The rules, and the declarations among them, each of which a `;` ends."""
+        reads = False
+        while not (reads and self.at('%%', 'end')):
+            try:
+                self.rule_or_declaration()
+            except Unexpected:
+                self.skip_to(';', '%%')
+                while self.take(';'):
+                    pass
+            reads = True
+
+    def rule_or_declaration(self):
+        if self.at('head', called='rule'):
+            self.rule()
+            return
+        self.at(*AMONG_RULES, called='declaration') or self.unexpected()
+        self.declared()
+        self.need(';')
+
+    def rule(self):
+        head = self.advance()
+        self.is_a('rule', self.key(head), head.span)
+        self.rules.setdefault(self.key(head), head.span)
+        self.take('name')
+        self.need(':')
+        self.production(self.key(head))
+        while self.at('|', ';'):
+            if self.advance().kind == '|':
+                self.production(self.key(head))
+
+    def production(self, rule):
+        """Reads up to what can't be in a production. After a fault it goes on after the next `;`."""
+        draft = Draft(self.words[self.next].span[0])
+        try:
+            while self.item(draft):
+                pass
+            self.at('|', ';', '%%', 'end') or self.at('head', called='rule') or self.at(*AMONG_RULES, called='declaration') or self.unexpected()
+        except Unexpected:
+            self.skip_to(';', '%%')
+            return
+        if 'empty' in draft.once and draft.symbols:
+            self.fault('NonEmptyProduction', draft.once['empty'])
+        self.drafts.append((rule, draft, draft.pending and draft.pending.value))
+
+    def item(self, draft):
+        """Reads an item of a production. Whether there is one."""
+        word = self.take(*SYMBOLS)
+        if word:
+            self.symbol_of_production(draft, word)
+        elif self.at('code', 'predicate', 'tag'):
+            self.action(draft)
+        elif self.at(*('%' + it for it in IN_PRODUCTIONS)):
+            self.modifier(draft, self.advance())
+        else:
+            return False
+        return True
+
+    def symbol_of_production(self, draft, word):
+        self.close_action(draft)
+        self.mention(word)
+        draft.symbols.append((self.key(word), word.span))
+        self.used.append((self.key(word), word.span))
+        self.take('name')
+        draft.end = self.words[self.next - 1].span[1]
+
+    def action(self, draft):
+        """Code with or without a tag and a name, or a predicate."""
+        if self.take('tag'):
+            self.at('code') or self.unexpected()
+        word = self.advance()
+        self.close_action(draft)
+        draft.pending = word
+        if word.kind == 'code':
+            self.take('name')
+
+    def close_action(self, draft):
+        """Makes the action before another symbol or action a rule of its own."""
+        if draft.pending:
+            code, draft.pending = draft.pending, None
+            self.inner += 1
+            key = ('inner', '$@%d' % self.inner)
+            self.rules[key] = code.span
+            self.drafts.append((key, Draft(code.span[0]), code.value))
+            draft.symbols.append((key, code.span))
+            draft.end = code.span[1]
+
+    def modifier(self, draft, word):
+        """%prec, %empty or %dprec, each of which a production has once, or one of the others."""
+        name = word.kind[1:]
+        if name == 'prec':
+            value = self.need(*SYMBOLS)
+            self.is_a('token', self.key(value), value.span)
+        elif name == 'merge':
+            self.need('tag')
+        elif name != 'empty':
+            value = self.need('number')
+            if name == 'dprec' and value.value == 0:
+                self.fault('IllegalInteger', value.span)
+        if name in draft.once and name in ('prec', 'empty', 'dprec'):
+            self.fault('RepeatedInProduction', word.span, name, [draft.once[name]])
+        elif name == 'prec':
+            draft.precedence = self.key(value)
+        draft.once.setdefault(name, word.span)
+        draft.end = self.words[self.next - 1].span[1]
+
+
+# what each declaration has after its directive
+PLACED = {
+    **{'%' + name: Reader.flag for name in FLAGS},
+    **{'%' + name: Reader.only_string for name in NAMED_FILES},
+    **{'%' + name: Reader.precedence_list for name in ASSOCIATIVITIES},
+    '%token': Reader.token_list, '%term': Reader.token_list, '%nterm': Reader.rule_list, '%type': Reader.type_list,
+    '%start': Reader.start_symbol, '%union': Reader.named_code, '%code': Reader.named_code, '%initial-action': Reader.only_code,
+    '%destructor': Reader.code_for_symbols, '%printer': Reader.code_for_symbols,
+    '%param': Reader.codes, '%parse-param': Reader.codes, '%lex-param': Reader.codes,
+    '%default-prec': Reader.default_precedence, '%no-default-prec': Reader.default_precedence,
+    '%define': Reader.variable, '%defines': Reader.maybe_string, '%header': Reader.maybe_string,
+    '%expect': Reader.number_of_conflicts, '%expect-rr': Reader.number_of_conflicts,
+}
+AMONG_RULES = tuple('%' + name for name in DECLARATIONS)
+
+
+class Names:
+    """What the symbols of a file that was read become."""
+
+    def __init__(self, reader):
+        self.reader = reader
+        self.identifiers = {n for (kind, n), symbol in reader.symbols.items() if kind == 'identifier' and symbol.kind}
+
+    def resolved(self, key):
+        return self.reader.owners.get(key, key)
+
+    def kind(self, key):
+        """'token', 'rule' or 'both', or None for a symbol of which the file says neither."""
+        return 'rule' if key[0] == 'inner' else self.reader.symbol(self.resolved(key)).kind
+
+    def name(self, key):
+        """A literal is its character, unless an identifier has that name too; a string that is no alias keeps its quotes."""
+        kind, value = self.resolved(key)
+        if kind == 'string':
+            return '"%s"' % value
+        return "'%s'" % value if kind == 'literal' and value in self.identifiers else value
+
+
+def check_names(reader, names):
+    """Adds the faults of names. What is missing is no fault if a part of the text was skipped, which may have it."""
+    is_whole = all(fault.kind in OF_NAMES for fault in reader.faults)
+    missing = set()
+    for key, span in reader.used:
+        if is_whole and names.kind(key) is None and key not in missing:
+            missing.add(key)
+            reader.fault('UnknownSymbol', span, key[1])
+    if reader.start and (names.kind(reader.start[0]) == 'token' or is_whole and names.kind(reader.start[0]) is None):
+        reader.fault('InvalidStart', reader.start[1], names.name(reader.start[0]))
+    if is_whole and not reader.rules:
+        reader.fault('NoRule', (0, 0))
+    spans = {}
+    for key, _, _, span in reader.precedences:
+        spans.setdefault(names.resolved(key), []).append(span)
+    for key, (first, *repeats) in spans.items():
+        if repeats:
+            reader.fault('DuplicatePrecedence', first, names.name(key), repeats)
+
+
+def tree_of(reader, names, epilogue):
+    """The tree of what was read."""
+    tree = Tree()
+    first = next(iter(reader.rules.items()), None)
+    start = reader.start or first
+    tree.start = start and (names.name(start[0]), start[1])
+    tree.expect, tree.expectrr = reader.expect, reader.expectrr
+    tree.has_default_precedence = reader.has_default_precedence
+    for key, span in reader.tokens.items():
+        token = tree.tokens.setdefault(names.name(key), Token(span))
+        token.alias = reader.aliases.get(names.resolved(key))
+    for key, level, word, span in reader.precedences:
+        tree.precedences.setdefault(names.name(key), (level, ASSOCIATIVITIES[word], span))
+        if word == 'precedence' and names.name(key) not in tree.only_precedence:
+            tree.only_precedence.append(names.name(key))
+    for key, span in [*reader.rules.items(), *reader.nonterminals.items()]:
+        tree.rules.setdefault(names.name(key), Rule(span))
+    for key, draft, action in reader.drafts:
+        tree.rules[names.name(key)].productions.append(len(tree.productions))
+        symbols = [(names.kind(it) == 'token', names.name(it), span) for it, span in draft.symbols]
+        tree.productions.append(Production(
+            (draft.begin, draft.end), symbols, draft.precedence and names.name(draft.precedence), action))
+    tree.programs = None if epilogue is None else epilogue.decode('utf-8', 'replace')
+    return tree
+
+
+def errors_in_order(faults):
+    """The faults of the text, and then those of names, each by their offsets."""
+    return sorted(faults, key=lambda fault: (fault.kind in OF_NAMES, fault.span[0]))
+
+
+def read(t):
+    """What was read of a text, and its errors."""
+    words, faults, epilogue = words_of(t)
+    reader = Reader(words, faults)
+    if reader.declarations():
+        reader.grammar()
+    names = Names(reader)
+    check_names(reader, names)
+    return tree_of(reader, names, epilogue), errors_in_order(faults)
+
+
+def near(tree, error):
+    """The question whether another name is meant, or None."""
+    if error.kind == 'UnknownDirective':
+        return nearest(error.name, DIRECTIVES)
+    if error.kind in ('UnknownSymbol', 'InvalidStart'):
+        return nearest(error.name, [*tree.rules, *tree.tokens])
+    return None
