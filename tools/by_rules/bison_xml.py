@@ -86,20 +86,18 @@ class Compared:
         return 'only bison has %s' % shown((useful + useless)[0]) if useful + useless else None
 
     def tokens_difference(self):
-        """Tokens in order, those of Bison's own apart, and their precedences."""
+        """The tokens, those of Bison's own apart, and the precedences. Their order isn't compared: a later %token moves a token."""
         levels = {n: (level, associativity) for n, (level, associativity, _) in self.tree.precedences.items()}
-        bison, own = [], {self.name(it) for it in self.bison.own_tokens}
+        own = {'error', 'YYEOF', 'YYUNDEF', *map(self.name, self.bison.own_tokens)}
+        bison = set()
         for token, level, associativity in self.bison.tokens:
             n = self.name(token)
-            bison += [] if n in own else [n]
+            bison.add(n)
             read = level_of(level, associativity)
             if read != levels.get(n):
                 return 'precedence of %s: bison %s, here %s' % (n, read, levels.get(n))
-        here = [n for n in self.tree.tokens if n not in own and n not in ('error', 'YYEOF', 'YYUNDEF')]
-        differing = next((pair for pair in zip(here, bison) if pair[0] != pair[1]), None)
-        if differing is None and len(here) != len(bison):
-            differing = len(here), len(bison)
-        return differing and 'tokens: here %s, bison %s' % differing
+        other = bison.symmetric_difference(self.tree.tokens) - own
+        return 'tokens of only one: %s' % ', '.join(sorted(other)) if other else None
 
 
 def level_of(level, associativity):
