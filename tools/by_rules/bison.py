@@ -68,6 +68,11 @@ class Tree:
         return production.precedence
 
 
+def action_of(word):
+    """The action that the word of code is. A predicate is none."""
+    return word.value if word and word.kind == 'code' else None
+
+
 class Draft:
     """A production that is being read. Its symbols are keys, with their spans."""
 
@@ -338,13 +343,16 @@ class Reader:
         try:
             while self.item(draft):
                 pass
-            self.at('|', ';', '%%', 'end') or self.at('head', called='rule') or self.at(*AMONG_RULES, called='declaration') or self.unexpected()
+            self.ends_production() or self.unexpected()
         except Unexpected:
             self.skip_to(';', '%%')
             return
         if 'empty' in draft.once and draft.symbols:
             self.fault('NonEmptyProduction', draft.once['empty'])
-        self.drafts.append((rule, draft, draft.pending and draft.pending.value))
+        self.drafts.append((rule, draft, action_of(draft.pending)))
+
+    def ends_production(self):
+        return self.at('|', ';', '%%', 'end') or self.at('head', called='rule') or self.at(*AMONG_RULES, called='declaration')
 
     def item(self, draft):
         """Reads an item of a production. Whether there is one."""
@@ -384,7 +392,7 @@ class Reader:
             self.inner += 1
             key = ('inner', '$@%d' % self.inner)
             self.rules[key] = code.span
-            self.drafts.append((key, Draft(code.span[0]), code.value))
+            self.drafts.append((key, Draft(code.span[0]), action_of(code)))
             draft.symbols.append((key, code.span))
             draft.end = code.span[1]
 
@@ -511,7 +519,8 @@ def read(t):
 def near(tree, error):
     """The question whether another name is meant, or None."""
     if error.kind == 'UnknownDirective':
-        return nearest(error.name, DIRECTIVES)
+        question = nearest(error.name, DIRECTIVES)
+        return question and question.replace("'", "'%", 1)
     if error.kind in ('UnknownSymbol', 'InvalidStart'):
         return nearest(error.name, [*tree.rules, *tree.tokens])
     return None

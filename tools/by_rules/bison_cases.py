@@ -1,4 +1,5 @@
 """Files of cases: texts, each with what it means by the rules. The form is that of files of rows."""
+from .bison import near
 
 
 class Case:
@@ -44,15 +45,16 @@ def at(span):
 
 def lines_of(tree, errors):
     """What a text means, line by line: its errors, or its grammar."""
-    return [error_line(error) for error in errors] or [marked(line) for line in grammar_lines(tree)]
+    return [error_line(tree, error) for error in errors] or [marked(line) for line in grammar_lines(tree)]
 
 
-def error_line(error):
+def error_line(tree, error):
     parts = ['error', error.kind, *map(at, error.spans)]
     parts += [marked(error.name)] if error.name else []
     parts += ['found ' + error.found] if error.found else []
     parts += ['expected ' + ' '.join(error.expected)] if error.expected else []
-    return ' '.join(parts)
+    question = near(tree, error)
+    return ' '.join(parts) + (': ' + question if question else '')
 
 
 def grammar_lines(tree):
