@@ -1,15 +1,18 @@
-"""What a Yacc or Bison file means, as Bison 3.8 reads it: its declarations, its rules, what they become, and its errors.
+"""What a Yacc or Bison file means, as Bison 3.8 reads it: its declarations, its rules, what they become, its errors.
 
-A fault of the text doesn't end the reading: after one in a declaration it goes on at the next declaration, and after one in the rules at the
-next `;` or `%%`. What was skipped may have declared a symbol or given a rule, so then no symbol, no start and no rule is reported as missing.
+A fault of the text doesn't end the reading: after one in a declaration it goes on at the next declaration, and after
+one in the rules at the next `;` or `%%`. What was skipped may have declared a symbol or given a rule, so then no
+symbol, no start and no rule is reported as missing.
 """
-from .bison_words import DECLARATIONS, DIRECTIVES, FLAGS, IN_PRODUCTIONS, NAMED_FILES, TextFault, words_of
+from .bison_words import DECLARATIONS, DIRECTIVES, FLAGS, IN_PRODUCTIONS, WITH_STRING, TextFault, words_of
 from .lint import nearest
 
-ASSOCIATIVITIES = {'left': 'Left', 'right': 'Right', 'nonassoc': 'Nonassoc', 'binary': 'Nonassoc', 'precedence': 'Nonassoc'}
+ASSOCIATIVITIES = {
+    'left': 'Left', 'right': 'Right', 'nonassoc': 'Nonassoc', 'binary': 'Nonassoc', 'precedence': 'Nonassoc'}
 # the faults of names; all others are of the text
-OF_NAMES = ('UnknownSymbol', 'RuleIsToken', 'NotForRules', 'InvalidStart', 'SeveralStarts', 'DuplicatePrecedence', 'NoRule')
-# tokens that need no declaration, and the other names of theirs
+OF_NAMES = (
+    'UnknownSymbol', 'RuleIsToken', 'NotForRules', 'InvalidStart', 'SeveralStarts', 'DuplicatePrecedence', 'NoRule')
+# tokens that need no declaration, each with another name that it has
 BUILT_IN = {'error': 'YYerror', 'YYUNDEF': '$undefined', 'YYEOF': None}
 SYMBOLS = ('identifier', 'literal', 'string')
 
@@ -40,7 +43,10 @@ class Rule:
 
 
 class Production:
-    """A production: its span, its symbols (is it a token, name, span), the token of its %prec or None, and its action or None."""
+    """A production: its span, its symbols (is it a token, name, span), the token of its %prec, and its action.
+
+    The span ends after the last item but the action. Either of the last two may be None.
+    """
 
     def __init__(self, span, symbols, precedence, action):
         self.span, self.symbols, self.precedence, self.action = span, symbols, precedence, action
@@ -83,7 +89,7 @@ class Draft:
 
 
 class Reader:
-    """Reads words. A symbol's key is its kind and its value, so `'a'`, `"a"` and `a` are three; an alias is resolved at the end."""
+    """Reads words. A symbol's key is its kind and its value: `'a'`, `"a"`, `a` are three. Aliases are resolved later."""
 
     def __init__(self, words, faults):
         self.words, self.next, self.expected = words, 0, []
@@ -102,7 +108,7 @@ class Reader:
     # ------------------------------------------------------------ words
 
     def at(self, *kinds, called=None):
-        """Whether the next word is one of these. If not, they are among those that may be there, perhaps as what they are called."""
+        """Whether the next word is one of these. If not, they are among what may be there, perhaps by another name."""
         if self.words[self.next].kind in kinds:
             return True
         self.expected += [it for it in ([called] if called else kinds) if it not in self.expected]
@@ -161,7 +167,7 @@ class Reader:
             self.is_a('token', self.key(word), word.span)
 
     def alias(self, key, word):
-        """Gives a token its alias. If it has one, or the string is that of another token, nothing changes but that the string is a token."""
+        """Gives a token its alias, unless it has one, or the string is that of another. The string is a token too."""
         string, symbol = self.key(word), self.symbol(key)
         self.is_a('token', string, word.span)
         if symbol.alias is None and string not in self.owners:
@@ -352,7 +358,8 @@ class Reader:
         self.drafts.append((rule, draft, action_of(draft.pending)))
 
     def ends_production(self):
-        return self.at('|', ';', '%%', 'end') or self.at('head', called='rule') or self.at(*AMONG_RULES, called='declaration')
+        is_over = self.at('|', ';', '%%', 'end') or self.at('head', called='rule')
+        return is_over or self.at(*AMONG_RULES, called='declaration')
 
     def item(self, draft):
         """Reads an item of a production. Whether there is one."""
@@ -419,11 +426,11 @@ class Reader:
 # what each declaration has after its directive
 PLACED = {
     **{'%' + name: Reader.flag for name in FLAGS},
-    **{'%' + name: Reader.only_string for name in NAMED_FILES},
+    **{'%' + name: Reader.only_string for name in WITH_STRING},
     **{'%' + name: Reader.precedence_list for name in ASSOCIATIVITIES},
     '%token': Reader.token_list, '%term': Reader.token_list, '%nterm': Reader.rule_list, '%type': Reader.type_list,
-    '%start': Reader.start_symbol, '%union': Reader.named_code, '%code': Reader.named_code, '%initial-action': Reader.only_code,
-    '%destructor': Reader.code_for_symbols, '%printer': Reader.code_for_symbols,
+    '%start': Reader.start_symbol, '%destructor': Reader.code_for_symbols, '%printer': Reader.code_for_symbols,
+    '%union': Reader.named_code, '%code': Reader.named_code, '%initial-action': Reader.only_code,
     '%param': Reader.codes, '%parse-param': Reader.codes, '%lex-param': Reader.codes,
     '%default-prec': Reader.default_precedence, '%no-default-prec': Reader.default_precedence,
     '%define': Reader.variable, '%defines': Reader.maybe_string, '%header': Reader.maybe_string,
@@ -447,7 +454,7 @@ class Names:
         return 'rule' if key[0] == 'inner' else self.reader.symbol(self.resolved(key)).kind
 
     def name(self, key):
-        """A literal is its character, unless an identifier has that name too; a string that is no alias keeps its quotes."""
+        """A literal is its character, unless an identifier has that name; a string without a token keeps its quotes."""
         kind, value = self.resolved(key)
         if kind == 'string':
             return '"%s"' % value

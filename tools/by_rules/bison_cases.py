@@ -70,7 +70,8 @@ def grammar_lines(tree):
             alias = ', alias "%s" %s' % (token.alias[0], at(token.alias[1]))
         yield 'token %s %s%s' % (n, at(token.span), alias)
     for n, (level, associativity, span) in tree.precedences.items():
-        yield 'precedence %s %s: %d %s%s' % (n, at(span), level, associativity, ' only' if n in tree.only_precedence else '')
+        only = ' only' if n in tree.only_precedence else ''
+        yield 'precedence %s %s: %d %s%s' % (n, at(span), level, associativity, only)
     for n, rule in tree.rules.items():
         yield 'rule %s %s:%s' % (n, at(rule.span), ''.join(' %d' % it for it in rule.productions))
     for index, p in enumerate(tree.productions):

@@ -1,7 +1,7 @@
 """The words of a Yacc or Bison file, as Bison 3.8 reads them. Offsets are those of bytes.
 
-A fault in a word doesn't end the reading: the fault is listed, and either the word counts all the same (a literal with a wrong escape), or a
-word `fault` takes its place, which is expected nowhere.
+A fault in a word doesn't end the reading: the fault is listed, and either the word counts all the same (a literal with
+a wrong escape), or a word `fault` comes in its place, which is expected nowhere.
 """
 from .faults import Fault
 from .words import WHITE_SPACE
@@ -20,18 +20,19 @@ ESCAPES = {b'a': 7, b'b': 8, b'f': 12, b'n': 10, b'r': 13, b't': 9, b'v': 11, b'
 # the digits of other escapes, and how many there are
 NUMBERED = {b'x': (HEXADECIMAL, 1, None), b'u': (HEXADECIMAL, 4, 4), b'U': (HEXADECIMAL, 8, 8)}
 
-# declarations that may be anywhere, those before the first %% only, and what may be in a production
-DECLARATIONS = ('token', 'term', 'nterm', 'type', 'left', 'right', 'nonassoc', 'binary', 'precedence', 'start', 'union', 'code',
-                'destructor', 'printer', 'default-prec', 'no-default-prec')
-FLAGS = ('debug', 'error-verbose', 'fixed-output-files', 'glr-parser', 'locations', 'no-lines', 'nondeterministic-parser', 'pure-parser',
-         'token-table', 'verbose', 'yacc')
-NAMED_FILES = ('file-prefix', 'language', 'name-prefix', 'output', 'require', 'skeleton')
-SETTINGS = (*FLAGS, *NAMED_FILES, 'define', 'defines', 'expect', 'expect-rr', 'header', 'initial-action', 'lex-param', 'param', 'parse-param')
+# declarations that may also be among the rules, those that may not, and what may be in a production
+DECLARATIONS = ('token', 'term', 'nterm', 'type', 'left', 'right', 'nonassoc', 'binary', 'precedence', 'start', 'union',
+                'code', 'destructor', 'printer', 'default-prec', 'no-default-prec')
+FLAGS = ('debug', 'error-verbose', 'fixed-output-files', 'glr-parser', 'locations', 'no-lines',
+         'nondeterministic-parser', 'pure-parser', 'token-table', 'verbose', 'yacc')
+WITH_STRING = ('file-prefix', 'language', 'name-prefix', 'output', 'require', 'skeleton')
+SETTINGS = (*FLAGS, *WITH_STRING, 'define', 'defines', 'expect', 'expect-rr', 'header', 'initial-action', 'lex-param',
+            'param', 'parse-param')
 IN_PRODUCTIONS = ('prec', 'empty', 'dprec', 'merge', 'expect', 'expect-rr')
 DIRECTIVES = tuple(dict.fromkeys((*DECLARATIONS, *SETTINGS, *IN_PRODUCTIONS)))
 # those whose names may have `_` in place of any `-`, and those that an `=` may follow
-OLD = ('default-prec', 'error-verbose', 'expect-rr', 'fixed-output-files', 'name-prefix', 'no-default-prec', 'no-lines', 'pure-parser',
-       'token-table')
+OLD = ('default-prec', 'error-verbose', 'expect-rr', 'fixed-output-files', 'name-prefix', 'no-default-prec', 'no-lines',
+       'pure-parser', 'token-table')
 ASSIGNED = ('file-prefix', 'name-prefix', 'output')
 
 
@@ -53,7 +54,7 @@ class Word:
 
 
 class Scanner:
-    """Reads the words of a text up to the second %% or its end; after that the epilogue, in which comments and quotes have to end."""
+    """Reads the words of a text up to the second %% or its end. Comments and quotes have to end in the epilogue too."""
 
     def __init__(self, t):
         self.t, self.words, self.faults, self.epilogue = t, [], [], None
@@ -217,7 +218,7 @@ class Scanner:
         return self.t[p + 1:end - 1].decode('utf-8', 'surrogateescape')
 
     def quoted(self, p, close, kind):
-        """The bytes between the quotes at p, with escapes replaced, and the offset after them, or after the fault that ends them."""
+        """The bytes between the quotes at p, with escapes replaced, and the offset after them or at the line end."""
         value, end = bytearray(), p + 1
         while end < len(self.t) and not self.at(b'\n', end):
             if self.at(close, end):
@@ -236,7 +237,7 @@ class Scanner:
         return self.t[p] or 63, p + 1
 
     def escape(self, p):
-        """The character of the escape at p, up to 255, and the offset after it. For a wrong escape it is a question mark."""
+        """The character of the escape at p, up to 255, and the offset after it. For a wrong escape it is a `?`."""
         letter = self.character(p + 1)
         if letter in ESCAPES:
             return ESCAPES[letter], p + 2
@@ -308,9 +309,9 @@ class Scanner:
         return self.add(kind, p, end, (text, (brace + 1, brace + 1 + len(text.encode('utf-8')))))
 
     def code(self, p, close):
-        """The offset after the `%}` or the matching brace that ends the code at p. None if the text ends before it, which ends an epilogue.
+        """The offset after the `%}`, or the brace, that ends the code at p, or None if the text ends before.
 
-        A line that ends with a backslash goes on in the next one. `<%` and `%>` are braces too, but `%>` doesn't end the code.
+        A line that ends with a backslash goes on in the next. `<%` and `%>` are braces, but `%>` doesn't end the code.
         """
         depth = 1
         while p < len(self.t):
@@ -385,7 +386,7 @@ class Scanner:
 
 
 def marked(words):
-    """The words, where an identifier that begins a rule, since a colon follows, is a `head`. A name in brackets may be between."""
+    """The words, where an identifier is a `head` if a colon follows, or a name in brackets and a colon."""
     for i, word in enumerate(words):
         after = i + 2 if i + 1 < len(words) and words[i + 1].kind == 'name' else i + 1
         if word.kind == 'identifier' and after < len(words) and words[after].kind == ':':

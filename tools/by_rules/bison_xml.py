@@ -13,7 +13,7 @@ def number(element, attribute):
 
 
 class Bison:
-    """The grammar of an XML file: its rules (rule, symbols, symbol of %prec or None), those that are useless, its start, and its tokens."""
+    """The grammar of an XML file: its rules (rule, symbols, symbol of %prec or None), its starts, and its tokens."""
 
     def __init__(self, path):
         grammar = ElementTree.parse(path).getroot().find('grammar')
@@ -50,7 +50,7 @@ class Compared:
         self.by_alias = {token.alias[0]: n for n, token in tree.tokens.items() if token.alias}
 
     def name(self, shown):
-        """The name in the tree of what Bison shows: tokens by their aliases, and `@1` for a rule `$@1` whose value is used."""
+        """The name in the tree of what Bison shows: tokens by their aliases, `@1` for a `$@1` whose value is used."""
         if re.fullmatch(r'\$?@\d+', shown):
             return '$' + shown.lstrip('$')
         if shown.startswith('"'):
@@ -81,12 +81,13 @@ class Compared:
         for one in self.read_productions():
             rules = useful if useful[:1] == [one] else useless
             if rules[:1] != [one]:
-                return 'here %s; bison %s' % (shown(one), ' or '.join(map(shown, useful[:1] + useless[:1])) or 'no more rules')
+                bison = ' or '.join(map(shown, useful[:1] + useless[:1]))
+                return 'here %s; bison %s' % (shown(one), bison or 'has no more')
             rules.pop(0)
         return 'only bison has %s' % shown((useful + useless)[0]) if useful + useless else None
 
     def tokens_difference(self):
-        """The tokens, those of Bison's own apart, and the precedences. Their order isn't compared: a later %token moves a token."""
+        """The tokens, those of Bison's own apart, and the precedences. In Bison a later %token changes the order."""
         levels = {n: (level, associativity) for n, (level, associativity, _) in self.tree.precedences.items()}
         own = {'error', 'YYEOF', 'YYUNDEF', *map(self.name, self.bison.own_tokens)}
         bison = set()
