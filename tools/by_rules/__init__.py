@@ -1,7 +1,6 @@
 """What the rules of docs/BEHAVIOUR.md make of the text of a Yacc file: a tree, errors, a numbered grammar, its costs, and
 findings.
 
-A plain reading of that page, which shares nothing with the crates. The comments name its sections. What begins with `bison` is
-on files of
-Yacc and Bison, which tools/beside_bison compares with Bison itself.
+A plain reading of that page, which shares nothing with the crates. The comments name its sections. What begins with `bison`
+is on files of Yacc and Bison: tools/beside_bison compares it with Bison itself.
 """

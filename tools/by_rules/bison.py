@@ -89,7 +89,7 @@ class Draft:
 
 
 class Reader:
-    """Reads words. A symbol's key is its kind and its value: `'a'`, `"a"`, `a` are three. Aliases are resolved later."""
+    """Reads words. A symbol's key is its kind and its value, so `'a'` and `a` are two. Aliases are resolved later."""
 
     def __init__(self, words, faults):
         self.words, self.next, self.expected = words, 0, []
