@@ -100,7 +100,7 @@ class Reader:
         self.nonterminals = {}         # key: span of %nterm names
         self.owners = {}               # the key of an alias: that of its token
         self.aliases = {}              # key of a token: (text, span, value)
-        self.levels, self.precedences = 0, []
+        self.levels, self.precedences = 0, []     # (key, level, name of the directive, span)
         self.start, self.expect, self.expectrr, self.has_default_precedence = None, None, None, True
         self.drafts, self.inner = [], 0
         self.used = []                 # (key, span) of the symbols of productions
@@ -244,15 +244,15 @@ class Reader:
         return word
 
     def precedence_list(self, name):
-        level, associativity = self.levels, name
+        level = self.levels
         self.levels += 1
-        self.tagged(lambda: self.precedence_item(level, associativity))
+        self.tagged(lambda: self.precedence_item(level, name))
 
-    def precedence_item(self, level, associativity):
+    def precedence_item(self, level, name):
         word = self.take(*SYMBOLS)
         if word:
             self.is_a('token', self.key(word), word.span)
-            self.precedences.append((self.key(word), level, associativity, word.span))
+            self.precedences.append((self.key(word), level, name, word.span))
         if word and word.kind != 'string':
             self.take('number')
         return word
@@ -492,9 +492,9 @@ def tree_of(reader, names, epilogue):
     for key, span in reader.tokens.items():
         token = tree.tokens.setdefault(names.name(key), Token(span))
         token.alias = reader.aliases.get(names.resolved(key))
-    for key, level, word, span in reader.precedences:
-        tree.precedences.setdefault(names.name(key), (level, ASSOCIATIVITIES[word], span))
-        if word == 'precedence' and names.name(key) not in tree.only_precedence:
+    for key, level, name, span in reader.precedences:
+        tree.precedences.setdefault(names.name(key), (level, ASSOCIATIVITIES[name], span))
+        if name == 'precedence' and names.name(key) not in tree.only_precedence:
             tree.only_precedence.append(names.name(key))
     for key, span in [*reader.rules.items(), *reader.nonterminals.items()]:
         tree.rules.setdefault(names.name(key), Rule(span))
