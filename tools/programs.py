@@ -1,0 +1,270 @@
+"""What a program of this repository is made of, and where a built one is kept. tools/run_program and tools/build_program use it.
+
+A program is kept in crates/NAME/out/proved/SUM, or in out/tried/SUM if it is unproved. SUM is the checksum of all that it was made of: the
+sources of its crate and of those below it, by name and byte, what crates.txt says of these crates, HANDLES, the kit, and the tools that
+build it. It is put there in one step, after every check of it. Beside it are its own checksum, and a list of the times, sizes and inodes of
+all these files and their folders. While that list is right, which tools/unchanged.c finds out, a call runs the program at once. If
+anything differs, the checksum decides. The file out/proved/now has the SUM of the program that ran last.
+"""
+import fcntl
+import hashlib
+import importlib.machinery
+import importlib.util
+import os
+import shutil
+import signal
+import struct
+import subprocess
+import sys
+
+ROOT = os.path.dirname(os.path.dirname(os.path.realpath(__file__)))
+KITS, LOGIC = "the Rattle kit rattle-kit-13b or rattle-kit-13f", "dac8208d650f15bf"
+TOOLS = [f"tools/{it}" for it in ("build_program", "programs.py", "unchanged.c")]
+# how many programs of a crate are kept, so that going back to an earlier state of the sources needs no proof
+KEPT = 4
+# the status of tools/unchanged.c. It isn't 0, with which a damaged program of no bytes ends
+UNCHANGED = 86
+
+
+class Stopped(Exception):
+    """Why a program can't be built."""
+
+
+def stop(why):
+    raise Stopped(why)
+
+
+class Kit:
+    """The kit of the command rt that the path leads to."""
+
+    def __init__(self):
+        found = shutil.which("rt")
+        if not found:
+            raise Stopped(f"there is no command rt on the path: it is in the folder bin of {KITS} (README, 'Run it')")
+        self.command = os.path.realpath(found)
+        self.folder = os.path.dirname(os.path.dirname(self.command))
+        for it in ("KIT-ID", "WHAT", "bin/rtlib.py", "bin/rattle"):
+            if not os.path.isfile(f"{self.folder}/{it}"):
+                raise Stopped(f"{found} isn't the command rt of {KITS}, whose folder bin has to come first on the path (README, 'Run it')")
+
+    def files(self):
+        """The files that say which kit it is."""
+        return [f"{self.folder}/{it}" for it in ("KIT-ID", "WHAT")]
+
+    def other_logic(self):
+        """What to say of a kit whose logic isn't that of the README's proofs."""
+        with open(f"{self.folder}/KIT-ID", encoding="utf-8", errors="replace") as it:
+            identity = it.read().strip()
+        if LOGIC in identity.split():
+            return None
+        return f"README's proofs were made with {KITS}, logic {LOGIC}; this one is {identity}, and may refuse some of them"
+
+    def load(self):
+        """The command rt as a module, for its crates and for the lanes in which its gate proves them."""
+        loader = importlib.machinery.SourceFileLoader("rt_command", self.command)
+        made = importlib.util.module_from_spec(importlib.util.spec_from_loader("rt_command", loader))
+        loader.exec_module(made)
+        made.rtlib.stop = stop
+        return made
+
+
+def state(path):
+    """The inode, size and time of the last change of a file or folder, or zeros if there is none."""
+    try:
+        it = os.stat(path)
+    except (FileNotFoundError, NotADirectoryError):
+        return 0, 0, 0, 0
+    return (it.st_ino, it.st_size, *divmod(it.st_ctime_ns, 10**9))
+
+
+def modified(path):
+    """The size and the time of modification of a file, or zeros if there is none."""
+    try:
+        it = os.stat(path)
+        return it.st_size, it.st_mtime_ns
+    except (FileNotFoundError, NotADirectoryError):
+        return 0, 0
+
+
+def files_below(folder):
+    """The folder, and all files and folders in it."""
+    yield folder
+    for at, folders, files in os.walk(folder):
+        folders.sort()
+        yield from (f"{at}/{it}" for it in sorted([*folders, *files]))
+
+
+def states_below(crate):
+    """The states of a crate's sources."""
+    return [(it, state(it)) for part in ("src", "specs", "proofs") for it in files_below(f"{crate.folder}/{part}")]
+
+
+def content(path):
+    try:
+        with open(path, "rb") as it:
+            return it.read()
+    except IsADirectoryError:
+        return "a folder"
+    except (FileNotFoundError, NotADirectoryError):
+        return None
+
+
+class Program:
+    """A program, and what it is made of now."""
+
+    def __init__(self, rt, kit, name, kind):
+        self.rt, self.kit, self.name, self.kind = rt, kit, name, kind
+        self.folder = f"{ROOT}/crates/{name}"
+        self.kept = f"{self.folder}/out/{kind}"
+        # what is held or has to be cleaned up while it is built
+        self.held = self.locked = self.trying = self.room = None
+
+    def look(self):
+        """Looks at the sources: what crates.txt says of them, their states, and then their checksum."""
+        if not os.path.isdir(f"{self.folder}/src"):
+            raise Stopped(f"there is no program {self.name}: crates/{self.name}/src isn't there")
+        self.rt.rtlib.listed.cache_clear()
+        self.crate = self.rt.Crate(self.folder, ROOT, {})
+        self.crates = [*self.crate.below(), self.crate]
+        # definitions and proofs aren't compiled
+        parts = ("src",) if self.kind == "tried" else ("src", "specs", "proofs")
+        self.own = [*TOOLS, "HANDLES", "crates.txt"]
+        self.own += [os.path.relpath(it, ROOT) for crate in self.crates for part in parts for it in files_below(f"{crate.folder}/{part}")]
+        self.states = self.states_now()
+        summed = hashlib.sha256(repr([self.kind, [(it.name, it.said) for it in self.crates]]).encode())
+        for it in self.own:
+            # what crates.txt says of other crates doesn't matter
+            if it != "crates.txt":
+                summed.update(repr((it, content(f"{ROOT}/{it}"))).encode())
+        summed.update(repr([content(it) for it in self.kit.files()]).encode())
+        self.sum = summed.hexdigest()
+        return self
+
+    def states_now(self):
+        return [(it, state(os.path.join(ROOT, it))) for it in [self.kit.command, *self.kit.files(), *self.own]]
+
+    def is_changed(self):
+        """Whether anything changed since the last look, even if it was put back."""
+        states, sum = self.states, self.sum
+        return self.look().sum != sum or self.states != states
+
+    def path(self):
+        return f"{self.kept}/{self.sum}/program"
+
+    def is_kept(self):
+        """Whether the program is kept. A damaged one is removed."""
+        made = content(self.path())
+        if made and content(f"{self.path()}.sum") == hashlib.sha256(made).hexdigest().encode():
+            return True
+        remove(os.path.dirname(self.path()))
+        return False
+
+    def keep(self, room):
+        """Puts the program in the folder room in its place, with what belongs to it."""
+        write(f"{room}/program.sum", hashlib.sha256(content(f"{room}/program")).hexdigest().encode())
+        if os.path.isfile(self.kept) or os.path.islink(self.kept):
+            os.remove(self.kept)
+        os.makedirs(self.kept, exist_ok=True)
+        remove(os.path.dirname(self.path()))
+        os.rename(room, os.path.dirname(self.path()))
+        older = sorted((it for it in os.scandir(self.kept) if it.is_dir()), key=lambda it: it.stat().st_mtime)
+        for it in older[:-KEPT]:
+            shutil.rmtree(it.path, ignore_errors=True)
+
+    def renew(self):
+        """Has the next calls run the program at once, where the checkout can be written."""
+        try:
+            folder, program = os.path.dirname(self.path()), os.path.relpath(self.path(), ROOT)
+            entries = b"".join(entry(*it) for it in [*self.states, (program, state(self.path()))])
+            write(f"{folder}/list", struct.pack("<q", 8 + len(entries)) + entries)
+            write(f"{self.kept}/now", f"{self.sum}\n".encode())
+            if status_of(f"{folder}/unchanged", ROOT, f"{folder}/list", "") != UNCHANGED:
+                self.compile_unchanged(f"{folder}/unchanged")
+            if self.kind == "proved":
+                write(f"{self.folder}/out/{self.name}", content(self.path()), mode=0o755)
+        except OSError:
+            pass
+
+    def compile_unchanged(self, to):
+        """Compiles tools/unchanged.c by the kit's clang. Without it each call computes the checksum."""
+        made, kit = f"{to}.{os.getpid()}", self.kit.folder
+        libraries = [f"{kit}/c/libos_c.a", f"{kit}/c/liblibc_c.a"]
+        words = ["--target", "x86_64-unknown-linux-gnu", "--toolchain", f"{kit}/toolchain", "-o", made, f"{made}.o", *libraries]
+        compiled = status_of(f"{kit}/toolchain/bin/clang", "-O2", "-c", f"{ROOT}/tools/unchanged.c", "-o", f"{made}.o")
+        if compiled == 0 and status_of(f"{kit}/bin/rattle-link", *words) == 0:
+            os.replace(made, to)
+        remove(f"{made}.o")
+
+
+def status_of(*words):
+    """The status of a command, or None if it doesn't start."""
+    try:
+        return subprocess.run(words, stdin=subprocess.DEVNULL, stdout=subprocess.DEVNULL, stderr=subprocess.DEVNULL).returncode
+    except OSError:
+        return None
+
+
+def entry(path, its_state):
+    """An entry of a list, as tools/unchanged.c reads it."""
+    path = os.fsencode(path)
+    return struct.pack("<4q", *its_state) + path + bytes(8 - len(path) % 8)
+
+
+def write(path, text, mode=0o644):
+    """Writes a file in one step."""
+    with open(f"{path}.{os.getpid()}", "wb") as it:
+        it.write(text)
+    os.chmod(it.name, mode)
+    os.replace(it.name, path)
+
+
+def remove(path):
+    """Removes a file or folder, if it is there."""
+    if os.path.isfile(path) or os.path.islink(path):
+        os.remove(path)
+    shutil.rmtree(path, ignore_errors=True)
+
+
+def fresh(folder):
+    """An empty folder, whatever was there."""
+    above = os.path.dirname(folder)
+    if os.path.isfile(above):
+        os.remove(above)
+    remove(folder)
+    os.makedirs(folder)
+    return folder
+
+
+def lock(folder, say):
+    """Waits until no other build works in this folder, and keeps others out until the process ends."""
+    held = os.open(folder, os.O_RDONLY)
+    try:
+        fcntl.flock(held, fcntl.LOCK_EX | fcntl.LOCK_NB)
+    except BlockingIOError:
+        say("waiting for another build in this repository to end")
+        fcntl.flock(held, fcntl.LOCK_EX)
+    except OSError:
+        # some file systems have no locks
+        pass
+    return held
+
+
+def end_on_signals(name, clean):
+    """Has a signal end this process with one line. What it started ends with it (guarded() of rtlib)."""
+
+    def end(number, _):
+        os.write(2, f"{name}: stopped by {signal.Signals(number).name}\n".encode())
+        clean()
+        os._exit(128 + number)
+
+    for it in (signal.SIGINT, signal.SIGTERM, signal.SIGHUP):
+        if signal.getsignal(it) != signal.SIG_IGN:
+            signal.signal(it, end)
+
+
+def become(program, arguments):
+    """Runs the program in place of this process."""
+    for it in (signal.SIGPIPE, signal.SIGXFSZ):
+        signal.signal(it, signal.SIG_DFL)
+    sys.stderr.flush()
+    os.execv(program, [program, *arguments])
