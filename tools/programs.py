@@ -16,6 +16,7 @@ import signal
 import struct
 import subprocess
 import sys
+import time
 
 ROOT = os.path.dirname(os.path.dirname(os.path.realpath(__file__)))
 KITS, LOGIC = "the Rattle kit rattle-kit-13b or rattle-kit-13f", "dac8208d650f15bf"
@@ -104,7 +105,7 @@ def content(path):
         with open(path, "rb") as it:
             return it.read()
     except IsADirectoryError:
-        return "a folder"
+        return b"a folder"
     except (FileNotFoundError, NotADirectoryError):
         return None
 
@@ -131,6 +132,8 @@ class Program:
         self.own = [*TOOLS, "HANDLES", "crates.txt"]
         self.own += [os.path.relpath(it, ROOT) for crate in self.crates for part in parts for it in files_below(f"{crate.folder}/{part}")]
         self.states = self.states_now()
+        # so that the time of any change after this look differs: clocks of files tick every few milliseconds
+        time.sleep(0.02)
         summed = hashlib.sha256(repr([self.kind, [(it.name, it.said) for it in self.crates]]).encode())
         for it in self.own:
             # what crates.txt says of other crates doesn't matter
@@ -152,12 +155,9 @@ class Program:
         return f"{self.kept}/{self.sum}/program"
 
     def is_kept(self):
-        """Whether the program is kept. A damaged one is removed."""
+        """Whether the program is kept, and undamaged."""
         made = content(self.path())
-        if made and content(f"{self.path()}.sum") == hashlib.sha256(made).hexdigest().encode():
-            return True
-        remove(os.path.dirname(self.path()))
-        return False
+        return bool(made) and content(f"{self.path()}.sum") == hashlib.sha256(made).hexdigest().encode()
 
     def keep(self, room):
         """Puts the program in the folder room in its place, with what belongs to it."""
@@ -184,6 +184,14 @@ class Program:
                 write(f"{self.folder}/out/{self.name}", content(self.path()), mode=0o755)
         except OSError:
             pass
+
+    def clean(self):
+        """Ends `rt try`, and removes its folder."""
+        if self.trying and self.trying.poll() is None:
+            self.trying.terminate()
+            self.trying.wait()
+        if self.room:
+            shutil.rmtree(self.room, ignore_errors=True)
 
     def compile_unchanged(self, to):
         """Compiles tools/unchanged.c by the kit's clang. Without it each call computes the checksum."""
