@@ -159,8 +159,12 @@ class Program:
         made = content(self.path())
         return bool(made) and content(f"{self.path()}.sum") == hashlib.sha256(made).hexdigest().encode()
 
-    def keep(self, room):
-        """Puts the program in the folder room in its place, with what belongs to it."""
+    def room_for_build(self):
+        return f"{self.folder}/out/making-{self.kind}"
+
+    def keep(self):
+        """Puts the program that was built in its place, with its checksum."""
+        room = self.room_for_build()
         write(f"{room}/program.sum", hashlib.sha256(content(f"{room}/program")).hexdigest().encode())
         if os.path.isfile(self.kept) or os.path.islink(self.kept):
             os.remove(self.kept)
@@ -180,8 +184,13 @@ class Program:
             write(f"{self.kept}/now", f"{self.sum}\n".encode())
             if status_of(f"{folder}/unchanged", ROOT, f"{folder}/list", "") != UNCHANGED:
                 self.compile_unchanged(f"{folder}/unchanged")
-            if self.kind == "proved":
-                write(f"{self.folder}/out/{self.name}", content(self.path()), mode=0o755)
+        except OSError:
+            pass
+
+    def copy(self):
+        """Copies the program to where rt leaves programs, for the tools that run it there."""
+        try:
+            write(f"{self.folder}/out/{self.name}", content(self.path()), mode=0o755)
         except OSError:
             pass
 
