@@ -21,6 +21,7 @@ import time
 ROOT = os.path.dirname(os.path.dirname(os.path.realpath(__file__)))
 KITS, LOGIC = "the Rattle kit rattle-kit-13b or rattle-kit-13f", "dac8208d650f15bf"
 TOOLS = [f"tools/{it}" for it in ("build_program", "programs.py", "unchanged.c")]
+PARTS = ("src", "specs", "proofs")
 # how many programs of a crate are kept, so that going back to an earlier state of the sources needs no proof
 KEPT = 4
 # the status of tools/unchanged.c. It isn't 0, with which a damaged program of no bytes ends
@@ -97,7 +98,7 @@ def files_below(folder):
 
 def states_below(crate):
     """The states of a crate's sources."""
-    return [(it, state(it)) for part in ("src", "specs", "proofs") for it in files_below(f"{crate.folder}/{part}")]
+    return [(it, state(it)) for part in PARTS for it in files_below(f"{crate.folder}/{part}")]
 
 
 def content(path):
@@ -121,30 +122,29 @@ class Program:
         self.held = self.locked = self.trying = self.room = None
 
     def look(self):
-        """Looks at the sources: what crates.txt says of them, their states, and then their checksum."""
+        """Looks at the sources: their states, what crates.txt says of them, and their checksum. The state of a file or folder is taken before
+        it is read, and some milliseconds pass between, in which the clock of files ticks: so the state of what changes later differs."""
         if not os.path.isdir(f"{self.folder}/src"):
             raise Stopped(f"there is no program {self.name}: crates/{self.name}/src isn't there")
+        states = [(it, state(it)) for it in [self.kit.command, *self.kit.files()]]
+        states += [(it, state(f"{ROOT}/{it}")) for it in [*TOOLS, "HANDLES", "crates.txt"]]
+        time.sleep(0.02)
         self.rt.rtlib.listed.cache_clear()
         self.crate = self.rt.Crate(self.folder, ROOT, {})
         self.crates = [*self.crate.below(), self.crate]
         # definitions and proofs aren't compiled
-        parts = ("src",) if self.kind == "tried" else ("src", "specs", "proofs")
-        self.own = [*TOOLS, "HANDLES", "crates.txt"]
-        self.own += [os.path.relpath(it, ROOT) for crate in self.crates for part in parts for it in files_below(f"{crate.folder}/{part}")]
-        self.states = self.states_now()
-        # so that the time of any change after this look differs: clocks of files tick every few milliseconds
+        parts = PARTS[:1] if self.kind == "tried" else PARTS
+        own = (it for crate in self.crates for part in parts for it in files_below(f"{crate.folder}/{part}"))
+        self.states = states + [(os.path.relpath(it, ROOT), state(it)) for it in own]
         time.sleep(0.02)
         summed = hashlib.sha256(repr([self.kind, [(it.name, it.said) for it in self.crates]]).encode())
-        for it in self.own:
-            # what crates.txt says of other crates doesn't matter
-            if it != "crates.txt":
-                summed.update(repr((it, content(f"{ROOT}/{it}"))).encode())
-        summed.update(repr([content(it) for it in self.kit.files()]).encode())
+        for it, _ in self.states:
+            # what crates.txt says of other crates doesn't matter, and KIT-ID and WHAT say which kit it is, wherever it is
+            if it not in ("crates.txt", self.kit.command):
+                name = os.path.basename(it) if os.path.isabs(it) else it
+                summed.update(repr((name, content(os.path.join(ROOT, it)))).encode())
         self.sum = summed.hexdigest()
         return self
-
-    def states_now(self):
-        return [(it, state(os.path.join(ROOT, it))) for it in [self.kit.command, *self.kit.files(), *self.own]]
 
     def is_changed(self):
         """Whether anything changed since the last look, even if it was put back."""
@@ -179,8 +179,8 @@ class Program:
         """Has the next calls run the program at once, where the checkout can be written."""
         try:
             folder, program = os.path.dirname(self.path()), os.path.relpath(self.path(), ROOT)
-            entries = b"".join(entry(*it) for it in [*self.states, (program, state(self.path()))])
-            write(f"{folder}/list", struct.pack("<q", 8 + len(entries)) + entries)
+            states = [self.states[0], (program, state(self.path())), *self.states[1:]]
+            write(f"{folder}/list", list_of(states))
             write(f"{self.kept}/now", f"{self.sum}\n".encode())
             if status_of(f"{folder}/unchanged", ROOT, f"{folder}/list", "") != UNCHANGED:
                 self.compile_unchanged(f"{folder}/unchanged")
@@ -221,10 +221,17 @@ def status_of(*words):
         return None
 
 
-def entry(path, its_state):
-    """An entry of a list, as tools/unchanged.c reads it."""
-    path = os.fsencode(path)
-    return struct.pack("<4q", *its_state) + path + bytes(8 - len(path) % 8)
+def list_of(states):
+    """The list of these states, as tools/unchanged.c reads it."""
+    listed, folder = b"", None
+    for path, its_state in states:
+        if folder and path.startswith(folder):
+            path = path[len(folder):]
+        elif os.path.basename(path) in PARTS:
+            folder = path = f"{path}/"
+        path = os.fsencode(path)
+        listed += struct.pack("<4q", *its_state) + path + bytes(8 - len(path) % 8)
+    return struct.pack("<q", 8 + len(listed)) + listed
 
 
 def write(path, text, mode=0o644):
