@@ -198,9 +198,16 @@ class Program:
         """Ends `rt try`, and removes its folder."""
         if self.trying and self.trying.poll() is None:
             self.trying.terminate()
-            self.trying.wait()
+            self.wait_for_try(5)
         if self.room:
             shutil.rmtree(self.room, ignore_errors=True)
+
+    def wait_for_try(self, seconds=float("inf")):
+        """Waits until `rt try` ends, and returns its status. A signal may come in wait(), which then can't be called again."""
+        end = time.time() + seconds
+        while self.trying.poll() is None and time.time() < end:
+            time.sleep(0.02)
+        return self.trying.returncode
 
     def compile_unchanged(self, to):
         """Compiles tools/unchanged.c by the kit's clang. Without it each call computes the checksum."""
