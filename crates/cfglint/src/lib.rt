@@ -11,6 +11,6 @@ pub mod system;
 pub use cfgfindings::{Finding, FindingKind, findings};
 pub use cfglint_shell::laws;
 pub use cfgprogram::{Ended, Input, KindArg, ReadError, Source, SourceWithReasons};
-pub use cfgsink::{Counted, Sink, SinkFault};
+pub use cfgsink::{Counted, Sink, SinkFault, SinkWithReasons, WriteError};
 pub use program::lint;
 pub use system::run_over;

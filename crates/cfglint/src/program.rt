@@ -7,14 +7,14 @@ ghost use Rattle.cfglint.specs.Reported.{ReportsText};
 
 use crate::linter::Lints;
 use cfgprogram::source::SourceWithReasons;
-use cfgsink::sink::Sink;
+use cfgsink::sink::{Sink, SinkWithReasons};
 use std::alloc::Global;
 
 /// Runs the program on its command-line arguments, and returns its status. Its reports on the files among the
 /// arguments, and a summary, are written to `out`. A line for each file without a text, or on whatever else failed, is
 /// written to `err`, as far as `err` accepts it. Nothing is written before all files are read. If the arguments are
 /// wrong, `source` is left as it was.
-pub fn lint<S: SourceWithReasons, O: Sink, E: Sink>(
+pub fn lint<S: SourceWithReasons, O: SinkWithReasons, E: Sink>(
     alloc: Global,
     args: &[&str],
     source: &mut S,
@@ -25,7 +25,8 @@ pub fn lint<S: SourceWithReasons, O: Sink, E: Sink>(
     requires err_counts { E.faults_counted err.old < 2 ^ 64 - 1 }
     ensures small { result ≤ 3 }
     ensures ends { EndsWith ending_status ending_faults ending_errors
-        (Handles ReportsText S.fetches S.reason source.old source.new (map (λ word. word.now) args.now))
+        (Handles ReportsText S.fetches S.reason source.old source.new (map (λ word. word.now) args.now)
+        (O.reason out.new))
         O.written O.faults_counted out.old out.new E.written E.faults_counted err.old err.new result }
 {
     cfglint_shell::lint(alloc, &Lints, args, source, out, err)

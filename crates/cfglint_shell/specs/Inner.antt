@@ -2,6 +2,7 @@
 use Rattle.std.specs.Prelude.{◌≡◌, ℕ, List, Option, map}
 use Rattle.std.specs.Io.KnownBytes.{Appends}
 use Rattle.cfgsink.specs.Sinks.{AppendsPrefix}
+use Rattle.cfgsink.specs.declared.sink.WriteError.{WriteError}
 use Rattle.cfglint_shell.specs.declared.arguments.Requested as requested_code
 use Rattle.cfglint_shell.specs.declared.arguments.Requested.TheVariants as variants
 use Rattle.cfglint_shell.specs.declared.arguments.Stop as stop_code
@@ -48,8 +49,8 @@ abbrev pub requested_view : requested_code.Requested → Requested
 requested_view (variants.Stops stop) = stop_view stop
 requested_view (variants.Lint options) = Lint (options_view options)
 
--- how a run with this result ends, and what its output then gets
-abbrev pub IsEnding : Answer → Option (List ℕ) → Option (List ℕ) → Ending → Type 0
-IsEnding answer old new (Answered given) = (given ≡ answer) × Appends old new answer.output
-IsEnding answer old new (Unwritten given) = (given ≡ answer) × AppendsPrefix old new answer.output
-IsEnding answer old new NoMemory = ⊥
+-- how a run with this result ends, and what its output then gets, which then gives this reason
+abbrev pub IsEnding : Answer → WriteError → Option (List ℕ) → Option (List ℕ) → Ending → Type 0
+IsEnding answer reason old new (Answered given) = (given ≡ answer) × Appends old new answer.output
+IsEnding answer reason old new (Unwritten error given) = (error ≡ reason) × (given ≡ answer) × AppendsPrefix old new answer.output
+IsEnding answer reason old new NoMemory = ⊥

@@ -2,6 +2,8 @@
 use Rattle.std.specs.Prelude.{◌≡◌, ℕ, List, [], ◌++◌, Option, codes, if◌then◌else◌}
 use Rattle.std.specs.Io.KnownBytes.{Appends, Keeps}
 use Rattle.cfgsink.specs.Sinks.{AppendsPrefix}
+use Rattle.cfgsink.specs.declared.sink.WriteError.{WriteError}
+use Rattle.cfgsink.specs.declared.sink.WriteError.TheVariants.{Closed, NoSpace, FileTooLarge, Other}
 use Rattle.cfgprogram.specs.declared.arguments.ArgumentsFault.{ArgumentsFault}
 use Rattle.cfgprogram.specs.declared.arguments.ArgumentsFault.TheVariants as arguments
 use Rattle.cfgprogram.specs.declared.source.Input.{Input}
@@ -17,27 +19,41 @@ pub record Answer : Type 0 where
   pub errors : List ℕ
   pub status : ℕ
 
--- how a run ends: with its result, with one that the output didn't accept completely, or out of memory
+-- how a run ends: with its result, with one that the output didn't accept completely, for this reason, or out of memory
 pub data Ending : Type 0 where
   Answered : Answer → Ending
-  Unwritten : Answer → Ending
+  Unwritten : WriteError → Answer → Ending
   NoMemory : Ending
+
+-- the status of a run whose output didn't accept all of a result with this status: nobody reads a closed pipe, so that is no fault
+abbrev pub unwritten_status : WriteError → ℕ → ℕ
+unwritten_status Closed status = status
+unwritten_status NoSpace status = 2
+unwritten_status FileTooLarge status = 2
+unwritten_status Other status = 2
 
 abbrev pub ending_status : Ending → ℕ
 ending_status (Answered answer) = answer.status
-ending_status (Unwritten answer) = 2
+ending_status (Unwritten error answer) = unwritten_status error answer.status
 ending_status NoMemory = 3
+
+-- the line about an output that didn't accept all, with the reason, if it is known; about a closed pipe there is none
+abbrev pub unwritten_line : WriteError → List ℕ
+unwritten_line Closed = []
+unwritten_line NoSpace = codes "cfglint: cannot write: no space is left\n"
+unwritten_line FileTooLarge = codes "cfglint: cannot write: the file would get too large\n"
+unwritten_line Other = codes "cfglint: cannot write\n"
 
 -- what is written to the errors
 abbrev pub ending_errors : Ending → List ℕ
 ending_errors (Answered answer) = answer.errors
-ending_errors (Unwritten answer) = answer.errors ++ codes "cfglint: cannot write\n"
+ending_errors (Unwritten error answer) = answer.errors ++ unwritten_line error
 ending_errors NoMemory = codes "cfglint: out of memory\n"
 
 -- how many faults of its output a run with this ending met
 abbrev pub ending_faults : Ending → ℕ
 ending_faults (Answered answer) = 0
-ending_faults (Unwritten answer) = 1
+ending_faults (Unwritten error answer) = 1
 ending_faults NoMemory = 0
 
 -- the result of a run through files
@@ -72,9 +88,10 @@ module _ (Reports : LintOptions → List ℕ → List ℕ → Printed → Type 0
   Answers (Lint options) answer = (tally : Tally) × Lints Reports options Fetches reason before no_files options.files after tally
       × (answer ≡ answer_of options tally)
 
-  -- what a run does with its arguments, and its output's known bytes: if it runs out of memory, a prefix of the
-  -- files that the arguments name was requested of the source, and nothing else
-  abbrev pub Handles : List (List ℕ) → Option (List ℕ) → Option (List ℕ) → Ending → Type 0
-  Handles arguments old new (Answered answer) = Answers (requested arguments) answer × Appends old new answer.output
-  Handles arguments old new (Unwritten answer) = Answers (requested arguments) answer × AppendsPrefix old new answer.output
-  Handles arguments old new NoMemory = AsksFirst Fetches before after (files_requested (requested arguments)) × Keeps old new
+  -- What a run does with its arguments, and its output's known bytes, where the output then gives this reason. If it runs out of memory,
+  -- a prefix of the files that the arguments name was requested of the source, and nothing else.
+  abbrev pub Handles : List (List ℕ) → WriteError → Option (List ℕ) → Option (List ℕ) → Ending → Type 0
+  Handles arguments given old new (Answered answer) = Answers (requested arguments) answer × Appends old new answer.output
+  Handles arguments given old new (Unwritten error answer) =
+      (error ≡ given) × Answers (requested arguments) answer × AppendsPrefix old new answer.output
+  Handles arguments given old new NoMemory = AsksFirst Fetches before after (files_requested (requested arguments)) × Keeps old new

@@ -6,12 +6,13 @@ ghost use Rattle.cfgsink.specs.Sinks.{AppendsOrFaults};
 ghost use Rattle.cfglint_shell.specs.Inner.{IsEnding, options_view, usage_error_view};
 ghost use Rattle.cfglint_shell.specs.Requests.{usage_error_text};
 ghost use Rattle.cfglint_shell.specs.Run.{answer_of, ending_errors, ending_faults, ending_status, refused, written};
+ghost use Rattle.cfglint_shell.specs.Run.{unwritten_line, unwritten_status};
 
 use crate::arguments::Options;
 use crate::summary::summary;
 use crate::tally::Tally;
 use crate::usage::UsageError;
-use cfgsink::sink::{Sink, SinkFault, write_whole};
+use cfgsink::sink::{Sink, SinkFault, SinkWithReasons, WriteError, write_whole};
 use std::alloc::{AllocError, Global};
 use std::marker::Model;
 
@@ -90,11 +91,11 @@ impl Answer {
 }
 
 /// Writes the result, and returns the status that the run ends with.
-pub(crate) fn print<O: Sink, E: Sink>(answer: &Answer, out: &mut O, err: &mut E) -> u8
+pub(crate) fn print<O: SinkWithReasons, E: Sink>(answer: &Answer, out: &mut O, err: &mut E) -> u8
     requires out_counts { O.faults_counted out.old < 2 ^ 64 - 1 }
     requires err_counts { E.faults_counted err.old < 2 ^ 64 - 1 }
     ensures small { result ≤ 3 }
-    ensures ends { EndsWith ending_status ending_faults ending_errors (IsEnding answer.now)
+    ensures ends { EndsWith ending_status ending_faults ending_errors (IsEnding answer.now (O.reason out.new))
         O.written O.faults_counted out.old out.new E.written E.faults_counted err.old err.new result }
 {
     match write_whole(out, answer.output.as_bytes()) {
@@ -103,9 +104,33 @@ pub(crate) fn print<O: Sink, E: Sink>(answer: &Answer, out: &mut O, err: &mut E)
             answer.status
         }
         Err(SinkFault) => {
-            let _ = write_both(err, answer.errors.as_bytes(), b"cfglint: cannot write\n");
-            2
+            let reason = out.reason();
+            let line = unwritten_line(reason);
+            let _ = write_both(err, answer.errors.as_bytes(), line.as_bytes());
+            unwritten_status(reason, answer.status)
         }
+    }
+}
+
+/// The line about an output that didn't accept all, for this reason. About a closed pipe there is none.
+fn unwritten_line(reason: WriteError) -> &'static str
+    ensures { result.now ≡ unwritten_line reason }
+{
+    match reason {
+        WriteError::Closed => "",
+        WriteError::NoSpace => "cfglint: cannot write: no space is left\n",
+        WriteError::FileTooLarge => "cfglint: cannot write: the file would get too large\n",
+        WriteError::Other => "cfglint: cannot write\n",
+    }
+}
+
+/// The status of a run whose output didn't accept all of a result with this status.
+fn unwritten_status(reason: WriteError, status: u8) -> u8
+    ensures { result ≡ unwritten_status reason status }
+{
+    match reason {
+        WriteError::Closed => status,
+        WriteError::NoSpace | WriteError::FileTooLarge | WriteError::Other => 2,
     }
 }
 

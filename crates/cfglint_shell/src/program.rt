@@ -14,14 +14,14 @@ use crate::files::lint_files;
 use crate::linter::Linter;
 use crate::usage::{HELP, VERSION};
 use cfgprogram::source::SourceWithReasons;
-use cfgsink::sink::{Sink, write_whole};
+use cfgsink::sink::{Sink, SinkWithReasons, write_whole};
 use std::alloc::{AllocError, Global};
 
 /// Runs the program on its command-line arguments, and returns its status. What it reports about the files that they
 /// name, and a summary, is written to `out`; a line for each file without text, or about what else went wrong, is
 /// written to `err`, as far as `err` accepts it. Nothing is written before all files are read. Wrong arguments leave
 /// `source` as it was.
-pub fn lint<L: Linter, S: SourceWithReasons, O: Sink, E: Sink>(
+pub fn lint<L: Linter, S: SourceWithReasons, O: SinkWithReasons, E: Sink>(
     alloc: Global,
     linter: &L,
     args: &[&str],
@@ -33,7 +33,8 @@ pub fn lint<L: Linter, S: SourceWithReasons, O: Sink, E: Sink>(
     requires err_counts { E.faults_counted err.old < 2 ^ 64 - 1 }
     ensures small { result ≤ 3 }
     ensures ends { EndsWith ending_status ending_faults ending_errors
-        (Handles L.reports S.fetches S.reason source.old source.new (map (λ argument. argument.now) args.now))
+        (Handles L.reports S.fetches S.reason source.old source.new (map (λ argument. argument.now) args.now)
+        (O.reason out.new))
         O.written O.faults_counted out.old out.new E.written E.faults_counted err.old err.new result }
 {
     match answered(alloc, linter, args, source) {

@@ -8,15 +8,14 @@ use crate::linter::Linter;
 use crate::program::lint;
 use crate::usage::NOT_UTF8;
 use cfgprogram::arguments::{ArgumentsFault, arguments};
-use cfgprogram::runtime::{ErrorStream, SystemFiles};
+use cfgprogram::runtime::{ErrorStream, OutputStream, SystemFiles};
 use cfgsink::sink::{Counted, Sink, write_whole};
-use std::io;
-use std::rt::{Env, Files};
+use std::rt::{Clock, Env, Files};
 
 /// Runs the program over a runtime, and returns its status: [`lint`](crate::lint) on the command-line arguments, over
 /// the runtime's files, its standard input under the name `-`, its standard output and its standard error. Arguments
 /// that are not UTF-8 are wrong.
-pub fn run_over<R: Env + Files + Input + Print + Eprint + AllocGlobal, L: Linter>(
+pub fn run_over<R: Env + Files + Input + Print + Eprint + Clock + AllocGlobal, L: Linter>(
     rt: &R,
     linter: &L,
 ) -> u8
@@ -33,7 +32,7 @@ pub fn run_over<R: Env + Files + Input + Print + Eprint + AllocGlobal, L: Linter
 /// # Errors
 ///
 /// Why there are no arguments; nothing is then read or written.
-fn run_on_arguments<R: Env + Files + Input + Print + Eprint + AllocGlobal, L: Linter>(
+fn run_on_arguments<R: Env + Files + Input + Print + Eprint + Clock + AllocGlobal, L: Linter>(
     rt: &R,
     linter: &L,
 ) -> Result<u8, ArgumentsFault>
@@ -49,7 +48,7 @@ fn run_on_arguments<R: Env + Files + Input + Print + Eprint + AllocGlobal, L: Li
         linter,
         &args,
         &mut SystemFiles::new(rt),
-        &mut Counted::new(io::writer(rt)),
+        &mut Counted::new(OutputStream { rt }),
         &mut Counted::new(ErrorStream { rt }),
     ))
 }

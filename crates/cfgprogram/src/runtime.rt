@@ -1,4 +1,4 @@
-//! The files and the error stream of a runtime.
+//! The files of a runtime, and its two output streams.
 
 ghost use Rattle.std.specs.Prelude.{◌≡◌};
 ghost use Rattle.cfgprogram.specs.declared.source.ReadError.TheVariants.{Other};
@@ -6,7 +6,12 @@ ghost use Rattle.cfgprogram.specs.declared.source.ReadError.TheVariants.{Other};
 use crate::source::{self, ReadError, Source, SourceWithReasons};
 use std::fs;
 use std::io::{self, Read, Write};
-use std::rt::Files;
+use std::rt::{Clock, Files};
+use std::thread;
+use std::time::Duration;
+
+/// How many bytes a pipe takes together, or none of them: POSIX promises so many.
+const TOGETHER: usize = 512;
 
 /// The files of a runtime, and its standard input under the name `-`.
 #[derive(Drop)]
@@ -70,23 +75,77 @@ fn read_error(kind: io::ErrorKind) -> ReadError {
     }
 }
 
-/// Standard error of a runtime. It takes text alone.
+/// Standard output of a runtime. While the system takes no bytes for the moment, a write waits.
+#[derive(Drop)]
+pub struct OutputStream<'a, R> {
+    /// The runtime.
+    pub rt: &'a R,
+}
+
+impl<R: Print + Clock> Write for OutputStream<'_, R> {
+    fn write(&mut self, bytes: &[u8]) -> io::Result<usize> {
+        for _ in 0..u64::MAX {
+            match self.rt.write_some(bytes) {
+                Err(error) if error.kind() == io::ErrorKind::WouldBlock => {
+                    pause(self.rt);
+                }
+                Err(error) if error.kind() == io::ErrorKind::Interrupted => {}
+                written => return written,
+            }
+        }
+        Err(io::Error::from(io::ErrorKind::WouldBlock))
+    }
+
+    fn flush(&mut self) -> io::Result<()> {
+        Ok(())
+    }
+}
+
+/// Standard error of a runtime. It takes text alone. While the system takes no bytes for the moment, a write waits.
 #[derive(Drop)]
 pub struct ErrorStream<'a, R> {
     /// The runtime.
     pub rt: &'a R,
 }
 
-impl<R: Eprint> Write for ErrorStream<'_, R> {
+impl<R: Eprint + Clock> Write for ErrorStream<'_, R> {
     fn write(&mut self, bytes: &[u8]) -> io::Result<usize> {
-        let Ok(text) = std::str::from_utf8(bytes) else {
-            return Err(io::Error::from(io::ErrorKind::InvalidData));
-        };
-        self.rt.eprint(text)?;
-        Ok(bytes.len())
+        let text = first_text(bytes)?;
+        for _ in 0..u64::MAX {
+            match self.rt.eprint(text) {
+                Ok(()) => return Ok(text.len()),
+                Err(error) if error.kind() == io::ErrorKind::WouldBlock => {
+                    pause(self.rt);
+                }
+                Err(error) => return Err(error),
+            }
+        }
+        Err(io::Error::from(io::ErrorKind::WouldBlock))
     }
 
     fn flush(&mut self) -> io::Result<()> {
         Ok(())
     }
+}
+
+/// The text that these bytes begin with, of at most [`TOGETHER`] bytes.
+///
+/// # Errors
+///
+/// They don't begin with text.
+fn first_text(bytes: &[u8]) -> io::Result<&str> {
+    let first = &bytes[..bytes.len().min(TOGETHER)];
+    let error = match std::str::from_utf8(first) {
+        Ok(text) => return Ok(text),
+        Err(error) => error,
+    };
+    match std::str::from_utf8(&first[..error.valid_up_to()]) {
+        Ok(text) if !text.is_empty() => Ok(text),
+        _ => Err(io::Error::from(io::ErrorKind::InvalidData)),
+    }
+}
+
+/// Waits before a write is repeated.
+fn pause<C: Clock>(clock: &C) {
+    thread::sleep(clock, Duration::from_millis(1));
 }

@@ -6,4 +6,4 @@ pub mod outcome;
 pub mod sink;
 
 pub use outcome::{Outcome, ReportFault, write_report};
-pub use sink::{Counted, Sink, SinkFault, write_whole};
+pub use sink::{Counted, Sink, SinkFault, SinkWithReasons, WriteError, write_whole};

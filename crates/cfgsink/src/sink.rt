@@ -5,10 +5,11 @@ ghost use Rattle.std.specs.Prelude.{OnOk, codes, length};
 ghost use Rattle.std.specs.Io.{WritesAtMost};
 ghost use Rattle.std.specs.Io.KnownBytes.{Appends, WriteAppends};
 ghost use Rattle.cfgsink.specs.Sinks.{AppendsPrefix, faults_of};
+ghost use Rattle.cfgsink.specs.declared.sink.WriteError.TheVariants.{Other};
 
 use std::error::Error;
 use std::fmt;
-use std::io::Write;
+use std::io::{ErrorKind, Write};
 
 /// That a sink accepted no bytes.
 #[derive(Clone, Copy, Debug, PartialEq, Eq)]
@@ -46,19 +47,51 @@ pub trait Sink {
         ensures { result ≡ faults_counted self.now };
 }
 
-/// A writer, with a count of its faults.
+/// A sink that also says why it accepted no bytes.
+pub trait SinkWithReasons: Sink {
+    ghost use Rattle.std.specs.Prelude.{◌≡◌};
+    ghost use Rattle.cfgsink.specs.declared.sink.WriteError.{WriteError};
+    ghost use Rattle.cfgsink.specs.declared.sink.WriteError.TheVariants.{Other};
+
+    // The reason that the sink gives now.
+    ghost reason: { Self → WriteError } = { λ sink. Other };
+
+    /// Why the last write that was a fault was one, if there was any.
+    fn reason(&self) -> WriteError
+        ensures { result ≡ reason self.now };
+}
+
+/// Why a sink accepted no bytes, as far as the system says.
+#[derive(Clone, Copy, Debug, PartialEq, Eq)]
+pub enum WriteError {
+    /// Nobody reads what is written: the pipe is closed.
+    Closed,
+    /// No space is left, or none that the writer may use.
+    NoSpace,
+    /// The file would get too large.
+    FileTooLarge,
+    /// Another reason.
+    Other,
+}
+
+/// A writer, with a count of its faults, and the reason of the last one.
 #[derive(Drop)]
 pub struct Counted<W> {
     writer: W,
     faults: u64,
+    reason: WriteError,
 }
 
 impl<W: Write> Counted<W> {
     /// The writer, with no faults yet.
     pub fn new(writer: W) -> Self
-        ensures { result ≡ record { writer = writer; faults = 0 } }
+        ensures { result ≡ record { writer = writer; faults = 0; reason = Other } }
     {
-        Counted { writer, faults: 0 }
+        Counted {
+            writer,
+            faults: 0,
+            reason: WriteError::Other,
+        }
     }
 }
 
@@ -72,11 +105,13 @@ impl<W: Write> Sink for Counted<W> {
             Ok(count) => {
                 if count == 0 && !bytes.is_empty() {
                     self.faults += 1;
+                    self.reason = WriteError::Other;
                 }
                 Ok(count)
             }
-            Err(_) => {
+            Err(error) => {
                 self.faults += 1;
+                self.reason = write_error(error.kind());
                 Err(SinkFault)
             }
         }
@@ -84,6 +119,24 @@ impl<W: Write> Sink for Counted<W> {
 
     fn faults(&self) -> u64 {
         self.faults
+    }
+}
+
+impl<W: Write> SinkWithReasons for Counted<W> {
+    ghost reason = { λ counted. counted.reason };
+
+    fn reason(&self) -> WriteError {
+        self.reason
+    }
+}
+
+/// The reason that an error of this kind gives.
+fn write_error(kind: ErrorKind) -> WriteError {
+    match kind {
+        ErrorKind::BrokenPipe => WriteError::Closed,
+        ErrorKind::StorageFull | ErrorKind::QuotaExceeded => WriteError::NoSpace,
+        ErrorKind::FileTooLarge => WriteError::FileTooLarge,
+        _ => WriteError::Other,
     }
 }
 

@@ -7,14 +7,13 @@ use crate::faults::refuse_arguments;
 use crate::program::{Reporter, run};
 use crate::sink::Counted;
 use cfgprogram::arguments::{ArgumentsFault, arguments};
-use cfgprogram::runtime::{ErrorStream, SystemFiles};
-use std::io;
-use std::rt::{Env, Files};
+use cfgprogram::runtime::{ErrorStream, OutputStream, SystemFiles};
+use std::rt::{Clock, Env, Files};
 
 /// Runs the program over a runtime, and returns its status: [`run`](crate::run) on the command-line arguments, over the
 /// runtime's files, its standard input under the name `-`, its standard output and its standard error. Arguments that
 /// are not UTF-8 are wrong usage.
-pub fn run_over<R: Env + Files + Input + Print + Eprint + AllocGlobal, P: Reporter>(
+pub fn run_over<R: Env + Files + Input + Print + Eprint + Clock + AllocGlobal, P: Reporter>(
     rt: &R,
     reporter: &P,
 ) -> u8
@@ -31,7 +30,7 @@ pub fn run_over<R: Env + Files + Input + Print + Eprint + AllocGlobal, P: Report
 /// # Errors
 ///
 /// Why there are no arguments; nothing is then read or written.
-fn run_on_arguments<R: Env + Files + Input + Print + Eprint + AllocGlobal, P: Reporter>(
+fn run_on_arguments<R: Env + Files + Input + Print + Eprint + Clock + AllocGlobal, P: Reporter>(
     rt: &R,
     reporter: &P,
 ) -> Result<u8, ArgumentsFault>
@@ -47,7 +46,7 @@ fn run_on_arguments<R: Env + Files + Input + Print + Eprint + AllocGlobal, P: Re
         reporter,
         &args,
         &mut SystemFiles::new(rt),
-        &mut Counted::new(io::writer(rt)),
+        &mut Counted::new(OutputStream { rt }),
         &mut Counted::new(ErrorStream { rt }),
     ))
 }
