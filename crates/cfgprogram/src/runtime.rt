@@ -1,6 +1,6 @@
 //! The files of a runtime, and its two output streams.
 
-ghost use Rattle.std.specs.Prelude.{◌≡◌};
+ghost use Rattle.std.specs.Prelude.{◌≡◌, ◌≤◌, IfOk, length};
 ghost use Rattle.cfgprogram.specs.declared.source.ReadError.TheVariants.{Other};
 
 use crate::source::{self, ReadError, Source, SourceWithReasons};
@@ -86,9 +86,7 @@ impl<R: Print + Clock> Write for OutputStream<'_, R> {
     fn write(&mut self, bytes: &[u8]) -> io::Result<usize> {
         for _ in 0..u64::MAX {
             match self.rt.write_some(bytes) {
-                Err(error) if error.kind() == io::ErrorKind::WouldBlock => {
-                    pause(self.rt);
-                }
+                Err(error) if error.kind() == io::ErrorKind::WouldBlock => pause(self.rt),
                 Err(error) if error.kind() == io::ErrorKind::Interrupted => {}
                 written => return written,
             }
@@ -111,16 +109,8 @@ pub struct ErrorStream<'a, R> {
 impl<R: Eprint + Clock> Write for ErrorStream<'_, R> {
     fn write(&mut self, bytes: &[u8]) -> io::Result<usize> {
         let text = first_text(bytes)?;
-        for _ in 0..u64::MAX {
-            match self.rt.eprint(text) {
-                Ok(()) => return Ok(text.len()),
-                Err(error) if error.kind() == io::ErrorKind::WouldBlock => {
-                    pause(self.rt);
-                }
-                Err(error) => return Err(error),
-            }
-        }
-        Err(io::Error::from(io::ErrorKind::WouldBlock))
+        eprint_all(self.rt, text)?;
+        Ok(text.len())
     }
 
     fn flush(&mut self) -> io::Result<()> {
@@ -133,7 +123,9 @@ impl<R: Eprint + Clock> Write for ErrorStream<'_, R> {
 /// # Errors
 ///
 /// They don't begin with text.
-fn first_text(bytes: &[u8]) -> io::Result<&str> {
+fn first_text(bytes: &[u8]) -> io::Result<&str>
+    ensures { IfOk result (λ text. length text.now ≤ length bytes.now) }
+{
     let first = &bytes[..bytes.len().min(TOGETHER)];
     let error = match std::str::from_utf8(first) {
         Ok(text) => return Ok(text),
@@ -143,6 +135,17 @@ fn first_text(bytes: &[u8]) -> io::Result<&str> {
         Ok(text) if !text.is_empty() => Ok(text),
         _ => Err(io::Error::from(io::ErrorKind::InvalidData)),
     }
+}
+
+/// Writes a text to standard error, as soon as the system takes it.
+fn eprint_all<R: Eprint + Clock>(rt: &R, text: &str) -> io::Result<()> {
+    for _ in 0..u64::MAX {
+        match rt.eprint(text) {
+            Err(error) if error.kind() == io::ErrorKind::WouldBlock => pause(rt),
+            written => return written,
+        }
+    }
+    Err(io::Error::from(io::ErrorKind::WouldBlock))
 }
 
 /// Waits before a write is repeated.
