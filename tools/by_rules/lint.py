@@ -274,12 +274,13 @@ def is_utf8(t):
         return False
 
 
-def ending(arguments, fetch, room, is_printed):
-    """How a run ends if its output has room for so many bytes: what is written to it, the errors, and the status."""
+def ending(arguments, fetch, room, why, is_printed):
+    """How a run ends if its output has room for so many bytes: what is written to it, the errors, and the status. `why` is the reason
+    why it then accepts no more, if one is printed, or None if nobody reads it any more."""
     found = result(arguments, fetch, is_printed)
     if found is None:
         return '', 'cfglint: out of memory\n', 3
     output, errors, status = found
-    if len(output.encode('utf-8')) > room:
-        return output, errors + 'cfglint: cannot write\n', 2
+    if len(output.encode('utf-8')) > room and why is not None:
+        return output, errors + 'cfglint: cannot write%s\n' % why, 2
     return output, errors, status

@@ -10,7 +10,8 @@ use std::env::FillError;
 use std::fmt::Display;
 use std::fs::{Metadata, OpenOptions};
 use std::io::{self, BufRead, Lines, Write};
-use std::rt::{Env, Files};
+use std::rt::{Clock, Env, Files};
+use std::time::Duration;
 use vectors_rows::row::Row;
 
 /// A runtime whose arguments and standard input are given, whose outputs are writers, and whose files are those of
@@ -38,7 +39,10 @@ fn write_some(writer: &RefCell<Narrow>, bytes: &[u8]) -> io::Result<usize>
     ensures { IfOk result (λ count. count ≤ length bytes.now) }
 {
     match writer.try_borrow_mut() {
-        Ok(mut writer) => writer.write(bytes),
+        Ok(mut writer) => {
+            writer.request()?;
+            writer.write(bytes)
+        }
         Err(_) => Err(in_use()),
     }
 }
@@ -46,7 +50,10 @@ fn write_some(writer: &RefCell<Narrow>, bytes: &[u8]) -> io::Result<usize>
 /// Writes all bytes to a writer in a cell.
 fn write_all(writer: &RefCell<Narrow>, bytes: &[u8]) -> io::Result<()> {
     match writer.try_borrow_mut() {
-        Ok(mut writer) => writer.write_all(bytes),
+        Ok(mut writer) => {
+            writer.request()?;
+            writer.write_all(bytes)
+        }
         Err(_) => Err(in_use()),
     }
 }
@@ -106,6 +113,17 @@ impl<R> Env for Desk<'_, R> {
 
     fn var_at(&self, _i: usize, _buf: &mut [u8]) -> Result<usize, FillError> {
         Err(FillError::NotPresent)
+    }
+}
+
+/// It has no clock, and a pause takes no time.
+impl<R> Clock for Desk<'_, R> {
+    fn monotonic(&self) -> io::Result<Duration> {
+        Err(io::Error::from(io::ErrorKind::Unsupported))
+    }
+
+    fn since_1970(&self) -> io::Result<Duration> {
+        Err(io::Error::from(io::ErrorKind::Unsupported))
     }
 }
 

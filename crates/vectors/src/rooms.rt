@@ -41,9 +41,9 @@ fn write_ended<R: Run>(out: &mut Page, run: &R, (step, end): (usize, End), whole
 /// A word for how a writer ends.
 fn word_of(end: End) -> &'static str {
     match end {
-        End::Fails => "fails",
         End::IsInterrupted => "is interrupted",
         End::TakesNone => "takes none",
+        _ => "fails",
     }
 }
 
