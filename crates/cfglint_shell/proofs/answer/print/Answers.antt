@@ -1,8 +1,8 @@
-use Rattle.std.proofs.Common.{refl, ap, sym, subst, add-zero, ◌++◌, ◌∙◌, codes}
+use Rattle.std.proofs.Common.{refl, ap, sym, subst, add-zero, ◌++◌, ◌∙◌}
 use Rattle.std.specs.Io.KnownBytes.{Appends}
 use Rattle.cfgsink.specs.Sinks.{AppendsPrefix, AppendsOrFaults}
 use Rattle.cfgsink.proofs.Prefixes.{whole_or_faults}
-use Rattle.cfglint_shell.specs.Run.{Answer, Answered, Unwritten}
+use Rattle.cfglint_shell.specs.Run.{Answer, Answered, Unwritten, unwritten_status}
 use Rattle.cfglint_shell.proofs.answer.print.Goals as goal
 
 pub returns-in-Ok-clause-ends : goal.returns-in-Ok-clause-ends
@@ -19,11 +19,15 @@ returns-in-Ok-clause-ends g c =
 
 pub returns-in-Err-clause-ends : goal.returns-in-Err-clause-ends
 returns-in-Err-clause-ends g c =
+    let reason = c.reason-reason.result in
+    let status = c.unwritten_status.ensures ∙ ap (λ (answer : Answer). unwritten_status reason answer.status) c.answer.view_is in
     let output = c.as_bytes.ensures.value ∙ ap (λ (answer : Answer). answer.output) c.answer.view_is in
-    let errors = c.as_bytes-in-Err.ensures.value ∙ ap (λ (answer : Answer). answer.errors) c.answer.view_is in (
-      Unwritten c.args.answer.now,
-      refl,
-      (refl, subst (AppendsPrefix _ _) output c.in-Err.ensures.err),
+    let errors = c.as_bytes-in-Err.ensures.value ∙ ap (λ (answer : Answer). answer.errors) c.answer.view_is in
+    let line = c.as_bytes-in-Err-2.ensures.value ∙ c.unwritten_line-line.ensures in
+    let both = ap (λ first. first ++ c.as_bytes-in-Err-2.result.now) errors ∙ ap (λ last. c.args.answer.now.errors ++ last) line in (
+      Unwritten reason c.args.answer.now,
+      status,
+      (c.reason-reason.ensures, refl, subst (AppendsPrefix _ _) output c.in-Err.ensures.err),
       c.in-Err.ensures.err_faults,
-      subst (AppendsOrFaults _ _ _ _) (ap (λ line. line ++ codes "cfglint: cannot write\n") errors) c.write_both.ensures,
+      subst (AppendsOrFaults _ _ _ _) both c.write_both.ensures,
     )
