@@ -4,11 +4,10 @@ ghost use Rattle.std.specs.Prelude.{◌≡◌, ◌≤◌, IfOk, length};
 ghost use Rattle.cfgprogram.specs.declared.source.ReadError.TheVariants.{Other};
 
 use crate::source::{self, ReadError, Source, SourceWithReasons};
-use std::fs;
 use std::io::{self, Read, Write};
 use std::rt::{Clock, Files};
-use std::thread;
 use std::time::Duration;
+use std::{fs, thread};
 
 /// How many bytes a pipe takes together, or none of them: POSIX promises so many.
 const TOGETHER: usize = 512;
