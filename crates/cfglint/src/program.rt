@@ -12,8 +12,8 @@ use std::alloc::Global;
 
 /// Runs the program on its command-line arguments, and returns its status. Its reports on the files among the
 /// arguments, and a summary, are written to `out`. A line for each file without a text, or on whatever else failed, is
-/// written to `err`, as far as `err` accepts it. Nothing is written before all files are read. If the arguments are
-/// wrong, `source` is left as it was.
+/// written to `err`, as far as `err` accepts it. Nothing is written before all files are read. If `out` is closed, the
+/// rest is dropped, which changes no status. If the arguments are wrong, `source` is left as it was.
 pub fn lint<S: SourceWithReasons, O: SinkWithReasons, E: Sink>(
     alloc: Global,
     args: &[&str],

@@ -9,7 +9,8 @@ use std::rt::{Clock, Env, Files};
 /// Runs the program `cfglint` over a runtime: [`lint`](crate::lint) on the command-line arguments, over the
 /// runtime's files, its standard input under the name `-`, its standard output and its standard error. Arguments
 /// that aren't UTF-8 are wrong usage. The status is 0 if nothing was found that counts; 1 if something was; 2 if the
-/// arguments were wrong, a file couldn't be read or the output couldn't be written; 3 if memory ran out.
+/// arguments were wrong, a file couldn't be read or the output couldn't be written; 3 if memory ran out. Outputs that
+/// take no bytes for the moment are waited for, and a closed one changes no status.
 pub fn run_over<R: Env + Files + Input + Print + Eprint + Clock + AllocGlobal>(rt: &R) -> Ended
     ensures { result.status ≤ 3 }
 {

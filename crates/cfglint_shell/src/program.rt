@@ -19,8 +19,8 @@ use std::alloc::{AllocError, Global};
 
 /// Runs the program on its command-line arguments, and returns its status. What it reports about the files that they
 /// name, and a summary, is written to `out`; a line for each file without text, or about what else went wrong, is
-/// written to `err`, as far as `err` accepts it. Nothing is written before all files are read. Wrong arguments leave
-/// `source` as it was.
+/// written to `err`, as far as `err` accepts it. Nothing is written before all files are read. If `out` is closed, the
+/// rest is dropped, which changes no status. Wrong arguments leave `source` as it was.
 pub fn lint<L: Linter, S: SourceWithReasons, O: SinkWithReasons, E: Sink>(
     alloc: Global,
     linter: &L,
