@@ -1,5 +1,5 @@
 -- What is below a piece of a text is as wide as what shows the piece.
-use Rattle.std.proofs.Common.{◌≡◌, ℕ, zero, suc, ◌==◌, Bool, true, false, if◌then◌else◌, List, [], ◌∷◌, codes, length, length-append, sym, ap, ◌∙◌, refl, arith}
+use Rattle.std.proofs.Common.{◌≡◌, ℕ, zero, suc, ◌+◌, ◌==◌, Bool, true, false, if◌then◌else◌, List, [], ◌∷◌, ◌++◌, codes, length, length-append, append-nil, append_assoc, add-one, sym, ap, ◌∙◌, refl, arith}
 use Rattle.std.proofs.lemmas.Bool.{cond_both}
 use Rattle.std.specs.List.{flat_map, repeat}
 use Rattle.cfgrender.specs.Render.{under_prefix, under_span}
@@ -10,14 +10,21 @@ pub under_tab : (c : ℕ) → (c == 9) ≡ true → codes "\t" ≡ under_prefix 
 unfolding under_prefix
 under_tab c tab = sym (ap (λ (tab : Bool). if tab then codes "\t" else repeat (length (shown_as c)) (codes " ")) tab)
 
-pub under_other : (c n : ℕ) → (c == 9) ≡ false → length (shown_as c) ≡ n → repeat n (codes " ") ≡ under_prefix c
+pub under_other : (c n : ℕ) → (c == 9) ≡ false → n ≡ length (shown_as c) → repeat n (codes " ") ≡ under_prefix c
 unfolding under_prefix
-under_other c n other wide = sym (ap (λ (tab : Bool). if tab then codes "\t" else repeat (length (shown_as c)) (codes " ")) other
-    ∙ ap (λ n. repeat n (codes " ")) wide)
+under_other c n other wide = ap (λ n. repeat n (codes " ")) wide
+    ∙ sym (ap (λ (tab : Bool). if tab then codes "\t" else repeat (length (shown_as c)) (codes " ")) other)
 
-pub under_shown : (c n : ℕ) → length (shown_as c) ≡ n → repeat n (codes "^") ≡ under_span c
+pub under_shown : (c n : ℕ) → n ≡ length (shown_as c) → repeat n (codes "^") ≡ under_span c
 unfolding under_span
-under_shown c n wide = sym (ap (λ n. repeat n (codes "^")) wide)
+under_shown c n wide = ap (λ n. repeat n (codes "^")) wide
+
+repeat_turned : (n : ℕ) (text : List ℕ) → repeat n text ++ text ≡ text ++ repeat n text
+repeat_turned zero text = sym (append-nil text)
+repeat_turned (suc n) text = append_assoc text (repeat n text) text ∙ ap (λ rest. text ++ rest) (repeat_turned n text)
+
+pub repeat_more : (n : ℕ) (text : List ℕ) → repeat n text ++ text ≡ repeat (n + 1) text
+repeat_more n text = repeat_turned n text ∙ ap (λ n. repeat n text) (sym (add-one n))
 
 repeat_wide : (n mark : ℕ) → length (repeat n (mark ∷ [])) ≡ n
 repeat_wide zero mark = refl

@@ -7,6 +7,7 @@ use Rattle.std.specs.Str.{IsCharBoundary}
 use Rattle.cfgbase.specs.declared.span.Span.{Span}
 use Rattle.cfglines.specs.Lines.{column, line_number}
 use Rattle.cfgrender.specs.Render.{excerpt, heading, is_offset, message_line, reported}
+use Rattle.cfgrender.specs.Visible.{visible}
 
 pub is_offset_true : (text : List ℕ) (b : ℕ) → IsCharBoundary text b → is_offset text b ≡ true
 is_offset_true text b boundary = and_from _ _ (le-leb _ _ boundary.0) (⊎_elim
@@ -32,11 +33,11 @@ is_offset_false text b none =
     ⊎_elim (λ h. absurd (none (is_offset_only text b h))) (λ h. h) (cases_Bool (is_offset text b))
 
 pub heading_of_offset : (name text : List ℕ) (b : ℕ) → IsCharBoundary text b → heading name text b
-    ≡ name ++ (codes ":" ++ (decimal (line_number text b) ++ (codes ":" ++ (decimal (column text b) ++ codes ": "))))
+    ≡ visible name ++ (codes ":" ++ (decimal (line_number text b) ++ (codes ":" ++ (decimal (column text b) ++ codes ": "))))
 unfolding heading
 heading_of_offset name text b boundary = rw (is_offset_true text b boundary) refl
 
-pub heading_of_none : (name text : List ℕ) (b : ℕ) → (IsCharBoundary text b → ⊥) → heading name text b ≡ name ++ codes ": "
+pub heading_of_none : (name text : List ℕ) (b : ℕ) → (IsCharBoundary text b → ⊥) → heading name text b ≡ visible name ++ codes ": "
 unfolding heading
 heading_of_none name text b none = rw (is_offset_false text b none) refl
 

@@ -103,8 +103,8 @@ excerpt text span = marked_line (line_at text span.start) (offset_in_line text s
 -- what precedes a message: the text's name, and the line and the column of an offset that is a character boundary of the text
 unfoldable pub heading : List ℕ → List ℕ → ℕ → List ℕ
 heading name text b = if is_offset text b
-    then name ++ (codes ":" ++ (decimal (line_number text b) ++ (codes ":" ++ (decimal (column text b) ++ codes ": "))))
-    else name ++ codes ": "
+    then visible name ++ (codes ":" ++ (decimal (line_number text b) ++ (codes ":" ++ (decimal (column text b) ++ codes ": "))))
+    else visible name ++ codes ": "
 
 -- a message as it is shown, and the end of its line
 abbrev pub message_line : List ℕ → List ℕ
@@ -126,7 +126,7 @@ reported_also Error name text spans = []
 
 -- what is printed, in a text of this name, of an error or a warning with this message, these spans, and spans of this kind
 abbrev pub rendered : List ℕ → List ℕ → List ℕ → List Span → SpansKind → List ℕ
-rendered name text message [] kind = name ++ (codes ": " ++ message_line message)
+rendered name text message [] kind = visible name ++ (codes ": " ++ message_line message)
 rendered name text message (span ∷ spans) kind = reported name text message span ++ reported_also kind name text spans
 
 -- What is printed of several, one after another; `Prints` says what each prints.

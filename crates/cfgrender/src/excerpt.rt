@@ -1,13 +1,13 @@
 //! The line where a span starts, with carets under the span.
 
 ghost use Rattle.std.specs.Prelude.{◌≡◌, ◌-◌, ◌++◌, ◌≤◌, if◌then◌else◌, length, min, OnOk, string_bytes};
-ghost use Rattle.std.specs.List.{flat_map, slice_range};
+ghost use Rattle.std.specs.List.{flat_map, repeat, slice_range};
 ghost use Rattle.std.specs.Str.{IsCharBoundary, chars};
 ghost use Rattle.cfglines.specs.Lines.{ends_crlf, line_start};
 ghost use Rattle.cfgrender.specs.Render.{carets, ceil_char_boundary, excerpt, line_stop, marked_line, shown_line};
 ghost use Rattle.cfgrender.specs.Render.{under_dots, under_prefix, under_span};
 
-use crate::visible::{is_escaped, push_visible};
+use crate::visible::{push_visible, shown_width};
 use crate::window::window;
 use cfgbase::Span;
 use cfglines::Positions;
@@ -115,23 +115,19 @@ fn push_under_prefix(out: &mut String, prefix: &str) -> Result<(), AllocError>
     ensures { OnOk result (string_bytes out.new ≡ string_bytes out.old ++ flat_map under_prefix (chars prefix.now)) }
 {
     for c in prefix.chars() {
-        out.push_str(under_prefix(c))?;
+        push_blank_under(out, c)?;
     }
     Ok(())
 }
 
-/// What is under a character before the span.
-fn under_prefix(c: char) -> &'static str
-    ensures { result.now ≡ under_prefix c }
+/// Writes what is under a character before the span.
+fn push_blank_under(out: &mut String, c: char) -> Result<(), AllocError>
+    ensures { OnOk result (string_bytes out.new ≡ string_bytes out.old ++ under_prefix c) }
 {
     if c == '\t' {
-        "\t"
-    } else if !is_escaped(c) {
-        " "
-    } else if c < '\u{10}' {
-        "     "
+        out.push_str("\t")
     } else {
-        "      "
+        push_times(out, " ", shown_width(c))
     }
 }
 
@@ -150,20 +146,24 @@ fn push_under_span(out: &mut String, part: &str) -> Result<(), AllocError>
     ensures { OnOk result (string_bytes out.new ≡ string_bytes out.old ++ flat_map under_span (chars part.now)) }
 {
     for c in part.chars() {
-        out.push_str(under_span(c))?;
+        push_carets_under(out, c)?;
     }
     Ok(())
 }
 
-/// The carets under a character of the span.
-fn under_span(c: char) -> &'static str
-    ensures { result.now ≡ under_span c }
+/// Writes the carets under a character of the span.
+fn push_carets_under(out: &mut String, c: char) -> Result<(), AllocError>
+    ensures { OnOk result (string_bytes out.new ≡ string_bytes out.old ++ under_span c) }
 {
-    if !is_escaped(c) {
-        "^"
-    } else if c < '\u{10}' {
-        "^^^^^"
-    } else {
-        "^^^^^^"
+    push_times(out, "^", shown_width(c))
+}
+
+/// Writes a text this many times.
+fn push_times(out: &mut String, text: &str, times: usize) -> Result<(), AllocError>
+    ensures { OnOk result (string_bytes out.new ≡ string_bytes out.old ++ repeat times text.now) }
+{
+    for _ in 0..times {
+        out.push_str(text)?;
     }
+    Ok(())
 }

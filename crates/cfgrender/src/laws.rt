@@ -1,5 +1,5 @@
 //! Carets are under the characters of a span: how an excerpt relates to columns and characters. No control characters
-//! but tabs are shown.
+//! but tabs are shown, and no format characters.
 
 ghost use Rattle.std.specs.Prelude.{◌≡◌, ◌+◌, ◌-◌, ℕ, List, false, length, max};
 ghost use Rattle.std.specs.List.{flat_map, list_any};
@@ -31,7 +31,7 @@ pub fn carets_count_characters()
         length (carets shown) ≡ max 1 (length (chars (visible shown))) }
 {}
 
-/// What shows a text has no control character other than tabs.
+/// What shows a text has no control character other than tabs, and no format character.
 #[tactic(auto, using(crate::proofs::Shown::shows_no_controls))]
 pub fn shows_no_controls()
     ensures { (text : List ℕ) → IsUtf8 text → list_any is_escaped (chars (visible text)) ≡ false }

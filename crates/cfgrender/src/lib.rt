@@ -10,3 +10,4 @@ mod window;
 
 pub use message::{render, render_all};
 pub use source::Source;
+pub use visible::Visible;

@@ -5,7 +5,7 @@ ghost use Rattle.std.specs.List.{flat_map};
 ghost use Rattle.cfgrender.specs.Render.{heading, message_line, note_line, rendered, reported, reported_also};
 
 use crate::excerpt::push_excerpt;
-use crate::visible::push_visible;
+use crate::visible::{Visible, push_visible};
 use cfgbase::{Span, Spanned, SpansKind};
 use cfglines::Positions;
 use std::alloc::{AllocError, Global};
@@ -78,8 +78,7 @@ impl<'a> Source<'a> {
             ++ rendered self.now.name.now self.now.text message.now spans.now kind) }
     {
         let [first, others @ ..] = spans else {
-            let name = self.name;
-            write!(out, "{name}: ")?;
+            write!(out, "{}: ", Visible(self.name))?;
             return push_line(out, message);
         };
         self.push_reported(out, message, *first)?;
@@ -133,8 +132,8 @@ impl<'a> Source<'a> {
         ensures { OnOk result (string_bytes out.new
             ≡ string_bytes out.old ++ heading self.now.name.now self.now.text offset) }
     {
-        let Source { name, text } = self;
-        match text.line_and_column(offset) {
+        let name = Visible(self.name);
+        match self.text.line_and_column(offset) {
             Some((line, column)) => write!(out, "{name}:{line}:{column}: "),
             None => write!(out, "{name}: "),
         }
