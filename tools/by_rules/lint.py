@@ -6,7 +6,7 @@ from .faults import Fault, HeaderFault
 from .findings import findings_of
 from .grammar import Grammar
 from .hints import hint
-from .rendered import note, rendered
+from .rendered import note, rendered, visible
 from .section import named_kind, section
 from .validation import errors_of, every_fault
 
@@ -29,7 +29,7 @@ usage: cfglint [OPTION..] [--] FILE..
   -h, --help         Writes this.
   --version          Writes the version.
   --                 What follows are files.
-  FILE               A path, or - for standard input.
+  FILE               A path, or - for standard input, which can be given once.
 
 FINDING is unused-rule, unused-token, shadowed-rule, start-without-sentence, no-sentence, unusable-rule,
 unusable-production, useless-symbol, cyclic-rule, repeated-production, unused-precedence, repeated-token or
@@ -91,7 +91,7 @@ class Options:
 
 def named(value, one, several, values):
     if value not in values:
-        raise Wrong("unknown %s '%s': the %s are %s" % (one, value, several, ', '.join(values)))
+        raise Wrong("unknown %s '%s': the %s are %s" % (one, visible(value), several, ', '.join(values)))
     return value
 
 
@@ -116,11 +116,13 @@ def options_of(arguments):
                 raise Wrong("option '%s' needs a value" % option)
             options.set(option, value if equals else left.pop(0))
         elif argument.startswith('-') and argument != '-':
-            raise Wrong("unknown option '%s': the options are %s" % (argument, OPTIONS))
+            raise Wrong("unknown option '%s': the options are %s" % (visible(argument), OPTIONS))
         else:
             options.files.append(argument)
     if not options.files:
         raise Wrong('no file is given')
+    if options.files.count('-') > 1:
+        raise Wrong('standard input is given twice')
     return options
 
 
@@ -257,9 +259,9 @@ def result(arguments, fetch, is_printed):
         if t is NO_MEMORY:
             return None
         if isinstance(t, Unreadable):
-            tally.faults += 'cfglint: cannot read %s%s\n' % (name, t.reason)
+            tally.faults += 'cfglint: cannot read %s%s\n' % (visible(name), t.reason)
         elif not is_utf8(t):
-            tally.faults += 'cfglint: %s is not UTF-8\n' % name
+            tally.faults += 'cfglint: %s is not UTF-8\n' % visible(name)
         else:
             tally.add_text(options, name, t, is_printed)
     summary = '' if options.is_quiet or options.format == 'json' else tally.summary()

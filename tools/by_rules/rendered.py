@@ -11,16 +11,25 @@ def begins_character(byte):
 WIDTH, LEAD = 160, 40
 
 
+# The format characters that Unicode 15.0 added; Python before 3.12 doesn't know them.
+ADDED = range(0x13439, 0x13440)
+
+
+def is_escaped(c):
+    """Whether a character is a control character other than a tab, or a format character."""
+    return c != '\t' and unicodedata.category(c) in ('Cc', 'Cf') or ord(c) in ADDED
+
+
 def visible(text):
-    """A text with the escape of each control character other than a tab in its place."""
-    return ''.join('\\u{%x}' % ord(c) if c != '\t' and unicodedata.category(c) == 'Cc' else c for c in text)
+    """A text with the escape of each such character in its place."""
+    return ''.join('\\u{%x}' % ord(c) if is_escaped(c) else c for c in text)
 
 
 def shown(name, t, message, span):
     """A message at a span, the line in which the span starts, and carets under it."""
     start, end = span
     if start > len(t) or start < len(t) and not begins_character(t[start]):
-        return ['%s: %s' % (name, visible(message))]
+        return ['%s: %s' % (visible(name), visible(message))]
     begin, stop = t.rfind(b'\n', 0, start) + 1, (t + b'\n').find(b'\n', start)
     if stop < len(t) and t[begin:stop].endswith(b'\r'):
         stop -= 1
@@ -31,15 +40,15 @@ def shown(name, t, message, span):
     cut, is_long = '...' if first else '', '...' if last < len(line) else ''
     under = ' ' * len(cut) + ''.join('\t' if c == '\t' else ' ' * len(visible(c)) for c in before[first:])
     carets = len(visible(line[len(before):min(len(before) + covered, last)])) or 1
-    head = '%s:%d:%d: %s' % (name, *position(t, start), visible(message))
+    head = '%s:%d:%d: %s' % (visible(name), *position(t, start), visible(message))
     return [head, cut + visible(line[first:last]) + is_long, under + '^' * carets]
 
 
 def note(name, t, words, offset):
     """The line of a note at an offset of the text."""
     if offset > len(t) or offset < len(t) and not begins_character(t[offset]):
-        return '%s: note: %s' % (name, visible(words))
-    return '%s:%d:%d: note: %s' % (name, *position(t, offset), visible(words))
+        return '%s: note: %s' % (visible(name), visible(words))
+    return '%s:%d:%d: note: %s' % (visible(name), *position(t, offset), visible(words))
 
 
 def rendered(name, t, message, spans, spans_kind):

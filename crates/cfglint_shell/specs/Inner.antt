@@ -13,7 +13,7 @@ use Rattle.cfglint_shell.specs.declared.arguments.Options as options_code
 use Rattle.cfglint_shell.specs.declared.usage.UsageError as error_code
 use Rattle.cfglint_shell.specs.declared.usage.UsageError.TheVariants as error
 use Rattle.cfglint_shell.specs.Run.{Answer, Answered, Ending, NoMemory, Unwritten}
-use Rattle.cfglint_shell.specs.Requests.{Requested, Help, Lint, Version, Options, Wrong, Step, Goes, Stops, UsageError, UnknownOption, UnknownKind, UnknownFormat, UnknownFinding, MissingValue, NoFile}
+use Rattle.cfglint_shell.specs.Requests.{Requested, Help, Lint, Version, Options, Wrong, Step, Goes, Stops, UsageError, UnknownOption, UnknownKind, UnknownFormat, UnknownFinding, MissingValue, NoFile, StandardInputTwice}
 
 -- the code's options
 abbrev pub options_view : options_code.Options → Options
@@ -33,6 +33,7 @@ usage_error_view (error.UnknownFormat format) = UnknownFormat format.now
 usage_error_view (error.UnknownFinding finding) = UnknownFinding finding.now
 usage_error_view (error.MissingValue option) = MissingValue option
 usage_error_view error.NoFile = NoFile
+usage_error_view error.StandardInputTwice = StandardInputTwice
 
 abbrev pub stop_view : stop_code.Stop → Requested
 stop_view stop.Help = Help

@@ -1,8 +1,9 @@
 -- What the program's arguments request, and what it then says about itself.
 use Rattle.std.specs.Prelude.{ℕ, Bool, true, false, not, ◌&&◌, ◌||◌, ◌==◌, nat_lt, List, [], ◌∷◌, ◌++◌, length, Option, Some, None, codes, if◌then◌else◌}
-use Rattle.std.specs.List.{after_first, before_first, position_or_len}
+use Rattle.std.specs.List.{after_first, before_first, count_by, position_or_len}
 use Rattle.std.specs.Option.{option_map_or}
 use Rattle.std.specs.Str.{bytes_eq}
+use Rattle.cfgrammar.specs.Visible.{visible}
 use Rattle.cfgprogram.specs.Kinds.{kind_named}
 use Rattle.cfglint_shell.specs.declared.arguments.Expected.{Expected}
 use Rattle.cfglint_shell.specs.declared.arguments.Expected.TheVariants.{Argument, Value, File}
@@ -43,7 +44,7 @@ abbrev pub has_summary : Options → Bool
 has_summary options = is_text options.lint.format && not options.is_quiet
 
 -- what is wrong with arguments: there is no such option; this value of an option names no kind, format or kind of finding; an option's value is
--- missing; no file is given
+-- missing; no file is given; more than one of the files is standard input
 pub data UsageError : Type 0 where
   UnknownOption : List ℕ → UsageError
   UnknownKind : List ℕ → UsageError
@@ -51,6 +52,7 @@ pub data UsageError : Type 0 where
   UnknownFinding : List ℕ → UsageError
   MissingValue : ValueOption → UsageError
   NoFile : UsageError
+  StandardInputTwice : UsageError
 
 pub data Requested : Type 0 where
   Help : Requested
@@ -136,10 +138,14 @@ with_expected options (Value option) argument = with_value options option argume
 with_expected options Argument argument = with_argument options argument
 with_expected options File argument = Goes File (with_file_argument options argument)
 
--- at the end of the arguments: at least one file is required, and no value may be missing
+-- how many of the files are standard input
+abbrev pub standard_inputs : Options → ℕ
+standard_inputs options = count_by (λ file. bytes_eq file (codes "-")) options.files
+
+-- at the end of the arguments: no value may be missing, and at least one file is required; standard input may be given once
 abbrev pub requested_files : Options → List (List ℕ) → Requested
 requested_files options [] = Wrong NoFile
-requested_files options (file ∷ files) = Lint options
+requested_files options (file ∷ files) = if nat_lt 1 (standard_inputs options) then Wrong StandardInputTwice else Lint options
 
 abbrev pub at_end : Options → Expected → Requested
 at_end options (Value option) = Wrong (MissingValue option)
@@ -173,15 +179,16 @@ usage = codes "usage: cfglint [OPTION..] [--] FILE..\n"
 
 -- the line that says what is wrong
 abbrev pub usage_error_text : UsageError → List ℕ
-usage_error_text (UnknownOption option) = codes "cfglint: unknown option '" ++ (option ++ codes "': the options are --kind, --format, --allow, --warn, --deny, --deny-warnings, --quiet, --stdin-name, -h, --help, --version, --\n")
-usage_error_text (UnknownKind kind) = codes "cfglint: unknown kind '" ++ (kind ++ codes "': the kinds are original-noaction, original-useraction, original-genericparsetree, grmtools, eco, section\n")
-usage_error_text (UnknownFormat format) = codes "cfglint: unknown format '" ++ (format ++ codes "': the formats are text, json\n")
-usage_error_text (UnknownFinding finding) = codes "cfglint: unknown finding '" ++ (finding ++ codes "': the findings are unused-rule, unused-token, shadowed-rule, start-without-sentence, no-sentence, unusable-rule, unusable-production, useless-symbol, cyclic-rule, repeated-production, unused-precedence, repeated-token, overridden-precedence\n")
+usage_error_text (UnknownOption option) = codes "cfglint: unknown option '" ++ (visible option ++ codes "': the options are --kind, --format, --allow, --warn, --deny, --deny-warnings, --quiet, --stdin-name, -h, --help, --version, --\n")
+usage_error_text (UnknownKind kind) = codes "cfglint: unknown kind '" ++ (visible kind ++ codes "': the kinds are original-noaction, original-useraction, original-genericparsetree, grmtools, eco, section\n")
+usage_error_text (UnknownFormat format) = codes "cfglint: unknown format '" ++ (visible format ++ codes "': the formats are text, json\n")
+usage_error_text (UnknownFinding finding) = codes "cfglint: unknown finding '" ++ (visible finding ++ codes "': the findings are unused-rule, unused-token, shadowed-rule, start-without-sentence, no-sentence, unusable-rule, unusable-production, useless-symbol, cyclic-rule, repeated-production, unused-precedence, repeated-token, overridden-precedence\n")
 usage_error_text (MissingValue option) = codes "cfglint: option '" ++ (option_name option ++ codes "' needs a value\n")
 usage_error_text NoFile = codes "cfglint: no file is given\n"
+usage_error_text StandardInputTwice = codes "cfglint: standard input is given twice\n"
 
 abbrev pub version : List ℕ
 version = codes "cfglint 0.15.0\n"
 
 abbrev pub help : List ℕ
-help = codes "cfglint reports errors in Yacc grammar files, and warnings about their grammars.\n\nusage: cfglint [OPTION..] [--] FILE..\n\n  --kind KIND        original-noaction, original-useraction, original-genericparsetree, grmtools, eco or section\n                     (the kind that the file's section names). Without it the section names the kind; a file that\n                     names none is read as original-noaction.\n  --format FORMAT    text, the default, or json: a line with a JSON object for each error and warning, and no summary.\n  --allow FINDING    Findings of this kind aren't reported.\n  --warn FINDING     Findings of this kind are warnings.\n  --deny FINDING     Findings of this kind are errors.\n  --deny-warnings    Warnings end with status 1 too.\n  --quiet            Writes no summary.\n  --stdin-name NAME  Standard input is reported under this name.\n  -h, --help         Writes this.\n  --version          Writes the version.\n  --                 What follows are files.\n  FILE               A path, or - for standard input.\n\nFINDING is unused-rule, unused-token, shadowed-rule, start-without-sentence, no-sentence, unusable-rule,\nunusable-production, useless-symbol, cyclic-rule, repeated-production, unused-precedence, repeated-token or\noverridden-precedence. Without these options start-without-sentence is an error; unusable-rule, unusable-production\nand useless-symbol, which only follow from a rule without a sentence, aren't reported; and the others are warnings.\nOf several --allow, --warn and --deny with the same one the last counts.\n--kind=KIND is --kind KIND, and so on.\n\nstatus: 0 without errors or denied warnings; 1 with either; 2 if the arguments are wrong, a file can't be read or\nthe output can't be written; 3 if there is no memory left\n"
+help = codes "cfglint reports errors in Yacc grammar files, and warnings about their grammars.\n\nusage: cfglint [OPTION..] [--] FILE..\n\n  --kind KIND        original-noaction, original-useraction, original-genericparsetree, grmtools, eco or section\n                     (the kind that the file's section names). Without it the section names the kind; a file that\n                     names none is read as original-noaction.\n  --format FORMAT    text, the default, or json: a line with a JSON object for each error and warning, and no summary.\n  --allow FINDING    Findings of this kind aren't reported.\n  --warn FINDING     Findings of this kind are warnings.\n  --deny FINDING     Findings of this kind are errors.\n  --deny-warnings    Warnings end with status 1 too.\n  --quiet            Writes no summary.\n  --stdin-name NAME  Standard input is reported under this name.\n  -h, --help         Writes this.\n  --version          Writes the version.\n  --                 What follows are files.\n  FILE               A path, or - for standard input, which can be given once.\n\nFINDING is unused-rule, unused-token, shadowed-rule, start-without-sentence, no-sentence, unusable-rule,\nunusable-production, useless-symbol, cyclic-rule, repeated-production, unused-precedence, repeated-token or\noverridden-precedence. Without these options start-without-sentence is an error; unusable-rule, unusable-production\nand useless-symbol, which only follow from a rule without a sentence, aren't reported; and the others are warnings.\nOf several --allow, --warn and --deny with the same one the last counts.\n--kind=KIND is --kind KIND, and so on.\n\nstatus: 0 without errors or denied warnings; 1 with either; 2 if the arguments are wrong, a file can't be read or\nthe output can't be written; 3 if there is no memory left\n"

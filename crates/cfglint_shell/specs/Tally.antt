@@ -1,6 +1,7 @@
 -- What is reported about files, one by one, and the summary at the end.
 use Rattle.std.specs.Prelude.{ℕ, ◌+◌, ◌==◌, ◌||◌, nat_lt, Bool, true, false, ◌&&◌, List, [], ◌∷◌, ◌++◌, codes, if◌then◌else◌, Option, Some, None}
 use Rattle.std.specs.Fmt.{decimal}
+use Rattle.cfgrammar.specs.Visible.{visible}
 use Rattle.cfgprogram.specs.Kinds.{kind_name}
 use Rattle.cfgprogram.specs.YaccKind.{YaccKind}
 use Rattle.cfgprogram.specs.declared.kinds.KindArg.{KindArg}
@@ -47,10 +48,10 @@ reason_text Other = []
 
 -- the line about a file of this name without text
 abbrev pub unread_line : List ℕ → ReadError → List ℕ
-unread_line name reason = codes "cfglint: cannot read " ++ (name ++ (reason_text reason ++ codes "\n"))
+unread_line name reason = codes "cfglint: cannot read " ++ (visible name ++ (reason_text reason ++ codes "\n"))
 
 abbrev pub no_text_line : List ℕ → List ℕ
-no_text_line name = codes "cfglint: " ++ (name ++ codes " is not UTF-8\n")
+no_text_line name = codes "cfglint: " ++ (visible name ++ codes " is not UTF-8\n")
 
 -- with one more file, of this name
 abbrev pub with_file : List ℕ → FileOutcome → Tally → Tally

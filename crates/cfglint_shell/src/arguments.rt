@@ -5,6 +5,7 @@ ghost use Rattle.std.specs.Option.{option_map_or};
 ghost use Rattle.cfglint_shell.specs.declared.usage.ValueOption.TheVariants as value_option;
 ghost use Rattle.cfglint_shell.specs.Inner.{options_view, requested_view, step_view, usage_error_view};
 ghost use Rattle.cfglint_shell.specs.Requests.{at_end, has_summary, is_option, name_of, no_options, requested};
+ghost use Rattle.cfglint_shell.specs.Requests.{standard_inputs};
 ghost use Rattle.cfglint_shell.specs.Requests.{with_argument, with_expected, with_finding, with_option, with_value};
 ghost use Rattle.cfglint_shell.specs.Requests as requests;
 
@@ -88,7 +89,7 @@ pub(crate) fn requested_by<'a>(
             Step::Stops(stop) => return Ok(Requested::Stops(stop)),
         }
     }
-    match options.missing(expected) {
+    match options.wrong_at_end(expected) {
         Some(error) => Ok(Requested::Stops(Stop::Wrong(error))),
         None => Ok(Requested::Lint(options)),
     }
@@ -129,15 +130,23 @@ impl<'a> Options<'a> {
         }
     }
 
-    /// What is missing at the end of the arguments, if anything is.
-    fn missing(&self, expected: Expected) -> Option<UsageError<'a>>
+    /// What is wrong at the end of the arguments, if anything is.
+    fn wrong_at_end(&self, expected: Expected) -> Option<UsageError<'a>>
         ensures { at_end (options_view self.now) expected ≡ option_map_or
             (λ error. requests.Wrong (usage_error_view error)) result (requests.Lint (options_view self.now)) }
     {
         match expected {
             Expected::Value(option) => Some(UsageError::MissingValue(option)),
-            _ => self.files.is_empty().then_some(UsageError::NoFile),
+            _ if self.files.is_empty() => Some(UsageError::NoFile),
+            _ => (self.standard_inputs() > 1).then_some(UsageError::StandardInputTwice),
         }
+    }
+
+    /// How many of the files are standard input.
+    fn standard_inputs(&self) -> usize
+        ensures { result ≡ standard_inputs (options_view self.now) }
+    {
+        self.files.iter().filter(|file| **file == "-").count()
     }
 
     /// Takes the next argument.

@@ -7,6 +7,7 @@ ghost use Rattle.cfglint_shell.specs.Tally.{reason_text, status_of, unread_line,
 use crate::kind_counts::KindCounts;
 use crate::linter::Report;
 use cfgprogram::ReadError;
+use cfgrammar::Visible;
 use std::alloc::{AllocError, Global};
 use std::marker::Model;
 
@@ -86,7 +87,7 @@ impl Tally {
         ensures { OnOk result (self.new ≡ with_file name.now NoText self.old) }
     {
         self.is_short = true;
-        writeln!(self.faults, "cfglint: {name} is not UTF-8")
+        writeln!(self.faults, "cfglint: {} is not UTF-8", Visible(name))
     }
 
     /// The status that the program ends with, with warnings denied or not.
@@ -112,6 +113,7 @@ impl Tally {
 fn write_unread(faults: &mut String, name: &str, reason: ReadError) -> Result<(), AllocError>
     ensures { OnOk result (string_bytes faults.new ≡ string_bytes faults.old ++ unread_line name.now reason) }
 {
+    let name = Visible(name);
     let reason = reason_text(reason);
     writeln!(faults, "cfglint: cannot read {name}{reason}")
 }

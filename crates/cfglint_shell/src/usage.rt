@@ -4,6 +4,7 @@ ghost use Rattle.std.specs.Prelude.{◌≡◌, ◌++◌, IfOk, string_bytes};
 ghost use Rattle.cfglint_shell.specs.Inner.{usage_error_view};
 ghost use Rattle.cfglint_shell.specs.Requests.{option_name, option_named, usage, usage_error_text};
 
+use cfgrammar::Visible;
 use std::alloc::{AllocError, Global};
 
 /// How the program is used; it is printed if the arguments are wrong.
@@ -35,7 +36,7 @@ usage: cfglint [OPTION..] [--] FILE..
   -h, --help         Writes this.
   --version          Writes the version.
   --                 What follows are files.
-  FILE               A path, or - for standard input.
+  FILE               A path, or - for standard input, which can be given once.
 
 FINDING is unused-rule, unused-token, shadowed-rule, start-without-sentence, no-sentence, unusable-rule,
 unusable-production, useless-symbol, cyclic-rule, repeated-production, unused-precedence, repeated-token or
@@ -106,6 +107,8 @@ pub(crate) enum UsageError<'a> {
     MissingValue(ValueOption),
     /// No file is given.
     NoFile,
+    /// More than one of the files is standard input.
+    StandardInputTwice,
 }
 
 impl UsageError<'_> {
@@ -115,19 +118,23 @@ impl UsageError<'_> {
     {
         match *self {
             UsageError::UnknownOption(option) => {
+                let option = Visible(option);
                 format!(in alloc;
                     "cfglint: unknown option '{option}': the options are {OPTIONS}\n{USAGE}"
                 )
             }
             UsageError::UnknownKind(kind) => {
+                let kind = Visible(kind);
                 format!(in alloc; "cfglint: unknown kind '{kind}': the kinds are {KINDS}\n{USAGE}")
             }
             UsageError::UnknownFormat(format) => {
+                let format = Visible(format);
                 format!(in alloc;
                     "cfglint: unknown format '{format}': the formats are text, json\n{USAGE}"
                 )
             }
             UsageError::UnknownFinding(finding) => {
+                let finding = Visible(finding);
                 format!(in alloc;
                     "cfglint: unknown finding '{finding}': the findings are {FINDINGS}\n{USAGE}"
                 )
@@ -137,6 +144,9 @@ impl UsageError<'_> {
                 format!(in alloc; "cfglint: option '{name}' needs a value\n{USAGE}")
             }
             UsageError::NoFile => format!(in alloc; "cfglint: no file is given\n{USAGE}"),
+            UsageError::StandardInputTwice => {
+                format!(in alloc; "cfglint: standard input is given twice\n{USAGE}")
+            }
         }
     }
 }

@@ -145,6 +145,7 @@ pub use Rattle.cfgindex.specs.declared.idxnewtype.TIdx
 pub use Rattle.cfgindex.specs.declared.idxnewtype.Symbol
 pub use Rattle.cfglines.specs.declared.newlinecache.FeedError
 pub use Rattle.cfgrender.specs.declared.source.Source
+pub use Rattle.cfgrender.specs.declared.visible.Visible as VisibleText
 pub use Rattle.cfgmarks.specs.declared.markmap.behavior.MergeBehavior
 pub use Rattle.cfgmarks.specs.declared.markmap.fault.MergeError
 pub use Rattle.cfgmarks.specs.declared.markmap.fault.MergeFault

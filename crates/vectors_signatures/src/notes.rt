@@ -10,7 +10,9 @@ use cfgrammar::yacc::cycles::{
 };
 use cfgrammar::yacc::firsts::YaccFirsts;
 use cfgrammar::yacc::{YaccGrammar, YaccGrammarError};
-use cfgrammar::{Hint, Positions, Source, Span, Spanned, Storage, hint_for, render, render_all};
+use cfgrammar::{
+    Hint, Positions, Source, Span, Spanned, Storage, Visible, hint_for, render, render_all,
+};
 use std::alloc::{AllocError, Global};
 
 /// An error, and several, as a person reads them; and their text, with the offsets of its lines and with a name.
@@ -31,6 +33,11 @@ pub fn rendered<'a, E: Spanned>(
         Positions::new(alloc, text),
         Source::new(alloc, "file.y", text),
     )
+}
+
+/// A text as it is shown.
+pub fn shown(text: &str) -> Visible<'_> {
+    Visible(text)
 }
 
 /// An error of a text, and a note.

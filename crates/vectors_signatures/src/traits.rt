@@ -14,7 +14,9 @@ use cfgrammar::yacc::{
     AssocKind, Precedence, YaccFault, YaccGrammarError, YaccGrammarErrorKind, YaccGrammarWarning,
     YaccGrammarWarningKind, YaccKind, YaccOriginalActionKind,
 };
-use cfgrammar::{FeedError, Location, PIdx, RIdx, SIdx, Span, SpansKind, Symbol, TIdx, Vob, span};
+use cfgrammar::{
+    FeedError, Location, PIdx, RIdx, SIdx, Span, SpansKind, Symbol, TIdx, Visible, Vob, span,
+};
 use cfgtool::{ReportFault, SinkFault};
 use std::error::Error;
 use std::fmt::{Debug, Display};
@@ -147,7 +149,7 @@ pub fn traits() {
     are_printed::<
         MergeError<u32, String>,
         HeaderError<Span>,
-        ast::Symbol,
+        Visible<'static>,
         MergeError<u32, String>,
     >();
 }
