@@ -1,11 +1,13 @@
 //! What the program's arguments request.
 
-ghost use Rattle.std.specs.Prelude.{◌≡◌, IfOk, map};
+ghost use Rattle.std.specs.Prelude.{◌≡◌, IfOk, codes, map};
+ghost use Rattle.std.specs.List.{count_by};
 ghost use Rattle.std.specs.Option.{option_map_or};
+ghost use Rattle.std.specs.Str.{bytes_eq};
 ghost use Rattle.cfglint_shell.specs.declared.usage.ValueOption.TheVariants as value_option;
 ghost use Rattle.cfglint_shell.specs.Inner.{options_view, requested_view, step_view, usage_error_view};
 ghost use Rattle.cfglint_shell.specs.Requests.{at_end, has_summary, is_option, name_of, no_options, requested};
-ghost use Rattle.cfglint_shell.specs.Requests.{standard_inputs};
+ghost use Rattle.cfglint_shell.specs.Requests.{requested_files};
 ghost use Rattle.cfglint_shell.specs.Requests.{with_argument, with_expected, with_finding, with_option, with_value};
 ghost use Rattle.cfglint_shell.specs.Requests as requests;
 
@@ -137,16 +139,19 @@ impl<'a> Options<'a> {
     {
         match expected {
             Expected::Value(option) => Some(UsageError::MissingValue(option)),
-            _ if self.files.is_empty() => Some(UsageError::NoFile),
-            _ => (self.standard_inputs() > 1).then_some(UsageError::StandardInputTwice),
+            Expected::Argument | Expected::File => self.wrong_files(),
         }
     }
 
-    /// How many of the files are standard input.
-    fn standard_inputs(&self) -> usize
-        ensures { result ≡ standard_inputs (options_view self.now) }
+    /// What is wrong with the files, if anything is.
+    fn wrong_files(&self) -> Option<UsageError<'a>>
+        ensures { requested_files (options_view self.now) (options_view self.now).files ≡ option_map_or
+            (λ error. requests.Wrong (usage_error_view error)) result (requests.Lint (options_view self.now)) }
     {
-        self.files.iter().filter(|file| **file == "-").count()
+        if self.files.is_empty() {
+            return Some(UsageError::NoFile);
+        }
+        (standard_inputs(&self.files) > 1).then_some(UsageError::StandardInputTwice)
     }
 
     /// Takes the next argument.
@@ -257,4 +262,11 @@ fn is_option(argument: &str) -> bool
     ensures { result ≡ is_option argument.now }
 {
     argument.starts_with('-') && argument != "-"
+}
+
+/// How many of the files are standard input.
+fn standard_inputs(files: &[&str]) -> usize
+    ensures { result ≡ count_by (λ file. bytes_eq file.now (codes "-")) files.now }
+{
+    files.iter().filter(|file| **file == "-").count()
 }
