@@ -1,10 +1,9 @@
 -- What arguments request, one by one.
-use Rattle.std.proofs.Common.{◌≡◌, ℕ, ◌+◌, ◌<◌, ◌≤◌, Bool, nat_lt, if◌then◌else◌, List, [], ◌∷◌, length, map, drop, get_or, refl, sym, ap, subst, ◌∙◌, arith}
+use Rattle.std.proofs.Common.{◌≡◌, ℕ, ◌+◌, ◌<◌, ◌≤◌, List, ◌∷◌, length, map, drop, get_or, sym, subst, ◌∙◌}
 use Rattle.std.specs.Borrow.{Bor}
-use Rattle.std.specs.List.{count_by}
 use Rattle.std.proofs.lemmas.List.{at_drop_all, at_drop_more}
 use Rattle.cfglint_shell.specs.declared.arguments.Expected.{Expected}
-use Rattle.cfglint_shell.specs.Requests.{Requested, Lint, Options, Wrong, NoFile, StandardInputTwice, Step, Goes, Stops, arguments_request, at_end, on_step, requested_files, standard_inputs, with_expected}
+use Rattle.cfglint_shell.specs.Requests.{Requested, Options, Step, Goes, Stops, arguments_request, at_end, on_step, with_expected}
 
 module _ (expected : Expected) (options : Options) (arguments : List (Bor (List ℕ))) (i : ℕ) (requested : Requested)
     (asks : arguments_request expected options (map (λ argument. argument.now) (drop i arguments)) ≡ requested) where
@@ -34,26 +33,3 @@ module _ (expected : Expected) (options : Options) (arguments : List (Bor (List 
   pub past_arguments : length arguments ≤ i → at_end options expected ≡ requested
   unfolding arguments_request
   past_arguments past = sym (at_drop_all (λ rest. arguments_request expected options (map (λ argument. argument.now) rest)) arguments i past) ∙ asks
-
--- what is requested where no value is missing, without a file and with some
-pub without_files : (options : Options) → length options.files ≡ 0 → requested_files options options.files ≡ Wrong NoFile
-without_files options none = go options.files none
-  where
-    go : (files : List (List ℕ)) → length files ≡ 0 → requested_files options files ≡ Wrong NoFile
-    go [] none = refl
-    go (file ∷ files) none = absurd (omega arith)
-
-pub with_files : (options : Options) → (length options.files ≡ 0 → ⊥)
-    → requested_files options options.files ≡ (if nat_lt 1 (standard_inputs options) then Wrong StandardInputTwice else Lint options)
-with_files options some = go options.files some
-  where
-    go : (files : List (List ℕ)) → (length files ≡ 0 → ⊥)
-        → requested_files options files ≡ (if nat_lt 1 (standard_inputs options) then Wrong StandardInputTwice else Lint options)
-    go [] some = absurd (some refl)
-    go (file ∷ files) some = refl
-
--- as many of the code's files are standard input
-pub standard_inputs_now : (test : List ℕ → Bool) (files : List (Bor (List ℕ)))
-    → count_by (λ file. test file.now) files ≡ count_by test (map (λ file. file.now) files)
-standard_inputs_now test [] = refl
-standard_inputs_now test (file ∷ files) = ap (λ n. (if test file.now then 1 else 0) + n) (standard_inputs_now test files)
