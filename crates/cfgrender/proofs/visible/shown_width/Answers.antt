@@ -10,7 +10,7 @@ returns-then-is_escaped c =
     let bound = escape.ensures.bound in
     let all : length escape.result.chars ≡ 10 = search rules in
     let back = length-drop escape.result.from escape.result.chars in
-    let front = length-take (escape.result.to - escape.result.from) (drop escape.result.from escape.result.chars) in
+    let first = length-take (escape.result.to - escape.result.from) (drop escape.result.from escape.result.chars) in
     omega (arith, c.len.ensures.value)
 
 pub returns-else-is_escaped : goal.returns-else-is_escaped
