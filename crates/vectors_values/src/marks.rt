@@ -1,9 +1,8 @@
 //! Rows on maps whose keys have marks: scripts of calls.
 
-ghost use Rattle.std.specs.Cmp.{tied_itself};
+ghost use Rattle.std.specs.Cmp.{nat_cmp_total, tied_itself};
 ghost use Rattle.std.specs.Cmp.Lexicographic.{nat_list_cmp_total};
 ghost use Rattle.std.specs.String.{string_bytes};
-ghost use Rattle.std.proofs.Common.{rules};
 ghost use Rattle.cfgrammar.specs.Marks.{IsFaithful};
 
 mod entry;
@@ -30,7 +29,7 @@ trait Key: Ord + Clone + Debug + Drop {
 }
 
 impl Key for u32 {
-    ghost faithful = { Prim.search rules };
+    ghost faithful = { λ number copy same. rw same (tied_itself nat_cmp_total number) };
 
     fn of(_: Global, word: &str) -> Result<u32, AllocError> {
         Ok(small(word))
