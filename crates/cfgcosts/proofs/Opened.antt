@@ -45,7 +45,7 @@ module _ (g content : Grammar) (cost : ℕ → ℕ) (r : ℕ) (opened : ℕ → 
   free_after f (Err NoSentence) walked stopped refused = refused (inl refl)
   free_after f (Err CostTooLarge) walked stopped refused = refused (inr refl)
 
--- what yields nothing consists of rules of cost 0
+-- (cited by the wrong body free-rules-opened alone, from here on) what yields nothing consists of rules of cost 0
 free_parts : (g : Grammar) (cost : ℕ → ℕ) {a : List Sym} {w : List ℕ} → trees.Yields (HasProduction g) a w → w ≡ [] → Split (IsFree g cost) a w
 free_parts g cost trees.empty nil = done
 free_parts g cost (trees.token h) nil = absurd (cc)
@@ -90,7 +90,7 @@ module _ (x : CostTables) (n : ℕ) (is : IsGenerator x n) (grammar : IsGrammar 
         together = counts.together;
       })
 
--- rules of cost 0 are the same, whatever the tokens cost
+-- (cited by the wrong body walk-to-a-costlier-sentence alone, from here on) rules of cost 0 are the same, whatever the tokens cost
 free_still : (g : Grammar) (costs : List ℕ) (other : ℕ → ℕ) → IsGrammar g → length costs ≡ g.tokens → All (λ c. 0 < c) costs
     → (r : ℕ) → Least (HasProduction g) (slice_index costs) r 0 → Least (HasProduction g) other r 0
 free_still g costs other grammar tokens positive r least =

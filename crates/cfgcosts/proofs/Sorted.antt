@@ -84,7 +84,8 @@ module _ {K : Type 0} (f : K → List ℕ) where
                 (contains_mapped f once u (subst (λ l. Contains l u) (sym (dedup_is eq sorted once filtered)) there))),
           )
 
--- of all minimal sentences, listed in lexicographic order, each is minimal, and the first is the first minimal one
+-- (cited by wrong bodies alone, from here on) of all minimal sentences, listed in lexicographic order, each is minimal, and the first is the
+-- first minimal one
 module _ {S : Type 0} (number : S → ℕ) (P : ℕ → List Sym → Type 0) (cost : ℕ → ℕ) (r : ℕ) where
   pub listed_minimal : (sentences : List (Vec (TIdx S) Global)) → ((w : List ℕ) → Contains (map (numbers_of number) sentences) w ↔ Minimal P cost r w)
       → (i : ℕ) (word : Vec (TIdx S) Global) → i < length sentences → word ≡ get_or sentences i word → Minimal P cost r (numbers_of number word)
