@@ -7,26 +7,26 @@ use Rattle.cfgrammar.specs.KindSource.{KindSource}
 use Rattle.cfgrammar.specs.KindSource.TheVariants as sources
 use Rattle.cfgrammar.specs.Named.{HasOneNaming, Names, Naming}
 use Rattle.cfgrammar.specs.Numbered.{Numbered}
-use Rattle.cfgrammar.specs.OfItself.{ReturnsItself, ReturnsNaming, ReturnsOr}
+use Rattle.cfgrammar.specs.SelfNamed.{ReturnsNamed, ReturnsNaming, ReturnsNamedOr}
 use Rattle.cfgrammar.specs.Parsed.{Parsed}
 use Rattle.cfgrammar.specs.Syntax.{Syntax}
 use Rattle.cfgrammar.specs.YaccFault.{YaccFault}
 use Rattle.cfgrammar.specs.YaccKind.{YaccKind}
-use Rattle.cfgrammar.proofs.OfItself.{parsed_itself}
+use Rattle.cfgrammar.proofs.SelfNamed.{parsed_named}
 use Rattle.cfgprogram.specs.declared.kinds.KindArg.{KindArg}
 use Rattle.cfgprogram.specs.declared.kinds.KindArg.TheVariants.{Named, Section}
 use Rattle.cfgdriver.specs.ReadText.{IsFound, IsMadeOfRead, IsMadeOfReadOr, IsReadAs, itself, taken}
 
-pub for_each : (text : List ℕ) (result : Result Parsed YaccFault) → HasOneNaming text → ReturnsItself text result
+pub for_each : (text : List ℕ) (result : Result Parsed YaccFault) → HasOneNaming text → ReturnsNamed text result
     → (naming : Naming) → Names text naming → ReturnsNaming text naming result
 for_each text result one results naming names =
     subst (λ n. ReturnsNaming text n result) (one.only results.1.0 results.1.1 ∙ sym (one.only naming names)) results.1.2
 
 -- what a text is found to be that was parsed where no kind is requested
 pub found_or : (default : YaccKind) (text : List ℕ) → HasOneNaming text → (parsed : Parsed) (source : KindSource)
-    → ReturnsOr default text (Ok (parsed, source)) → (kind : KindArg) × IsReadAs default text None kind × IsFound kind text (WasRead parsed)
+    → ReturnsNamedOr default text (Ok (parsed, source)) → (kind : KindArg) × IsReadAs default text None kind × IsFound kind text (WasRead parsed)
 found_or default text one parsed sources.Default results = (Named default, taken results.0, results.1)
-found_or default text one parsed sources.Section results = (Section, itself results.0, parsed_itself text one parsed (for_each text (Ok parsed) one results))
+found_or default text one parsed sources.Section results = (Section, itself results.0, parsed_named text one parsed (for_each text (Ok parsed) one results))
 
 module _ {Made : Type 0} (OfErrors : Option Syntax → List GrammarError → Made → Type 0) (OfGrammar : Syntax → Numbered → Made → Type 0) where
   -- what is made of the errors that keep a text from naming a kind

@@ -129,7 +129,7 @@ fn read_requested<R, T: TextReader<R>>(
 {
     match kind {
         KindArg::Named(kind) => read_as(alloc, kind, text, reader),
-        KindArg::Section => read_itself(alloc, text, reader),
+        KindArg::Section => read_by_section(alloc, text, reader),
     }
 }
 
@@ -144,7 +144,7 @@ fn read_unrequested<R, T: TextReader<R>>(
         None default text.now) }
 {
     match ASTWithValidityInfo::from_str_or(alloc, default, text) {
-        Ok((parsed, _source)) => made_of(alloc, text, parsed, reader),
+        Ok((parsed, _source)) => finish(alloc, text, parsed, reader),
         Err(YaccFault::Errors(errors)) => Ok((reader.errors(alloc, text, None, &errors)?, None)),
         Err(YaccFault::OutOfMemory) => Err(AllocError),
     }
@@ -161,11 +161,11 @@ fn read_as<R, T: TextReader<R>>(
         × IfOk result (IsMadeOfRead (T.of_errors reader.now text.now) (T.of_grammar reader.now text.now) found) }
 {
     let parsed = ASTWithValidityInfo::new(alloc, kind, text)?;
-    made_of(alloc, text, parsed, reader)
+    finish(alloc, text, parsed, reader)
 }
 
 /// What is made of a text as a file of the kind that it names, and that kind.
-fn read_itself<R, T: TextReader<R>>(
+fn read_by_section<R, T: TextReader<R>>(
     alloc: Global,
     text: &str,
     reader: &T,
@@ -174,14 +174,14 @@ fn read_itself<R, T: TextReader<R>>(
         × IfOk result (IsMadeOfRead (T.of_errors reader.now text.now) (T.of_grammar reader.now text.now) found) }
 {
     match ASTWithValidityInfo::from_str(alloc, text) {
-        Ok(parsed) => made_of(alloc, text, parsed, reader),
+        Ok(parsed) => finish(alloc, text, parsed, reader),
         Err(YaccFault::Errors(errors)) => Ok((reader.errors(alloc, text, None, &errors)?, None)),
         Err(YaccFault::OutOfMemory) => Err(AllocError),
     }
 }
 
 /// What is made of a text that reads as this, and the kind that it was read as.
-fn made_of<R, T: TextReader<R>>(
+fn finish<R, T: TextReader<R>>(
     alloc: Global,
     text: &str,
     parsed: ASTWithValidityInfo,
@@ -192,12 +192,12 @@ fn made_of<R, T: TextReader<R>>(
         (WasRead parsed)) }
 {
     let kind = parsed.yacc_kind();
-    let made = lend(parsed, |parsed| made_of_parsed(alloc, text, parsed, reader))?;
+    let made = lend(parsed, |parsed| finish_parsed(alloc, text, parsed, reader))?;
     Ok((made, Some(kind)))
 }
 
 /// What is made of a text that reads as this.
-fn made_of_parsed<R, T: TextReader<R>>(
+fn finish_parsed<R, T: TextReader<R>>(
     alloc: Global,
     text: &str,
     parsed: &ASTWithValidityInfo,
@@ -208,14 +208,14 @@ fn made_of_parsed<R, T: TextReader<R>>(
         (WasRead parsed.now)) }
 {
     match YaccGrammar::<u32>::check_ast(alloc, parsed) {
-        Ok(()) => made_of_valid(alloc, text, parsed, reader),
+        Ok(()) => finish_valid(alloc, text, parsed, reader),
         Err(YaccFault::Errors(errors)) => reader.errors(alloc, text, Some(parsed.ast()), &errors),
         Err(YaccFault::OutOfMemory) => Err(AllocError),
     }
 }
 
 /// What is made of a text that reads as this, which has a grammar.
-fn made_of_valid<R, T: TextReader<R>>(
+fn finish_valid<R, T: TextReader<R>>(
     alloc: Global,
     text: &str,
     parsed: &ASTWithValidityInfo,

@@ -11,5 +11,5 @@ pub use Rattle.cfgcosts.proofs.Joins
 pub use Rattle.cfgtree.proofs.Found
 pub use Rattle.cfgnumbers.proofs.ListedPositions
 pub use Rattle.cfgnumbers.proofs.Turns
-pub use Rattle.cfgyacc.proofs.OfItself
+pub use Rattle.cfgyacc.proofs.SelfNamed
 pub use Rattle.cfgyacc.proofs.Shows

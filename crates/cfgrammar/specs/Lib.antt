@@ -122,7 +122,7 @@ pub use Rattle.cfgnumbers.specs.TablesView
 pub use Rattle.cfgnumbers.specs.WellNumbered
 pub use Rattle.cfgsyntax.specs.EveryError
 pub use Rattle.cfgsyntax.specs.Faults
-pub use Rattle.cfgsyntax.specs.OfItself
+pub use Rattle.cfgsyntax.specs.SelfNamed
 pub use Rattle.cfgsyntax.specs.Parsed
 pub use Rattle.cfgsyntax.specs.Reads
 pub use Rattle.cfgsyntax.specs.ErrorSpans

@@ -1,6 +1,6 @@
 mod After
 pub mod ErrorOffsets
 pub mod FirstOfEvery
-pub mod OfItselfLemmas
+pub mod SelfNamedLemmas
 pub mod OneReading
 pub mod SoundLemmas

@@ -2,7 +2,7 @@
 pub mod EveryError
 pub mod Faults
 pub mod Inner
-pub mod OfItself
+pub mod SelfNamed
 pub mod Parsed
 pub mod Reads
 pub mod ErrorSpans

@@ -1,6 +1,6 @@
 pub mod Built
 pub mod Counted
-pub mod OfItself
+pub mod SelfNamed
 pub mod OfParsed
 pub mod Refusals
 pub mod Shows

@@ -9,7 +9,7 @@ use Rattle.cfgsection.specs.Named.{HasOneNaming, Naming, Names}
 use Rattle.cfgerrors.specs.declared.error.YaccFault.{YaccFault}
 use Rattle.cfgerrors.specs.declared.error.YaccFault.TheVariants as faults
 use Rattle.cfgsyntax.specs.Faults.{errors_of}
-use Rattle.cfgsyntax.specs.OfItself.{ReturnsNaming, IsParsedAs}
+use Rattle.cfgsyntax.specs.SelfNamed.{ReturnsNaming, IsParsedAs}
 use Rattle.cfgsyntax.specs.Parsed.{Parsed}
 use Rattle.cfgsyntax.specs.ErrorSpans.{EachFaultSpan, EachParsedSpan}
 use Rattle.cfgsyntax.specs.Reads.{HasOneReading, Reads, Stop}
@@ -17,7 +17,7 @@ use Rattle.cfgyacc.specs.Answer.{Found, WasRead, IsAnswer, IsRefused}
 use Rattle.cfgyacc.specs.GrammarOf.{IsGrammarOf, IsGrammarOfItself}
 use Rattle.cfgyacc.specs.GrammarSpans.{EachAnswerSpan}
 use Rattle.cfgnumbers.specs.Numbered.{Numbered}
-use Rattle.cfgyacc.proofs.OfItself.{IsFaultOf, is_parsed_of, parsed_itself, parsed_of, refused_itself}
+use Rattle.cfgyacc.proofs.SelfNamed.{IsFaultOf, is_parsed_of, parsed_named, parsed_of, refused_named}
 
 -- a fault that becomes another kind of fault, while a value stays
 pub carried : {T E D : Type 0} (P : T → Type 0) (Q : E → D → Type 0) (made : Result T E) (mapped : Result T D) → MatchResult made (λ x. mapped ≡ Ok x) (λ e. IsErrAnd mapped (Q e))
@@ -62,9 +62,9 @@ module _ (text : List ℕ) (max : ℕ) (result : Result Numbered YaccFault) wher
 
   pub of_itself : (parsed : Result Parsed YaccFault) → HasOneNaming text → ((naming : Naming) → Names text naming → ReturnsNaming text naming parsed)
       → IsOf parsed → IsGrammarOfItself text max result
-  of_itself (Ok parsed) one is of = (WasRead parsed, parsed_itself text one parsed is, of.answer)
+  of_itself (Ok parsed) one is of = (WasRead parsed, parsed_named text one parsed is, of.answer)
   of_itself (Err fault) one is of =
-      let it = refused_itself text one fault is in
+      let it = refused_named text one fault is in
       (it.0, it.1, subst (IsAnswer max it.0) (sym of.refused) (fault_results max fault it.0 it.2))
 
 -- the spans of the result

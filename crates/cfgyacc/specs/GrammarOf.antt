@@ -4,7 +4,7 @@ use Rattle.cfgkinds.specs.declared.kind.YaccKind.{YaccKind}
 use Rattle.cfgsection.specs.Named.{HasOneNaming, Naming}
 use Rattle.cfgerrors.specs.Errors.{header_error}
 use Rattle.cfgerrors.specs.declared.error.YaccFault.{YaccFault}
-use Rattle.cfgsyntax.specs.OfItself.{IsParsedAs}
+use Rattle.cfgsyntax.specs.SelfNamed.{IsParsedAs}
 use Rattle.cfgyacc.specs.Answer.{Found, Unnamed, WasRead, IsAnswer}
 use Rattle.cfgnumbers.specs.Numbered.{Numbered}
 

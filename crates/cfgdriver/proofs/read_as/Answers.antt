@@ -1,6 +1,6 @@
 use Rattle.std.proofs.lemmas.Result.{err_from_is_err_and}
 use Rattle.cfgrammar.specs.Answer.{WasRead}
-use Rattle.cfgrammar.proofs.OfItself.{is_parsed_of, parsed_of}
+use Rattle.cfgrammar.proofs.SelfNamed.{is_parsed_of, parsed_of}
 use Rattle.cfgdriver.proofs.read_as.Goals as goal
 
 pub returns-in_err-parsed : goal.returns-in_err-parsed
@@ -12,4 +12,4 @@ returns-in_err-parsed g c =
 pub returns : goal.returns
 returns g c =
     let parsed = c.in_ok-parsed.ensures in
-    (WasRead c.in_ok-parsed.parsed, record { one = parsed.one; kind_is = parsed.kind; syntax = parsed.syntax; errors = parsed.errors }, c.made_of.ensures)
+    (WasRead c.in_ok-parsed.parsed, record { one = parsed.one; kind_is = parsed.kind; syntax = parsed.syntax; errors = parsed.errors }, c.finish.ensures)

@@ -18,7 +18,7 @@ ghost use Rattle.cfgsection.specs.Named.{HasOneNaming, Names, Naming};
 ghost use Rattle.cfgsyntax.specs.Faults.{errors_of};
 ghost use Rattle.cfgwords.specs.TextSpans.{IsPiece, IsWithin};
 ghost use Rattle.cfgsyntax.specs.Inner.Steps.{IsReadSection};
-ghost use Rattle.cfgsyntax.specs.OfItself.{ReturnsNaming, ReturnsOr, IsParsedAs};
+ghost use Rattle.cfgsyntax.specs.SelfNamed.{ReturnsNaming, ReturnsNamedOr, IsParsedAs};
 ghost use Rattle.cfgsyntax.specs.Reads.{Reads, HasOneReading, Stop};
 ghost use Rattle.cfgtree.specs.Sound.{IsSound};
 ghost use Rattle.cfgsyntax.specs.ErrorSpans.{EachFaultSpan, EachParsedSpan};
@@ -119,7 +119,7 @@ impl ASTWithValidityInfo {
         text: &str,
     ) -> YaccGrammarResult<(Self, KindSource)>
         ensures one { HasOneNaming text.now }
-        ensures answer { ReturnsOr default text.now result }
+        ensures answer { ReturnsNamedOr default text.now result }
         ensures offsets { IfOk result (λ x. EachParsedSpan (IsPiece text.now) (IsWithin text.now) x.0) }
         ensures fault_offsets { IfErr result (EachFaultSpan (IsPiece text.now)) }
         ensures listed { IfErr result ListsErrors }

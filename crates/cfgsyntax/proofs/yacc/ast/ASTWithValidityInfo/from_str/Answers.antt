@@ -1,4 +1,4 @@
-use Rattle.cfgsyntax.proofs.OfItselfLemmas.{parsed_as, refusal, refused_at, refused_listed}
+use Rattle.cfgsyntax.proofs.SelfNamedLemmas.{parsed_as, refusal, refused_at, refused_listed}
 use Rattle.cfgsyntax.proofs.yacc.ast.ASTWithValidityInfo.from_str.Goals as goal
 
 pub returns-in-Err-clause-answer : goal.returns-in-Err-clause-answer

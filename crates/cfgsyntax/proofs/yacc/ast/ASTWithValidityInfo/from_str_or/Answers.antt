@@ -1,5 +1,5 @@
 use Rattle.cfgsection.proofs.NamedLemmas.{one_naming}
-use Rattle.cfgsyntax.proofs.OfItselfLemmas.{parsed_default, parsed_named, refusal_or, refused_at, refused_listed}
+use Rattle.cfgsyntax.proofs.SelfNamedLemmas.{parsed_default, parsed_named, refusal_or, refused_at, refused_listed}
 use Rattle.cfgsyntax.proofs.yacc.ast.ASTWithValidityInfo.from_str_or.Goals as goal
 use Rattle.cfgsyntax.proofs.yacc.ast.ASTWithValidityInfo.from_str_or.Goals.{in-None, in-Some}
 

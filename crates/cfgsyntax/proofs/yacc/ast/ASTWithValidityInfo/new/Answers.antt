@@ -1,5 +1,5 @@
 use Rattle.std.proofs.lemmas.Result.{IfOk-weaker}
-use Rattle.cfgsyntax.specs.OfItself.{IsParsedAs}
+use Rattle.cfgsyntax.specs.SelfNamed.{IsParsedAs}
 use Rattle.cfgsyntax.proofs.yacc.ast.ASTWithValidityInfo.new.Goals as goal
 
 pub returns-clause-kind : goal.returns-clause-kind

@@ -2,7 +2,7 @@ use Rattle.std.proofs.Common.{◌≡◌, rules, sym, subst}
 use Rattle.std.proofs.lemmas.Result.{IfErr-weaker}
 use Rattle.cfgwords.specs.TextSpans.{IsPiece, IsWithin}
 use Rattle.cfgerrors.specs.declared.error.YaccFault.TheVariants as faults
-use Rattle.cfgsyntax.specs.OfItself.{IsParsedAs}
+use Rattle.cfgsyntax.specs.SelfNamed.{IsParsedAs}
 use Rattle.cfgsyntax.specs.ErrorSpans.{EachFaultSpan, EachParsedSpan}
 use Rattle.cfgyacc.proofs.OfParsed.{answer_spans, carried, carried_fault, of_kind, parsed_as}
 use Rattle.cfgyacc.proofs.Refusals.{grammar_lists}

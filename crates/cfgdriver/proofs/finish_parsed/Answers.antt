@@ -6,7 +6,7 @@ use Rattle.cfgrammar.specs.Syntax.{Syntax}
 use Rattle.cfgrammar.specs.TextSpans.{IsPiece}
 use Rattle.cfgrammar.specs.TreeView.{syntax}
 use Rattle.cfgdriver.specs.ReadText.{IsMadeOf, IsMadeOfGrammar}
-use Rattle.cfgdriver.proofs.made_of_parsed.Goals as goal
+use Rattle.cfgdriver.proofs.finish_parsed.Goals as goal
 
 pub errors-requires : goal.errors-requires
 errors-requires g c =
@@ -19,7 +19,7 @@ returns-in-Ok g c =
     let OfErrors = g.T.TextReader.of_errors c.args.reader.now c.args.text.now in
     let OfGrammar = g.T.TextReader.of_grammar c.args.reader.now c.args.text.now in
     let found = WasRead c.args.parsed.now in
-    IfOk-weaker c.made_of_valid.result (IsMadeOfGrammar OfGrammar found) (IsMadeOf OfErrors OfGrammar found) (λ made is. inr is) c.made_of_valid.ensures
+    IfOk-weaker c.finish_valid.result (IsMadeOfGrammar OfGrammar found) (IsMadeOf OfErrors OfGrammar found) (λ made is. inr is) c.finish_valid.ensures
 
 pub returns-in-Err-Errors : goal.returns-in-Err-Errors
 returns-in-Err-Errors g c =

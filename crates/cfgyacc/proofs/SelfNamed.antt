@@ -7,7 +7,7 @@ use Rattle.cfgerrors.specs.declared.error.YaccFault.{YaccFault}
 use Rattle.cfgerrors.specs.declared.error.YaccFault.TheVariants as faults
 use Rattle.cfgast.specs.Syntax.{syntax_of}
 use Rattle.cfgsyntax.specs.Faults.{errors_of}
-use Rattle.cfgsyntax.specs.OfItself.{IsParsedAs, ReturnsNaming}
+use Rattle.cfgsyntax.specs.SelfNamed.{IsParsedAs, ReturnsNaming}
 use Rattle.cfgsyntax.specs.Parsed.{Parsed}
 use Rattle.cfgsyntax.specs.Reads.{HasOneReading}
 use Rattle.cfgsyntax.proofs.OneReading.{one_reading}
@@ -31,9 +31,9 @@ parsed_named text parsed (Ok kind) is = is
 parsed_named text parsed (Err errors) is = absurd is
 
 -- if the text was parsed as the kind that it names
-pub parsed_itself : (text : List ℕ) → HasOneNaming text → (parsed : Parsed) → ((naming : Naming) → Names text naming → ReturnsNaming text naming (Ok parsed))
+pub parsed_named : (text : List ℕ) → HasOneNaming text → (parsed : Parsed) → ((naming : Naming) → Names text naming → ReturnsNaming text naming (Ok parsed))
     → IsFoundItself text (WasRead parsed)
-parsed_itself text one parsed answer = (one, parsed_named text parsed one.naming (answer one.naming one.names))
+parsed_named text one parsed answer = (one, parsed_named text parsed one.naming (answer one.naming one.names))
 
 -- what is found if nothing was parsed: the errors that are returned, or anything if memory ran out
 abbrev pub IsFaultOf : YaccFault → Found → Type 0
@@ -47,8 +47,8 @@ refused_named text (faults.Errors reported) (Ok kind) is = absurd is
 refused_named text (faults.Errors reported) (Err errors) is = (Unnamed (map header_error errors), refl, sym (ap Unnamed is))
 
 -- if nothing was parsed
-pub refused_itself : (text : List ℕ) → HasOneNaming text → (fault : YaccFault) → ((naming : Naming) → Names text naming → ReturnsNaming text naming (Err fault))
+pub refused_named : (text : List ℕ) → HasOneNaming text → (fault : YaccFault) → ((naming : Naming) → Names text naming → ReturnsNaming text naming (Err fault))
     → (found : Found) × IsFoundItself text found × IsFaultOf fault found
-refused_itself text one fault answer =
+refused_named text one fault answer =
     let it = refused_named text fault one.naming (answer one.naming one.names) in
     (it.0, (one, it.1), it.2)

@@ -6,7 +6,7 @@ use Rattle.cfgrammar.specs.TextSpans.{IsPiece, IsWithin}
 use Rattle.cfgrammar.specs.Syntax.{Syntax, EachSpan}
 use Rattle.cfgrammar.specs.TreeView.{syntax}
 use Rattle.cfgdriver.specs.ReadText.{IsMadeOfGrammar}
-use Rattle.cfgdriver.proofs.made_of_valid.Goals as goal
+use Rattle.cfgdriver.proofs.finish_valid.Goals as goal
 
 pub tree-requires : goal.tree-requires
 tree-requires g c = subst (EachSpan (IsPiece c.args.text.now) (IsWithin c.args.text.now)) (sym c.ast.ensures.value) c.requires.spans.syntax

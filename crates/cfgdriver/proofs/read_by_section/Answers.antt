@@ -4,9 +4,9 @@ use Rattle.cfgrammar.specs.Answer.{WasRead}
 use Rattle.cfgrammar.specs.ErrorSpans.{EachErrorSpan}
 use Rattle.cfgrammar.specs.TextSpans.{IsPiece}
 use Rattle.cfgrammar.specs.YaccFault.TheVariants as faults
-use Rattle.cfgrammar.proofs.OfItself.{parsed_itself, refused_itself}
+use Rattle.cfgrammar.proofs.SelfNamed.{parsed_named, refused_named}
 use Rattle.cfgdriver.proofs.ByNaming.{made_unnamed}
-use Rattle.cfgdriver.proofs.read_itself.Goals as goal
+use Rattle.cfgdriver.proofs.read_by_section.Goals as goal
 
 pub errors-requires : goal.errors-requires
 errors-requires g c =
@@ -17,13 +17,13 @@ errors-requires g c =
 pub returns-in-Ok : goal.returns-in-Ok
 returns-in-Ok g c =
     let parsed = c.in-Ok.ensures in
-    (WasRead c.in-Ok.parsed, parsed_itself c.args.text.now parsed.one c.in-Ok.parsed parsed.answer, c.made_of.ensures)
+    (WasRead c.in-Ok.parsed, parsed_named c.args.text.now parsed.one c.in-Ok.parsed parsed.answer, c.finish.ensures)
 
 pub returns-in_ok-errors-in-Err-Errors : goal.returns-in_ok-errors-in-Err-Errors
 returns-in_ok-errors-in-Err-Errors g c =
     let answer = rw c.in-Err-Errors.field-0-is at c.in-Err-Errors.ensures.answer in
     let errors = rw c.in-Err-Errors.errors-is at c.deref.ensures.value in
-    let it = refused_itself c.args.text.now c.in-Err-Errors.ensures.one (faults.Errors c.in-Err-Errors.errors) answer in
+    let it = refused_named c.args.text.now c.in-Err-Errors.ensures.one (faults.Errors c.in-Err-Errors.errors) answer in
     let OfErrors = g.T.TextReader.of_errors c.args.reader.now c.args.text.now in
     let OfGrammar = g.T.TextReader.of_grammar c.args.reader.now c.args.text.now in
     let made = c.in_ok-errors-in-Err-Errors.field-0 in
@@ -32,12 +32,12 @@ returns-in_ok-errors-in-Err-Errors g c =
 pub returns-in_err-errors-in-Err-Errors : goal.returns-in_err-errors-in-Err-Errors
 returns-in_err-errors-in-Err-Errors g c =
     let answer = rw c.in-Err-Errors.field-0-is at c.in-Err-Errors.ensures.answer in
-    let it = refused_itself c.args.text.now c.in-Err-Errors.ensures.one (faults.Errors c.in-Err-Errors.errors) answer in
+    let it = refused_named c.args.text.now c.in-Err-Errors.ensures.one (faults.Errors c.in-Err-Errors.errors) answer in
     let p = err_from_is_err_and c.from_residual.result c.from_residual.ensures.1 in
     rw p.1 (it.0, it.1, tt)
 
 pub returns-in-Err-OutOfMemory : goal.returns-in-Err-OutOfMemory
 returns-in-Err-OutOfMemory g c =
     let answer = rw c.in-Err-OutOfMemory.field-0-is at c.in-Err-OutOfMemory.ensures.answer in
-    let it = refused_itself c.args.text.now c.in-Err-OutOfMemory.ensures.one faults.OutOfMemory answer in
+    let it = refused_named c.args.text.now c.in-Err-OutOfMemory.ensures.one faults.OutOfMemory answer in
     (it.0, it.1, tt)

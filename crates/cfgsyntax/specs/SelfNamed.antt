@@ -37,12 +37,12 @@ ReturnsNaming text (Ok kind) result = ReturnsKind kind text result
 ReturnsNaming text (Err errors) result = ReturnsErrors (map header_error errors) result
 
 -- The text names a kind, or has errors that keep it from naming one, and this is the result.
-abbrev pub ReturnsItself : List ℕ → Result Parsed YaccFault → Type 0
-ReturnsItself text result = (NamesNoKind text → ⊥) × ((naming : Naming) × Names text naming × ReturnsNaming text naming result)
+abbrev pub ReturnsNamed : List ℕ → Result Parsed YaccFault → Type 0
+ReturnsNamed text result = (NamesNoKind text → ⊥) × ((naming : Naming) × Names text naming × ReturnsNaming text naming result)
 
 -- for a text that is read as a file of this kind if it names none
-abbrev pub ReturnsOr : YaccKind → List ℕ → Result (Parsed × KindSource) YaccFault → Type 0
-ReturnsOr default text (Ok (parsed, sources.Default)) = NamesNoKind text × IsParsedAs default text parsed
-ReturnsOr default text (Ok (parsed, sources.Section)) = ReturnsItself text (Ok parsed)
-ReturnsOr default text (Err faults.OutOfMemory) = Unit {0}
-ReturnsOr default text (Err (faults.Errors reported)) = ReturnsItself text (Err (faults.Errors reported))
+abbrev pub ReturnsNamedOr : YaccKind → List ℕ → Result (Parsed × KindSource) YaccFault → Type 0
+ReturnsNamedOr default text (Ok (parsed, sources.Default)) = NamesNoKind text × IsParsedAs default text parsed
+ReturnsNamedOr default text (Ok (parsed, sources.Section)) = ReturnsNamed text (Ok parsed)
+ReturnsNamedOr default text (Err faults.OutOfMemory) = Unit {0}
+ReturnsNamedOr default text (Err (faults.Errors reported)) = ReturnsNamed text (Err (faults.Errors reported))

@@ -17,7 +17,7 @@ use Rattle.cfgerrors.specs.declared.error.YaccFault.TheVariants as faults
 use Rattle.cfgsyntax.specs.declared.yacc.ast.source.KindSource.{KindSource}
 use Rattle.cfgsyntax.specs.declared.yacc.ast.source.KindSource.TheVariants as sources
 use Rattle.cfgsyntax.specs.Inner.Steps.{IsFaultOf}
-use Rattle.cfgsyntax.specs.OfItself.{IsParsedAs, ReturnsNaming, ReturnsOr}
+use Rattle.cfgsyntax.specs.SelfNamed.{IsParsedAs, ReturnsNaming, ReturnsNamedOr}
 use Rattle.cfgsyntax.specs.Parsed.{Parsed}
 use Rattle.cfgsyntax.specs.ErrorSpans.{EachErrorSpan, EachFaultSpan}
 use Rattle.cfgsyntax.proofs.ErrorOffsets.{section_errors_at}
@@ -33,7 +33,7 @@ module _ (text : List ℕ) where
   refusal naming (header.Errors errors) (faults.Errors shown) is same = subst (λ n. ReturnsNaming text n (Err (faults.Errors shown))) (sym is) same
   refusal naming header.OutOfMemory (faults.Errors shown) is same = absurd same
 
-  pub refusal_or : (default : YaccKind) (fault : HeaderFault) (shown : YaccFault) → IsKindIfNamed text (Err fault) → IsFaultOf fault shown → ReturnsOr default text (Err shown)
+  pub refusal_or : (default : YaccKind) (fault : HeaderFault) (shown : YaccFault) → IsKindIfNamed text (Err fault) → IsFaultOf fault shown → ReturnsNamedOr default text (Err shown)
   refusal_or default fault faults.OutOfMemory is same = tt
   refusal_or default (header.Errors errors) (faults.Errors shown) is same = (is.0, (Err (errors_view errors.items), is.1, same))
   refusal_or default header.OutOfMemory (faults.Errors shown) is same = absurd same
@@ -49,16 +49,16 @@ module _ (text : List ℕ) where
 
   -- by what named the kind that it was read as
   pub parsed_named : (default : YaccKind) (named : Option YaccKind) (read_as : YaccKind × KindSource) (parsed : Parsed) (kind : YaccKind)
-      → IsKindIfNamed text (Ok named) → named ≡ Some kind → read_as ≡ (kind, sources.Section) → IsParsedAs read_as.0 text parsed → ReturnsOr default text (Ok (parsed, read_as.1))
+      → IsKindIfNamed text (Ok named) → named ≡ Some kind → read_as ≡ (kind, sources.Section) → IsParsedAs read_as.0 text parsed → ReturnsNamedOr default text (Ok (parsed, read_as.1))
   parsed_named default named read_as parsed kind is some same it =
       let names = subst (λ n. IsKindIfNamed text (Ok n)) some is in
-      subst (λ (r : YaccKind × KindSource). IsParsedAs r.0 text parsed → ReturnsOr default text (Ok (parsed, r.1))) (sym same) (λ it. (names.0, (Ok kind, names.1, it))) it
+      subst (λ (r : YaccKind × KindSource). IsParsedAs r.0 text parsed → ReturnsNamedOr default text (Ok (parsed, r.1))) (sym same) (λ it. (names.0, (Ok kind, names.1, it))) it
 
   pub parsed_default : (default : YaccKind) (named : Option YaccKind) (read_as : YaccKind × KindSource) (parsed : Parsed)
-      → IsKindIfNamed text (Ok named) → named ≡ None → read_as ≡ (default, sources.Default) → IsParsedAs read_as.0 text parsed → ReturnsOr default text (Ok (parsed, read_as.1))
+      → IsKindIfNamed text (Ok named) → named ≡ None → read_as ≡ (default, sources.Default) → IsParsedAs read_as.0 text parsed → ReturnsNamedOr default text (Ok (parsed, read_as.1))
   parsed_default default named read_as parsed is none same it =
       let names = subst (λ n. IsKindIfNamed text (Ok n)) none is in
-      subst (λ (r : YaccKind × KindSource). IsParsedAs r.0 text parsed → ReturnsOr default text (Ok (parsed, r.1))) (sym same) (λ it. (names, it)) it
+      subst (λ (r : YaccKind × KindSource). IsParsedAs r.0 text parsed → ReturnsNamedOr default text (Ok (parsed, r.1))) (sym same) (λ it. (names, it)) it
 
 pub refused_listed : (fault : HeaderFault) (shown : YaccFault) → ListsErrors fault → IsFaultOf fault shown → grammar.ListsErrors shown
 refused_listed fault faults.OutOfMemory some same = tt
