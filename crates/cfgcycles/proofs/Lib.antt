@@ -14,5 +14,3 @@ pub mod Positions
 pub mod Putting
 pub mod Reaching
 pub mod Searching
-pub mod UnitPaths
-pub mod Uses

@@ -9,11 +9,11 @@ use Rattle.derivation.specs.Grammar.{Sym, Rule, Grammar, Production, HasProducti
 use Rattle.derivation.specs.Derivation.{Derives}
 use Rattle.cfgtables.specs.Openings.{nth_production}
 use Rattle.cfgcycles.specs.CyclicGroups.{LeadsTo}
-use Rattle.cfgcycles.specs.UnitPaths.{UnitPath, DerivesRule, IsCyclic, HoldsUnit, one, more}
+use Rattle.derivation.specs.UnitPaths.{UnitPath, DerivesRule, IsCyclic, HoldsUnit, one, more}
 use Rattle.cfgcycles.specs.declared.step_paths.Step.{Step}
 use Rattle.cfgcycles.specs.StepPaths.{IsCycle, Leads}
 use Rattle.cfgcycles.specs.UnitSteps.{IsStep}
-use Rattle.cfgcycles.proofs.UnitPaths.{unit_along, path_of_units}
+use Rattle.derivation.proofs.UnitPaths.{unit_along, path_of_units}
 
 -- what is around an index
 around_position : (xs : List Sym) (k : ℕ) (x : Sym) → slice_get xs k ≡ Some x → xs ≡ take k xs ++ (x ∷ drop (k + 1) xs)

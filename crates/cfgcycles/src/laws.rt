@@ -1,24 +1,17 @@
-//! What cycles, and paths of unit steps, say of derivations; groups of cyclic rules; which productions can be used; and
-//! what `clone` of steps copies. That is derived, so the law names the impl, as in `⟦<Step as Clone>⟧`.
+//! What cycles of unit steps say of derivations; groups of cyclic rules; and what `clone` of steps copies. That is
+//! derived, so the law names the impl, as in `⟦<Step as Clone>⟧`.
 
-ghost use Rattle.std.specs.Prelude.{◌≡◌, ◌↔◌, ℕ, List, Option, Contains, length};
-ghost use Rattle.derivation.specs.Grammar.{Grammar, HasProduction, Sym, Rule};
-ghost use Rattle.derivation.specs.Sentence.{Sentence};
-ghost use Rattle.cfgcycles.specs.UnitPaths.{UnitPath, DerivesRule, IsCyclic};
+ghost use Rattle.std.specs.Prelude.{◌≡◌, ◌↔◌, ℕ, List, Option, length};
+ghost use Rattle.derivation.specs.Grammar.{Grammar, HasProduction};
+ghost use Rattle.derivation.specs.UnitPaths.{DerivesRule, IsCyclic};
 ghost use Rattle.cfgcycles.specs.CyclicGroups.{AreGroups, IsInOneGroup, LeadsTo, OnCommonCycle};
 ghost use Rattle.cfgcycles.specs.StepLists.{HasStep};
 ghost use Rattle.cfgcycles.specs.StepPaths.{IsCycle};
 ghost use Rattle.cfgcycles.specs.UnitSteps.{IsStep};
-ghost use Rattle.cfgcycles.specs.Uses.{IsUsable};
 ghost use Rattle.cfgcycles.specs.declared.groups.CyclicGroup.{CyclicGroup};
 ghost use Rattle.cfgcycles.specs.declared.step_paths.Step.{Step};
 
 use crate::step_paths::Step;
-
-/// A rule has a path of unit steps to another exactly if, in one or more steps, it derives the list of only that rule.
-pub fn unit_paths_are_derivations()
-    ensures { (g : Grammar) (a b : ℕ) → UnitPath (HasProduction g) a b ↔ DerivesRule (HasProduction g) a b }
-{}
 
 /// One or more unit steps lead from a rule to another exactly if, in one or more steps, it derives the list of only
 /// that rule.
@@ -30,13 +23,6 @@ pub fn unit_steps_are_derivations()
 pub fn cycles_are_derivations()
     ensures { (g : Grammar) (r : ℕ)
         → IsCyclic (HasProduction g) r ↔ ((path : List Step) × IsCycle (IsStep g) r path) }
-{}
-
-/// Some sentence of a rule uses a production of the rule exactly if each rule in the production is productive.
-pub fn usable_productions_hold_sentences()
-    ensures { (g : Grammar) (r : ℕ) (symbols : List Sym) → HasProduction g r symbols
-        → IsUsable (HasProduction g) r symbols ↔ ((q : ℕ) → Contains symbols (Rule q)
-        → (v : List ℕ) × Sentence (HasProduction g) q v) }
 {}
 
 /// Each cyclic rule is in exactly one group.

@@ -31,6 +31,8 @@ pub use Rattle.derivation.specs.Follow
 pub use Rattle.derivation.specs.Path
 pub use Rattle.derivation.specs.Costs
 pub use Rattle.derivation.specs.Cycles
+pub use Rattle.derivation.specs.UnitPaths
+pub use Rattle.derivation.specs.Uses
 pub use Rattle.derivation.specs.FirstSets
 pub use Rattle.derivation.specs.FollowSets
 pub use Rattle.derivation.specs.Sums
@@ -39,11 +41,9 @@ pub use Rattle.derivation.specs.CostErrorTexts
 pub use Rattle.cfgtables.specs.NumberedSymbols
 pub use Rattle.cfgtables.specs.Openings
 pub use Rattle.cfgcycles.specs.CyclicGroups
-pub use Rattle.cfgcycles.specs.UnitPaths
 pub use Rattle.cfgcycles.specs.StepLists
 pub use Rattle.cfgcycles.specs.StepPaths
 pub use Rattle.cfgcycles.specs.UnitSteps
-pub use Rattle.cfgcycles.specs.Uses
 pub use Rattle.cfganalysis.specs.Table
 pub use Rattle.cfganalysis.specs.Firsts
 pub use Rattle.cfganalysis.specs.Follows

@@ -7,8 +7,7 @@ pub use cfgcosts::laws::{
     no_minimal_sentence_begins_another, sentences_cost_their_length,
 };
 pub use cfgcycles::laws::{
-    cycles_are_derivations, cyclic_rules_are_in_one_group, unit_paths_are_derivations,
-    unit_steps_are_derivations, usable_productions_hold_sentences,
+    cycles_are_derivations, cyclic_rules_are_in_one_group, unit_steps_are_derivations,
 };
 pub use cfggreatest::laws::{
     bounded_rules_have_a_greatest_cost, sets_that_grow_are_unbounded,
@@ -20,6 +19,7 @@ pub use derivation::{
     derivations_show_cycles, extreme_sentences_cost_the_extremes, first_is_closed,
     follow_is_closed, growing_cycles_unbound, lists_begin_symbol_by_symbol,
     minimal_sentences_cost_the_least, paths_are_derivations, trees_are_derivations,
+    unit_paths_are_derivations, usable_productions_hold_sentences,
 };
 
 // What texts say.

@@ -1,6 +1,8 @@
 pub mod Concatenation
 pub mod Costs
 pub mod Cycles
+pub mod UnitPaths
+pub mod Uses
 pub mod Firsts
 pub mod Follows
 pub mod Parts

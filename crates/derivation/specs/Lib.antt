@@ -8,6 +8,8 @@ pub mod Follow
 pub mod Path
 pub mod Costs
 pub mod Cycles
+pub mod UnitPaths
+pub mod Uses
 pub mod FirstSets
 pub mod FollowSets
 pub mod Sums

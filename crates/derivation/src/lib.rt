@@ -20,6 +20,8 @@ ghost use Rattle.derivation.specs.Sentence.{Sentence, cost_of};
 ghost use Rattle.derivation.specs.Path.{Path, DerivesContaining};
 ghost use Rattle.derivation.specs.Costs.{Least, Minimal, Greatest, Unbounded};
 ghost use Rattle.derivation.specs.Cycles.{GrowingCycle, IsUseful};
+ghost use Rattle.derivation.specs.UnitPaths.{UnitPath, DerivesRule};
+ghost use Rattle.derivation.specs.Uses.{IsUsable};
 
 pub use errors::CostError;
 
@@ -122,6 +124,18 @@ pub fn a_greatest_cost_bounds()
 /// A rule has a path to another exactly if it derives, in one or more steps, a list that contains the other.
 pub fn paths_are_derivations()
     ensures { (g : Grammar) (a b : ℕ) → Path (HasProduction g) a b ↔ DerivesContaining (HasProduction g) a b }
+{}
+
+/// A rule has a path of unit steps to another exactly if, in one or more steps, it derives the list of only that rule.
+pub fn unit_paths_are_derivations()
+    ensures { (g : Grammar) (a b : ℕ) → UnitPath (HasProduction g) a b ↔ DerivesRule (HasProduction g) a b }
+{}
+
+/// Some sentence of a rule uses a production of the rule exactly if each rule in the production is productive.
+pub fn usable_productions_hold_sentences()
+    ensures { (g : Grammar) (r : ℕ) (symbols : List Sym) → HasProduction g r symbols
+        → IsUsable (HasProduction g) r symbols ↔ ((q : ℕ) → Contains symbols (Rule q)
+        → (v : List ℕ) × Sentence (HasProduction g) q v) }
 {}
 
 /// If a rule with a growing cycle is useful for a rule, this has sentences that cost more than any given number.

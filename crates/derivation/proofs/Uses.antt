@@ -7,7 +7,7 @@ use Rattle.derivation.specs.Tree.{Yields, empty, token}
 use Rattle.derivation.specs.Sentence.{Sentence}
 use Rattle.derivation.proofs.Paths.{around}
 use Rattle.derivation.proofs.Trees.{trees_split, trees_join, trees_from_derivation, derivation_from_trees}
-use Rattle.cfgcycles.specs.Uses.{IsUsable}
+use Rattle.derivation.specs.Uses.{IsUsable}
 
 module _ (P : ℕ → List Sym → Type 0) where
   -- the rules of a sequence of trees are productive

@@ -2,7 +2,7 @@
 use Rattle.std.proofs.Common.{◌≡◌, ℕ, List, [], ◌∷◌, ◌++◌, ◌⊎◌, inl, inr, append_assoc, append-nil, refl, sym, subst, ◌∙◌}
 use Rattle.derivation.specs.Grammar.{Sym, Rule, Token}
 use Rattle.derivation.specs.Derivation.{Step, Derives, none, next}
-use Rattle.cfgcycles.specs.UnitPaths.{DerivesRule, HoldsUnit, UnitPath, one, more}
+use Rattle.derivation.specs.UnitPaths.{DerivesRule, HoldsUnit, UnitPath, one, more}
 use Rattle.derivation.proofs.Concatenation.{derives_trans, derives_left, derives_right, derives_both, derives_production, step_production}
 use Rattle.derivation.proofs.Parts.{in_parts}
 
