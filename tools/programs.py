@@ -173,7 +173,7 @@ class Program:
 
     def is_kept(self):
         """Whether the program is kept, and undamaged."""
-        made = content(self.path())
+        made = os.access(self.path(), os.X_OK) and content(self.path())
         return bool(made) and content(f"{self.path()}.sum") == hashlib.sha256(made).hexdigest().encode()
 
     def room_for_build(self):
@@ -183,7 +183,7 @@ class Program:
         """Puts the program that was built in its place, with its checksum."""
         room = self.room_for_build()
         write(f"{room}/program.sum", hashlib.sha256(content(f"{room}/program")).hexdigest().encode())
-        if os.path.isfile(self.kept) or os.path.islink(self.kept):
+        if os.path.isfile(self.kept):
             os.remove(self.kept)
         os.makedirs(self.kept, exist_ok=True)
         remove(os.path.dirname(self.path()))
