@@ -11,11 +11,6 @@ from concurrent.futures import ThreadPoolExecutor
 ROOT = os.path.dirname(os.path.dirname(os.path.dirname(os.path.realpath(__file__))))
 TEXTS, ANSWERS = (f"crates/vectors/data/original/{it}" for it in ("texts.rows", "answers.txt"))
 LONG = "crates/vectors/data/long/beginnings"
-# bin/ and what builds its programs have tests of their own
-TOOLS = """bench beside costs_by_rules expected.py fuzz gate_runs gate_times large lint_by_rules long_rows original_rows
-pages picture real_runs refuse rows_by_rules samples sizes_by_rules surface words wrong_bodies""".split()
-
-
 # crates whose files are changed
 CRATES = {"vectors", "vectors_signatures", "cfganalysis"}
 
@@ -272,16 +267,19 @@ def test_wrong_bodies(room):
 def test_help(room):
     """Each tool prints its usage if that is requested, and as an error if it is given what it doesn't know."""
     copy = copied(room)
+    tools = sorted(f"tools/{it.name}" for it in os.scandir(f"{copy}/tools") if it.is_file() and os.access(it, os.X_OK))
+    assert len(tools) >= 24, tools
 
     def ends(tool, argument):
         given = {"stdin": subprocess.DEVNULL, "capture_output": True, "check": False, "timeout": 60}
-        ran = subprocess.run([f"{copy}/tools/{tool}", argument], **given)
+        ran = subprocess.run([f"{copy}/{tool}", argument], **given)
         return tool, ran.returncode, len(ran.stdout) > 100, len(ran.stderr) > 50
 
     with ThreadPoolExecutor(4) as lanes:
-        for found in lanes.map(lambda it: ends(it, "--help"), TOOLS):
-            assert found[1:] == (0, True, False), f"--help: {found}"
-        for found in lanes.map(lambda it: ends(it, "--nosuch"), TOOLS):
+        for argument in ("-h", "--help"):
+            for found in lanes.map(lambda it: ends(it, argument), [*tools, ".ci/run", "bin/cfgtool", "bin/try"]):
+                assert found[1:] == (0, True, False), f"{argument}: {found}"
+        for found in lanes.map(lambda it: ends(it, "--nosuch"), tools):
             assert found[1:] == (2, False, True), f"--nosuch: {found}"
 
 
