@@ -165,6 +165,30 @@ def test_rows(room):
             fails(copy, words, "tools/expected.py", "check")
 
 
+def test_nothing_to_find(room):
+    """Nothing is found, and a list that expects nothing doesn't make that right."""
+    copy = copied(room)
+    none = lambda it: re.sub(r"(?<=^rows lint/many.rows: )\d+", "0", it, flags=re.M)
+    with changed(copy, "crates/vectors/data/lint/many.rows", emptied), changed(copy, "tools/expected.txt", none):
+        fails(copy, "rows lint/many.rows: 0 found, 0 expected", "tools/expected.py", "check")
+
+
+def test_other_numbers(room):
+    """Each checker counts what it is about to check, and fails if the list has another number."""
+    copy, both = copied(room), ["/bin/true", "/bin/true"]
+    write(f"{room}/bin/cc", "#!/bin/sh\n", 0o755)
+    given = {"CFGTOOL": "/bin/true", "CFGLINT": "/bin/true", "PATH": f"{room}/bin:{os.environ['PATH']}"}
+    for what, command in [
+        ("refuse rows", ["refuse", "--program", "/bin/true"]),
+        ("real_runs runs of cfglint", ["real_runs", *both]),
+        ("large shapes of cfgtool", ["large"]),
+        ("words words", ["words"]),
+        ("samples README.md findings", ["samples", *both]),
+    ]:
+        with changed(copy, "tools/expected.txt", without(rf"^{what}: .*?\n")):
+            fails(copy, f"{what}: ", f"tools/{command[0]}", *command[1:], **given)
+
+
 def test_original_rows(room):
     copy = copied(room)
     both = ["tools/original_rows", "--program", "/bin/true"]
