@@ -15,7 +15,6 @@ import shutil
 import signal
 import struct
 import subprocess
-import sys
 import time
 
 ROOT = os.path.dirname(os.path.dirname(os.path.realpath(__file__)))
@@ -34,6 +33,24 @@ class Stopped(Exception):
 
 def stop(why):
     raise Stopped(why)
+
+
+def say(text):
+    """Writes a line to standard error, if it takes one. Where nobody reads it, a program is built all the same."""
+    try:
+        with open(2, "wb", closefd=False) as it:
+            it.write(os.fsencode(f"{text}\n"))
+    except OSError:
+        pass
+
+
+def hold_closed_streams():
+    """Keeps other files out of the places of closed streams. For the program that is run they are closed again."""
+    for it in range(3):
+        try:
+            os.fstat(it)
+        except OSError:
+            os.open(os.devnull, os.O_RDWR)
 
 
 class Kit:
@@ -156,7 +173,7 @@ class Program:
 
     def is_kept(self):
         """Whether the program is kept, and undamaged."""
-        made = content(self.path())
+        made = os.access(self.path(), os.X_OK) and content(self.path())
         return bool(made) and content(f"{self.path()}.sum") == hashlib.sha256(made).hexdigest().encode()
 
     def room_for_build(self):
@@ -166,7 +183,7 @@ class Program:
         """Puts the program that was built in its place, with its checksum."""
         room = self.room_for_build()
         write(f"{room}/program.sum", hashlib.sha256(content(f"{room}/program")).hexdigest().encode())
-        if os.path.isfile(self.kept) or os.path.islink(self.kept):
+        if os.path.isfile(self.kept):
             os.remove(self.kept)
         os.makedirs(self.kept, exist_ok=True)
         remove(os.path.dirname(self.path()))
@@ -281,12 +298,14 @@ def lock(folder, say):
 
 
 def end_on_signals(name, clean):
-    """Has a signal end this process with one line. What it started ends with it (guarded() of rtlib)."""
+    """Has a signal end this process, after one line. What it started ends with it (guarded() of rtlib)."""
 
     def end(number, _):
-        os.write(2, f"{name}: stopped by {signal.Signals(number).name}\n".encode())
+        say(f"{name}: stopped by {signal.Signals(number).name}")
         clean()
-        os._exit(128 + number)
+        # a shell that runs it in a loop has to see that a signal ended it
+        signal.signal(number, signal.SIG_DFL)
+        os.kill(os.getpid(), number)
 
     for it in (signal.SIGINT, signal.SIGTERM, signal.SIGHUP):
         if signal.getsignal(it) != signal.SIG_IGN:
@@ -297,5 +316,4 @@ def become(program, arguments):
     """Runs the program in place of this process."""
     for it in (signal.SIGPIPE, signal.SIGXFSZ):
         signal.signal(it, signal.SIG_DFL)
-    sys.stderr.flush()
     os.execv(program, [program, *arguments])

@@ -11,11 +11,6 @@ from concurrent.futures import ThreadPoolExecutor
 ROOT = os.path.dirname(os.path.dirname(os.path.dirname(os.path.realpath(__file__))))
 TEXTS, ANSWERS = (f"crates/vectors/data/original/{it}" for it in ("texts.rows", "answers.txt"))
 LONG = "crates/vectors/data/long/beginnings"
-# bin/ and what builds its programs have tests of their own
-TOOLS = """bench beside costs_by_rules expected.py fuzz gate_runs gate_times large lint_by_rules long_rows original_rows
-pages picture real_runs refuse rows_by_rules samples sizes_by_rules surface words wrong_bodies""".split()
-
-
 # crates whose files are changed
 CRATES = {"vectors", "vectors_signatures", "cfganalysis"}
 
@@ -170,6 +165,30 @@ def test_rows(room):
             fails(copy, words, "tools/expected.py", "check")
 
 
+def test_nothing_to_find(room):
+    """Nothing is found, and a list that expects nothing doesn't make that right."""
+    copy = copied(room)
+    none = lambda it: re.sub(r"(?<=^rows lint/many.rows: )\d+", "0", it, flags=re.M)
+    with changed(copy, "crates/vectors/data/lint/many.rows", emptied), changed(copy, "tools/expected.txt", none):
+        fails(copy, "rows lint/many.rows: 0 found, 0 expected", "tools/expected.py", "check")
+
+
+def test_other_numbers(room):
+    """Each checker counts what it is about to check, and fails if the list has another number."""
+    copy, both = copied(room), ["/bin/true", "/bin/true"]
+    write(f"{room}/bin/cc", "#!/bin/sh\n", 0o755)
+    given = {"CFGTOOL": "/bin/true", "CFGLINT": "/bin/true", "PATH": f"{room}/bin:{os.environ['PATH']}"}
+    for what, command in [
+        ("refuse rows", ["refuse", "--program", "/bin/true"]),
+        ("real_runs runs of cfglint", ["real_runs", *both]),
+        ("large shapes of cfgtool", ["large"]),
+        ("words words", ["words"]),
+        ("samples README.md findings", ["samples", *both]),
+    ]:
+        with changed(copy, "tools/expected.txt", without(rf"^{what}: .*?\n")):
+            fails(copy, f"{what}: ", f"tools/{command[0]}", *command[1:], **given)
+
+
 def test_original_rows(room):
     copy = copied(room)
     both = ["tools/original_rows", "--program", "/bin/true"]
@@ -272,16 +291,19 @@ def test_wrong_bodies(room):
 def test_help(room):
     """Each tool prints its usage if that is requested, and as an error if it is given what it doesn't know."""
     copy = copied(room)
+    tools = sorted(f"tools/{it.name}" for it in os.scandir(f"{copy}/tools") if it.is_file() and os.access(it, os.X_OK))
+    assert len(tools) >= 24, tools
 
     def ends(tool, argument):
         given = {"stdin": subprocess.DEVNULL, "capture_output": True, "check": False, "timeout": 60}
-        ran = subprocess.run([f"{copy}/tools/{tool}", argument], **given)
+        ran = subprocess.run([f"{copy}/{tool}", argument], **given)
         return tool, ran.returncode, len(ran.stdout) > 100, len(ran.stderr) > 50
 
     with ThreadPoolExecutor(4) as lanes:
-        for found in lanes.map(lambda it: ends(it, "--help"), TOOLS):
-            assert found[1:] == (0, True, False), f"--help: {found}"
-        for found in lanes.map(lambda it: ends(it, "--nosuch"), TOOLS):
+        for argument in ("-h", "--help"):
+            for found in lanes.map(lambda it: ends(it, argument), [*tools, ".ci/run", "bin/cfgtool", "bin/try"]):
+                assert found[1:] == (0, True, False), f"{argument}: {found}"
+        for found in lanes.map(lambda it: ends(it, "--nosuch"), tools):
             assert found[1:] == (2, False, True), f"--nosuch: {found}"
 
 
