@@ -3,7 +3,7 @@
 ghost use Rattle.std.specs.Prelude.{◌≡◌, [], ◌∷◌, IfOk, Some, string_bytes};
 ghost use Rattle.cfgfindings.specs.Shown.{offset_of};
 
-pub use cfglint_shell::FindingKind;
+pub use finding_kinds::FindingKind;
 use cfgrammar::{Span, Spanned, SpansKind};
 use std::alloc::{AllocError, Global};
 use std::fmt;
@@ -119,7 +119,7 @@ impl Spanned for Finding {
             FindingKind::ShadowedRule
             | FindingKind::StartWithoutSentence
             | FindingKind::NoSentence
-            | FindingKind::IsCyclic
+            | FindingKind::CyclicRule
             | FindingKind::RepeatedProduction => SpansKind::DuplicationError,
             _ => SpansKind::Error,
         }

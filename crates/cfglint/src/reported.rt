@@ -9,7 +9,7 @@ ghost use Rattle.cfglint.specs.Suggestions.{most_suggestions};
 use crate::suggestion::{Names, suggestion};
 use cfgfindings::Finding;
 use cfgjson::{Diagnostic, JsonLine, push_line};
-use cfglint_shell::{Level, Levels};
+use finding_kinds::{Level, Levels};
 use cfgrammar::yacc::YaccGrammarError;
 use cfgrammar::{Positions, Source, Span, Spanned, SpansKind, hint_for};
 use std::alloc::{AllocError, Global};

@@ -5,7 +5,7 @@ use Rattle.cfgrammar.specs.SyntaxView.{precedence_entry}
 use Rattle.cfgrammar.specs.Precedence.{Precedence}
 use Rattle.cfgrammar.specs.TreeView.{syntax}
 use Rattle.cfgfindings.specs.Findings.{TakesPart}
-use Rattle.cfglint_shell.specs.declared.finding_kind.FindingKind.TheVariants.{UnusedPrecedence}
+use Rattle.finding_kinds.specs.declared.finding_kind.FindingKind.TheVariants.{UnusedPrecedence}
 use Rattle.cfgfindings.proofs.Marking.{key_at}
 use Rattle.cfgfindings.proofs.Texts.{after_quoted, shown_at}
 use Rattle.cfgfindings.proofs.precedences.IdleReporter.report.Goals as goal

@@ -4,7 +4,7 @@ use Rattle.cfgrammar.specs.Numbered.{Numbered}
 use Rattle.cfgrammar.specs.TreeView.{syntax}
 use Rattle.cfgrammar.specs.Unused.{IsStart, RuleName}
 use Rattle.cfgrammar.proofs.Shows.{rule_named}
-use Rattle.cfglint_shell.specs.declared.finding_kind.FindingKind.TheVariants.{NoSentence}
+use Rattle.finding_kinds.specs.declared.finding_kind.FindingKind.TheVariants.{NoSentence}
 use Rattle.cfgfindings.specs.Findings.{AreOthers, IsFirstRoot}
 use Rattle.cfgfindings.specs.Shown.{rule_span}
 use Rattle.cfgfindings.proofs.Texts.{no_sentence_text, shown_with}

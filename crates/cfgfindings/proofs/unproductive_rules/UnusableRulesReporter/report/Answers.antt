@@ -4,7 +4,7 @@ use Rattle.cfgrammar.specs.Numbered.{Numbered}
 use Rattle.cfgrammar.specs.TreeView.{syntax}
 use Rattle.cfgrammar.specs.Unused.{IsStart, RuleName}
 use Rattle.cfgrammar.proofs.Shows.{rule_named}
-use Rattle.cfglint_shell.specs.declared.finding_kind.FindingKind.TheVariants.{UnusableRule}
+use Rattle.finding_kinds.specs.declared.finding_kind.FindingKind.TheVariants.{UnusableRule}
 use Rattle.cfgfindings.specs.Findings.{IsUnproductiveRule}
 use Rattle.cfgfindings.proofs.Read.{rule_seen}
 use Rattle.cfgfindings.proofs.Texts.{shown_at, unusable_rule_reported}

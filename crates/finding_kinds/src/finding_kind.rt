@@ -1,7 +1,7 @@
 //! The kinds of findings, and the words that name them.
 
 ghost use Rattle.std.specs.Prelude.{◌≡◌};
-ghost use Rattle.cfglint_shell.specs.FindingKinds.{finding_named, word_of};
+ghost use Rattle.finding_kinds.specs.FindingKinds.{finding_named, number, word_of};
 
 /// The kind of a finding about a grammar without errors.
 #[derive(Clone, Copy, Debug, PartialEq, Eq)]
@@ -24,7 +24,7 @@ pub enum FindingKind {
     /// No sentence of the start rule uses the symbol, although productions connect it to the start rule.
     UselessSymbol,
     /// The rule is cyclic, so each of its sentences has infinitely many parse trees.
-    IsCyclic,
+    CyclicRule,
     /// The rule has an earlier production with the same symbols, so each sentence by one of the two has two parse
     /// trees.
     RepeatedProduction,
@@ -36,7 +36,31 @@ pub enum FindingKind {
     OverriddenPrecedence,
 }
 
+/// The kinds, in order.
+pub(crate) const KINDS: [FindingKind; 13] = [
+    FindingKind::UnusedRule,
+    FindingKind::UnusedToken,
+    FindingKind::ShadowedRule,
+    FindingKind::StartWithoutSentence,
+    FindingKind::NoSentence,
+    FindingKind::UnusableRule,
+    FindingKind::UnusableProduction,
+    FindingKind::UselessSymbol,
+    FindingKind::CyclicRule,
+    FindingKind::RepeatedProduction,
+    FindingKind::UnusedPrecedence,
+    FindingKind::RepeatedToken,
+    FindingKind::OverriddenPrecedence,
+];
+
 impl FindingKind {
+    /// The number of the kind.
+    pub(crate) fn number(self) -> usize
+        ensures { result ≡ number self }
+    {
+        self as usize
+    }
+
     /// The word that names the kind in arguments and in reports, as `unused-rule`.
     pub fn word(self) -> &'static str
         ensures { result.now ≡ word_of self }
@@ -50,7 +74,7 @@ impl FindingKind {
             FindingKind::UnusableRule => "unusable-rule",
             FindingKind::UnusableProduction => "unusable-production",
             FindingKind::UselessSymbol => "useless-symbol",
-            FindingKind::IsCyclic => "cyclic-rule",
+            FindingKind::CyclicRule => "cyclic-rule",
             FindingKind::RepeatedProduction => "repeated-production",
             FindingKind::UnusedPrecedence => "unused-precedence",
             FindingKind::RepeatedToken => "repeated-token",
@@ -62,22 +86,6 @@ impl FindingKind {
     pub fn of_word(word: &str) -> Option<FindingKind>
         ensures { result ≡ finding_named word.now }
     {
-        let kind = match word {
-            "unused-rule" => FindingKind::UnusedRule,
-            "unused-token" => FindingKind::UnusedToken,
-            "shadowed-rule" => FindingKind::ShadowedRule,
-            "start-without-sentence" => FindingKind::StartWithoutSentence,
-            "no-sentence" => FindingKind::NoSentence,
-            "unusable-rule" => FindingKind::UnusableRule,
-            "unusable-production" => FindingKind::UnusableProduction,
-            "useless-symbol" => FindingKind::UselessSymbol,
-            "cyclic-rule" => FindingKind::IsCyclic,
-            "repeated-production" => FindingKind::RepeatedProduction,
-            "unused-precedence" => FindingKind::UnusedPrecedence,
-            "repeated-token" => FindingKind::RepeatedToken,
-            "overridden-precedence" => FindingKind::OverriddenPrecedence,
-            _ => return None,
-        };
-        Some(kind)
+        KINDS.iter().copied().find(|kind| kind.word() == word)
     }
 }
