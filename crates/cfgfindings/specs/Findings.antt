@@ -105,7 +105,7 @@ module _ (g : Numbered) where
   ReportsGroup first None = (r : ℕ) (others : List ℕ) → IsCyclicGroup first (r ∷ others) → ⊥
 
   -- an earlier production of the same rule with the same symbols
-  pub record IsTwin (p earlier : ℕ) : Type 0 where
+  pub record Repeats (p earlier : ℕ) : Type 0 where
     pub ours : p < g.start_production
     pub before : earlier < p
     pub rule : (nth_production (core g) earlier).rule ≡ (nth_production (core g) p).rule
@@ -113,8 +113,8 @@ module _ (g : Numbered) where
 
   -- if there are several, the finding is about the first
   abbrev pub ReportsRepeated : ℕ → Option ShownFinding → Type 0
-  ReportsRepeated p (Some finding) = (earlier : ℕ) × IsTwin p earlier × ((other : ℕ) → IsTwin p other → earlier ≤ other) × (finding ≡ repeated g p earlier)
-  ReportsRepeated p None = (earlier : ℕ) → IsTwin p earlier → ⊥
+  ReportsRepeated p (Some finding) = (earlier : ℕ) × Repeats p earlier × ((other : ℕ) → Repeats p other → earlier ≤ other) × (finding ≡ repeated g p earlier)
+  ReportsRepeated p None = (earlier : ℕ) → Repeats p earlier → ⊥
 
 -- the rule with this number has the name of the file's start rule
 abbrev pub IsStartRule : Syntax → Numbered → ℕ → Type 0
@@ -203,20 +203,20 @@ module _ (s : Syntax) where
   ReportsUnusedToken n None = (name : List ℕ) (span : Span) → IsUnusedToken n name span → ⊥
 
   -- A token with this name is used: a production contains it, or a production's `%prec` names it, or it is an implicit token.
-  pub data TakesPart (name : List ℕ) : Type 0 where
-    held : {production : Production} → Contains s.productions production → Contains (map name_of production.symbols) (TokenName name) → TakesPart name
-    requested : IsRequested name → TakesPart name
-    implicit : {table : List (List ℕ × Span)} → s.tables.implicit_tokens ≡ Some table → Contains (map entry_token table) (TokenName name) → TakesPart name
+  pub data IsUsed (name : List ℕ) : Type 0 where
+    held : {production : Production} → Contains s.productions production → Contains (map name_of production.symbols) (TokenName name) → IsUsed name
+    requested : IsRequested name → IsUsed name
+    implicit : {table : List (List ℕ × Span)} → s.tables.implicit_tokens ≡ Some table → Contains (map entry_token table) (TokenName name) → IsUsed name
 
   -- the n-th token that is given a precedence isn't used; most often its name is misspelled
-  pub record IsIdle (n : ℕ) (name : List ℕ) (span : Span) : Type 0 where
+  pub record IsUnusedPrecedence (n : ℕ) (name : List ℕ) (span : Span) : Type 0 where
     pub precedence : Precedence
     pub given : slice_get s.tables.precedences n ≡ Some (name, (precedence, span))
-    pub idle : TakesPart name → ⊥
+    pub unused : IsUsed name → ⊥
 
-  abbrev pub ReportsPrecedence : ℕ → Option ShownFinding → Type 0
-  ReportsPrecedence n (Some finding) = (name : List ℕ) × (span : Span) × IsIdle n name span × (finding ≡ unused_precedence name span)
-  ReportsPrecedence n None = (name : List ℕ) (span : Span) → IsIdle n name span → ⊥
+  abbrev pub ReportsUnusedPrecedence : ℕ → Option ShownFinding → Type 0
+  ReportsUnusedPrecedence n (Some finding) = (name : List ℕ) × (span : Span) × IsUnusedPrecedence n name span × (finding ≡ unused_precedence name span)
+  ReportsUnusedPrecedence n None = (name : List ℕ) (span : Span) → IsUnusedPrecedence n name span → ⊥
 
 -- the findings for rules and tokens of the syntax, then those for rules, productions, precedences and declarations, one list after the other
 pub record AreReportedInTurn (s : Syntax) (g : Numbered) (reported : List ShownFinding) : Type 0 where
@@ -241,7 +241,7 @@ pub record AreReportedInTurn (s : Syntax) (g : Numbered) (reported : List ShownF
   pub are_useless_tokens : ReportsBelow (ReportsUselessToken g) (length g.tokens) useless_tokens
   pub are_cycles : ReportsBelow (ReportsGroup g) (length g.rules) cycles
   pub are_repeats : ReportsBelow (ReportsRepeated g) g.start_production repeats
-  pub are_precedences : ReportsBelow (ReportsPrecedence s) (length s.tables.precedences) precedences
+  pub are_precedences : ReportsBelow (ReportsUnusedPrecedence s) (length s.tables.precedences) precedences
   pub is : reported ≡ unused_rules ++ (unused_tokens ++ (shadowed
       ++ (without ++ (unusable_rules ++ (unusable_productions ++ (useless_rules ++ (useless_tokens ++ (cycles ++ (repeats ++ (precedences
       ++ (map repeated_token s.repeated_tokens ++ map overridden_precedence s.overridden_precedences)))))))))))
