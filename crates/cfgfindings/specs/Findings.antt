@@ -17,7 +17,7 @@ use Rattle.cfgrammar.specs.Precedence.{Precedence}
 use Rattle.cfgrammar.specs.Unused.{IsStart, IsUnused, RuleName, TokenName, entry_token, name_of}
 use Rattle.cfgrammar.specs.Openings.{nth_production}
 use Rattle.cfgrammar.specs.Numbered.{Numbered, core}
-use Rattle.cfgfindings.specs.Roots.{DependsOn, IsRoot}
+use Rattle.cfgfindings.specs.SinkGroups.{DependsOn, IsInSinkGroup}
 use Rattle.cfgfindings.specs.Shown.{ShownFinding, cyclic_finding, no_sentence, offset_of, overridden_precedence, repeated, repeated_token, rule_name, shadowed_rule, start_without_sentence, unusable, unusable_rule, unused_precedence, unused_rule, unused_token, useless_rule, useless_token}
 use Rattle.cfgfindings.specs.Useless.{IsUseless}
 
@@ -40,11 +40,11 @@ module _ (g : Numbered) where
     pub ours : rules_added ≤ r
     pub none : HasNone (HasProduction (core g)) r
 
-  -- if the rule is a root, exactly the other rules of the file in its group, in ascending order; otherwise none
+  -- if the rule is in a sink group, exactly the other rules of the file in its group, in ascending order; otherwise none
   pub record AreOthers (r : ℕ) (others : List ℕ) : Type 0 where
     pub ascending : IsStrictlyIncreasing others
     pub all : (q : ℕ) → Contains others q
-        ↔ ((rules_added ≤ q) × (q ≡ r → ⊥) × IsRoot (HasProduction (core g)) r × DependsOn (HasProduction (core g)) r q)
+        ↔ ((rules_added ≤ q) × (q ≡ r → ⊥) × IsInSinkGroup (HasProduction (core g)) r × DependsOn (HasProduction (core g)) r q)
 
   -- a production of the file that no sentence of its rule uses, although the rule has one
   pub record IsUnusable (p : ℕ) : Type 0 where
@@ -126,23 +126,23 @@ module _ (s : Syntax) (g : Numbered) where
     pub unproductive : IsUnproductiveRule g r
     pub start : IsStartRule s g r
 
-  -- a root, the first rule of the file in its group, which doesn't have the start rule
-  pub record IsFirstRoot (r : ℕ) : Type 0 where
+  -- the first rule of the file in its sink group, which doesn't have the start rule
+  pub record IsFirstOfSinkGroup (r : ℕ) : Type 0 where
     pub ours : rules_added g ≤ r
-    pub root : IsRoot (HasProduction (core g)) r
+    pub sink : IsInSinkGroup (HasProduction (core g)) r
     pub first : (q : ℕ) → rules_added g ≤ q → DependsOn (HasProduction (core g)) r q → r ≤ q
     pub no_start : (q : ℕ) → rules_added g ≤ q → DependsOn (HasProduction (core g)) r q → IsStartRule s g q → ⊥
 
-  -- one finding for each group of roots, and one for an unproductive start rule
+  -- one finding for each sink group, and one for an unproductive start rule
   abbrev pub ReportsNoSentence : ℕ → Option ShownFinding → Type 0
   ReportsNoSentence r (Some finding) = (others : List ℕ) × AreOthers g r others
-      × ((IsUnproductiveStart r × (finding ≡ start_without_sentence g r others)) ⊎ (IsFirstRoot r × (finding ≡ no_sentence g r others)))
-  ReportsNoSentence r None = (IsUnproductiveStart r → ⊥) × (IsFirstRoot r → ⊥)
+      × ((IsUnproductiveStart r × (finding ≡ start_without_sentence g r others)) ⊎ (IsFirstOfSinkGroup r × (finding ≡ no_sentence g r others)))
+  ReportsNoSentence r None = (IsUnproductiveStart r → ⊥) × (IsFirstOfSinkGroup r → ⊥)
 
   -- any other unproductive rule, unless it is in such a group
   pub record IsUnusableRule (r : ℕ) : Type 0 where
     pub unproductive : IsUnproductiveRule g r
-    pub no_root : IsRoot (HasProduction (core g)) r → ⊥
+    pub no_sink : IsInSinkGroup (HasProduction (core g)) r → ⊥
     pub no_start : IsStartRule s g r → ⊥
 
   abbrev pub ReportsUnusableRule : ℕ → Option ShownFinding → Type 0
