@@ -7,7 +7,6 @@ ghost use Rattle.cfglint_shell.specs.declared.linter.LintOptions.{LintOptions};
 
 use crate::format::Format;
 use crate::linter::LintOptions;
-
 pub use finding_kinds::laws::{finding_kinds_are_distinct, levels_are_by_kind, words_name_kinds};
 
 /// A clone of options or of a format equals its source, and allocates nothing.
