@@ -4,7 +4,7 @@ use Rattle.std.proofs.lemmas.Bool.{cases_eq}
 use Rattle.std.proofs.lemmas.List.{get_or-set_other}
 use Rattle.std.proofs.lemmas.List.FromFn.{fill_by_all}
 use Rattle.finding_kinds.specs.declared.finding_kind.FindingKind.{FindingKind}
-use Rattle.finding_kinds.specs.declared.finding_kind.FindingKind.TheVariants.{UnusedRule, UnusedToken, ShadowedRule, StartWithoutSentence, NoSentence, UnusableRule, UnusableProduction, UselessSymbol, CyclicRule, RepeatedProduction, UnusedPrecedence, RepeatedToken, OverriddenPrecedence}
+use Rattle.finding_kinds.specs.declared.finding_kind.FindingKind.TheVariants.{UnusedRule}
 use Rattle.finding_kinds.specs.declared.levels.Level.{Level}
 use Rattle.finding_kinds.specs.declared.levels.Level.TheVariants.{Warn}
 use Rattle.finding_kinds.specs.declared.levels.Levels.{Levels}
@@ -15,38 +15,14 @@ abbrev kind_at : ℕ → FindingKind
 kind_at n = get_or kinds n UnusedRule
 
 kind_there : (kind : FindingKind) → kind_at (number kind) ≡ kind
-kind_there UnusedRule = refl
-kind_there UnusedToken = refl
-kind_there ShadowedRule = refl
-kind_there StartWithoutSentence = refl
-kind_there NoSentence = refl
-kind_there UnusableRule = refl
-kind_there UnusableProduction = refl
-kind_there UselessSymbol = refl
-kind_there CyclicRule = refl
-kind_there RepeatedProduction = refl
-kind_there UnusedPrecedence = refl
-kind_there RepeatedToken = refl
-kind_there OverriddenPrecedence = refl
+kind_there kind = grind arith
 
 number_within : (kind : FindingKind) → number kind < 13
 number_within kind = grind arith
 
 -- a table of all kinds has for each kind what it was made of
 entry_of : (entry : FindingKind → Level) (kind : FindingKind) → get_or (map entry kinds) (number kind) Warn ≡ entry kind
-entry_of entry UnusedRule = refl
-entry_of entry UnusedToken = refl
-entry_of entry ShadowedRule = refl
-entry_of entry StartWithoutSentence = refl
-entry_of entry NoSentence = refl
-entry_of entry UnusableRule = refl
-entry_of entry UnusableProduction = refl
-entry_of entry UselessSymbol = refl
-entry_of entry CyclicRule = refl
-entry_of entry RepeatedProduction = refl
-entry_of entry UnusedPrecedence = refl
-entry_of entry RepeatedToken = refl
-entry_of entry OverriddenPrecedence = refl
+entry_of entry kind = grind arith
 
 module _ (levels : Levels) (kind : FindingKind) (level : Level) where
   abbrev entry : FindingKind → Level

@@ -1,27 +1,14 @@
 -- Words name kinds of findings one to one.
-use Rattle.std.proofs.Common.{◌≡◌, ℕ, Bool, true, false, cond, List, [], ◌∷◌, Some, None, refl, sym, ap, ◌∙◌}
+use Rattle.std.proofs.Common.{◌≡◌, ℕ, Bool, true, false, cond, List, [], ◌∷◌, Some, None, refl, sym, ap, ◌∙◌, arith}
 use Rattle.std.specs.Prelude.{◌↔◌}
 use Rattle.std.specs.List.{find}
 use Rattle.std.specs.Str.{bytes_eq}
 use Rattle.std.proofs.lemmas.Slice.Eq.{bytes_eq-Decides}
 use Rattle.finding_kinds.specs.declared.finding_kind.FindingKind.{FindingKind}
-use Rattle.finding_kinds.specs.declared.finding_kind.FindingKind.TheVariants.{UnusedRule, UnusedToken, ShadowedRule, StartWithoutSentence, NoSentence, UnusableRule, UnusableProduction, UselessSymbol, CyclicRule, RepeatedProduction, UnusedPrecedence, RepeatedToken, OverriddenPrecedence}
 use Rattle.finding_kinds.specs.FindingKinds.{finding_named, kinds, word_of}
 
 pub word_names : (kind : FindingKind) → finding_named (word_of kind) ≡ Some kind
-word_names UnusedRule = refl
-word_names UnusedToken = refl
-word_names ShadowedRule = refl
-word_names StartWithoutSentence = refl
-word_names NoSentence = refl
-word_names UnusableRule = refl
-word_names UnusableProduction = refl
-word_names UselessSymbol = refl
-word_names CyclicRule = refl
-word_names RepeatedProduction = refl
-word_names UnusedPrecedence = refl
-word_names RepeatedToken = refl
-word_names OverriddenPrecedence = refl
+word_names kind = grind arith
 
 -- the first of some kinds with this word has this word
 named_by_word : (word : List ℕ) (kind : FindingKind) (among : List FindingKind) → find (λ kind. bytes_eq (word_of kind) word) among ≡ Some kind → word ≡ word_of kind
