@@ -7,7 +7,7 @@ pub mod OwnCycles
 pub mod Reached
 pub mod Read
 pub mod Reporting
-pub mod RootGroups
+pub mod SinkGroups
 pub mod Shadowing
 pub mod Texts
 pub mod UnproductiveRules

@@ -21,7 +21,7 @@ use Rattle.cfgrammar.specs.Syntax.{Production, RuleSymbol, Symbol, Syntax, Token
 use Rattle.cfgrammar.specs.Unused.{RuleName, TokenName, entry_token, name_of}
 use Rattle.cfgrammar.proofs.Found.{names_differ}
 use Rattle.cfgrammar.proofs.Joins.{flat_contains, flat_source}
-use Rattle.cfgfindings.specs.Findings.{IsContained, IsRequested, TakesPart, requested, held, implicit}
+use Rattle.cfgfindings.specs.Findings.{IsContained, IsRequested, IsUsed, requested, held, implicit}
 use Rattle.cfgfindings.specs.Inner.Marks.{AreMarked, Marks, contained_names, production_names, requested_names, rule_names, token_names}
 
 or_false : (b : Bool) → b ≡ (b || false)
@@ -148,8 +148,8 @@ table_names None = []
 table_names (Some table) = map entry_name table
 
 -- the names of all tokens that are used, as often as they are
-abbrev pub names_taking : Syntax → List (List ℕ)
-names_taking s = flat_map production_names s.productions ++ table_names s.tables.implicit_tokens
+abbrev pub used_names : Syntax → List (List ℕ)
+used_names s = flat_map production_names s.productions ++ table_names s.tables.implicit_tokens
 
 module _ (s : Syntax) (name : List ℕ) where
   -- the rules that productions contain
@@ -179,8 +179,8 @@ module _ (s : Syntax) (name : List ℕ) where
   from_requests h = flat_contains requested_names s.productions h.production name h.listed (from_given name h.production.precedence h.requested)
 
   -- a token is used if its name is among those
-  pub taking : Contains (names_taking s) name → TakesPart s name
-  taking among = elim (Contains-append_cases (flat_map production_names s.productions) (table_names s.tables.implicit_tokens) name among) [
+  pub used : Contains (used_names s) name → IsUsed s name
+  used among = elim (Contains-append_cases (flat_map production_names s.productions) (table_names s.tables.implicit_tokens) name among) [
     | inl by ↦ let (production, listed, h) = flat_source production_names s.productions name by in
         elim (Contains-append_cases (flat_map token_names production.symbols) (requested_names production) name h) [
           | inl k ↦ let (symbol, holds, is) = flat_source token_names production.symbols name k in
@@ -190,25 +190,25 @@ module _ (s : Syntax) (name : List ℕ) where
     | inr by ↦ table s.tables.implicit_tokens refl by
   ]
     where
-      table : (o : Option (List (List ℕ × Span))) → s.tables.implicit_tokens ≡ o → Contains (table_names o) name → TakesPart s name
+      table : (o : Option (List (List ℕ × Span))) → s.tables.implicit_tokens ≡ o → Contains (table_names o) name → IsUsed s name
       table None is h = absurd (contains_none name h)
       table (Some entries) is h = let (entry, at, same) = contains_source entry_name entries name h in
           implicit is (subst (Contains (map entry_token entries)) (ap TokenName same) (contains_mapped entry_token entries entry at))
 
   -- what a production names is named by the productions
-  by_production : (production : Production) → Contains s.productions production → Contains (production_names production) name → Contains (names_taking s) name
+  by_production : (production : Production) → Contains s.productions production → Contains (production_names production) name → Contains (used_names s) name
   by_production production listed h = Contains-append_left (flat_map production_names s.productions) (table_names s.tables.implicit_tokens) name
       (flat_contains production_names s.productions production name listed h)
 
-  pub from_taking : TakesPart s name → Contains (names_taking s) name
-  from_taking (held {production = production} listed holds) = by_production production listed
+  pub from_used : IsUsed s name → Contains (used_names s) name
+  from_used (held {production = production} listed holds) = by_production production listed
       (Contains-append_left (flat_map token_names production.symbols) (requested_names production) name
       (let (symbol, among, is) = contains_source name_of production.symbols (TokenName name) holds in
       flat_contains token_names production.symbols symbol name among (names_token name symbol is)))
-  from_taking (requested h) = by_production h.production h.listed
+  from_used (requested h) = by_production h.production h.listed
       (Contains-append_right (flat_map token_names h.production.symbols) (requested_names h.production) name
       (from_given name h.production.precedence h.requested))
-  from_taking (implicit {table = table} listed holds) =
+  from_used (implicit {table = table} listed holds) =
       Contains-append_right (flat_map production_names s.productions) (table_names s.tables.implicit_tokens) name
       (subst (λ o. Contains (table_names o) name) (sym listed)
       (let (entry, among, is) = contains_source entry_token table (TokenName name) holds in

@@ -13,8 +13,8 @@ use Rattle.cfgrammar.specs.Openings.{nth_production}
 use Rattle.cfgrammar.specs.Sentence.{Sentence}
 use Rattle.cfgrammar.specs.StepLists.{HasStep}
 use Rattle.cfgrammar.specs.Step.{Step}
-use Rattle.cfgfindings.specs.Roots.{Needs}
-use Rattle.cfgfindings.specs.Inner.Roots.{AreNeeds, AreNeedsBelow, IsLackingIn, NeedsBy, Puts, StepsTo}
+use Rattle.cfgfindings.specs.SinkGroups.{Needs}
+use Rattle.cfgfindings.specs.Inner.SinkGroups.{AreNeeds, AreNeedsBelow, IsLackingIn, NeedsBy, Puts, StepsTo}
 use Rattle.cfgfindings.proofs.Read.{has_read, production_there}
 
 puts_none : (Put : ℕ → ℕ → Type 0) (steps : List (List Step)) → ((a b : ℕ) → Put a b → ⊥) → Puts Put steps steps

@@ -7,8 +7,8 @@ use Rattle.cfgrammar.specs.Numbered.{Numbered, NumberedToken}
 use Rattle.cfgrammar.specs.Accessors.{production_part, rule_part, token_part}
 use Rattle.cfgrammar.proofs.Shows.{rule_named, token_named}
 use Rattle.cfgfindings.specs.Shown.{ShownFinding, production_span, quoted, rule_name, rule_span, token_name, token_span, unusable, unusable_rule, useless_rule, useless_token}
-use Rattle.cfglint_shell.specs.declared.finding_kind.FindingKind.{FindingKind}
-use Rattle.cfglint_shell.specs.declared.finding_kind.FindingKind.TheVariants.{UnusableProduction, UnusableRule, UselessSymbol}
+use Rattle.finding_kinds.specs.declared.finding_kind.FindingKind.{FindingKind}
+use Rattle.finding_kinds.specs.declared.finding_kind.FindingKind.TheVariants.{UnusableProduction, UnusableRule, UselessSymbol}
 
 -- what comes after a name in quotes
 pub after_quoted : (name prefix back : List ℕ) → prefix ++ (codes "'" ++ (name ++ (codes "'" ++ back))) ≡ prefix ++ (quoted name ++ back)

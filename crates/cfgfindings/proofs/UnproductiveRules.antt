@@ -14,9 +14,9 @@ use Rattle.cfgrammar.specs.Grammar.{HasProduction}
 use Rattle.cfgrammar.specs.Numbered.{Numbered, core}
 use Rattle.cfgrammar.specs.Syntax.{Syntax}
 use Rattle.cfgrammar.specs.Unused.{IsStart, RuleName}
-use Rattle.cfgfindings.specs.Findings.{AreOthers, IsFirstRoot, IsStartRule, rules_added}
-use Rattle.cfgfindings.specs.Roots.{IsRoot}
-use Rattle.cfgfindings.specs.Inner.Roots.{AreGroupOf}
+use Rattle.cfgfindings.specs.Findings.{AreOthers, IsFirstOfSinkGroup, IsStartRule, rules_added}
+use Rattle.cfgfindings.specs.SinkGroups.{IsInSinkGroup}
+use Rattle.cfgfindings.specs.Inner.SinkGroups.{AreGroupOf}
 use Rattle.cfgfindings.proofs.OwnCycles.{kept, passed}
 
 module _ (g : Numbered) (r : ℕ) (group : List ℕ) (are : AreGroupOf g r group) where
@@ -31,11 +31,11 @@ module _ (g : Numbered) (r : ℕ) (group : List ℕ) (are : AreGroupOf g r group
       (λ c.
           let (held, test) = passed is_other group q (subst (λ l. Contains l q) is c) in
           let (ours, other) = and_parts (leb (rules_added g) q) (not (eqb q r)) test in
-          let (root, depends) = (are.all q).0 held in
-          (leb-true (rules_added g) q ours, eqb-false q r (not-true (eqb q r) other), root, depends)),
+          let (sink, depends) = (are.all q).0 held in
+          (leb-true (rules_added g) q ours, eqb-false q r (not-true (eqb q r) other), sink, depends)),
       (λ h.
-          let (ours, other, root, depends) = h in
-          subst (λ l. Contains l q) (sym is) (kept is_other group q ((are.all q).1 (root, depends))
+          let (ours, other, sink, depends) = h in
+          subst (λ l. Contains l q) (sym is) (kept is_other group q ((are.all q).1 (sink, depends))
           (and_from (leb (rules_added g) q) (not (eqb q r)) (le-leb (rules_added g) q ours) (not_from_false (eqb q r) (ne_eqb q r other))))),
     );
   }
@@ -46,37 +46,37 @@ module _ (g : Numbered) (r : ℕ) (group : List ℕ) (are : AreGroupOf g r group
       let (held, test) = passed is_other group q (subst (λ l. Contains l q) is (k, lt, get_or_default others k _ d lt)) in
       All-contains (λ q. q < length g.rules) group q are.within held
 
-  -- a root has a group, and no other rule has one
+  -- a rule in a sink group has a group, and no other rule has one
   module _ (empty : Bool) (is : empty ≡ eqb (length group) 0) where
-    pub is_root_by : empty ≡ false → IsRoot (HasProduction (core g)) r
-    is_root_by some =
+    pub is_sink_by : empty ≡ false → IsInSinkGroup (HasProduction (core g)) r
+    is_sink_by some =
         let none : length group ≡ 0 → ⊥ = eqb-false (length group) 0 (sym is ∙ some) in
         ((are.all (get_or group 0 0)).0 (Contains-get_or group 0 0 (omega (arith, none)))).0
 
-    pub no_root_by : empty ≡ true → IsRoot (HasProduction (core g)) r → ⊥
-    no_root_by none root =
-        let (k, lt, at) = (are.all r).1 (root, seed refl) in
+    pub no_sink_by : empty ≡ true → IsInSinkGroup (HasProduction (core g)) r → ⊥
+    no_sink_by none sink =
+        let (k, lt, at) = (are.all r).1 (sink, seed refl) in
         let all : length group ≡ 0 = eqb-true (length group) 0 (sym is ∙ none) in
         omega (arith, lt, all)
 
   module _ (s : Syntax) where
-    pub comes_before : (q : ℕ) → Contains group q → rules_added g ≤ q → q < r → IsFirstRoot s g r → ⊥
+    pub comes_before : (q : ℕ) → Contains group q → rules_added g ≤ q → q < r → IsFirstOfSinkGroup s g r → ⊥
     comes_before q held own before first = let after = first.first q own ((are.all q).0 held).1 in omega (arith, before, after)
 
-    pub has_start : (q : ℕ) → Contains group q → rules_added g ≤ q → IsStartRule s g q → IsFirstRoot s g r → ⊥
+    pub has_start : (q : ℕ) → Contains group q → rules_added g ≤ q → IsStartRule s g q → IsFirstOfSinkGroup s g r → ⊥
     has_start q held own start first = first.no_start q own ((are.all q).0 held).1 start
 
     -- each rule of the file in the group comes after the rule, and isn't the start rule
     pub first_or_not : rules_added g ≤ r → ((q : ℕ) → Contains group q → rules_added g ≤ q → (r ≤ q) × (IsStartRule s g q → ⊥)) → (empty : Bool) → empty ≡ eqb (length group) 0
-        → MatchBool (not empty) (IsFirstRoot s g r) (IsFirstRoot s g r → ⊥)
-    first_or_not ours each true is = λ first. no_root_by true is refl first.root
+        → MatchBool (not empty) (IsFirstOfSinkGroup s g r) (IsFirstOfSinkGroup s g r → ⊥)
+    first_or_not ours each true is = λ first. no_sink_by true is refl first.sink
     first_or_not ours each false is =
-        let root = is_root_by false is refl in
+        let sink = is_sink_by false is refl in
         record {
           ours = ours;
-          root = root;
-          first = λ q own depends. (each q ((are.all q).1 (root, depends)) own).0;
-          no_start = λ q own depends. (each q ((are.all q).1 (root, depends)) own).1;
+          sink = sink;
+          first = λ q own depends. (each q ((are.all q).1 (sink, depends)) own).0;
+          no_start = λ q own depends. (each q ((are.all q).1 (sink, depends)) own).1;
         }
 
 -- whether a rule is the start rule, by its name

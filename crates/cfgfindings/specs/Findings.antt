@@ -17,7 +17,7 @@ use Rattle.cfgrammar.specs.Precedence.{Precedence}
 use Rattle.cfgrammar.specs.Unused.{IsStart, IsUnused, RuleName, TokenName, entry_token, name_of}
 use Rattle.cfgrammar.specs.Openings.{nth_production}
 use Rattle.cfgrammar.specs.Numbered.{Numbered, core}
-use Rattle.cfgfindings.specs.Roots.{DependsOn, IsRoot}
+use Rattle.cfgfindings.specs.SinkGroups.{DependsOn, IsInSinkGroup}
 use Rattle.cfgfindings.specs.Shown.{ShownFinding, cyclic_finding, no_sentence, offset_of, overridden_precedence, repeated, repeated_token, rule_name, shadowed_rule, start_without_sentence, unusable, unusable_rule, unused_precedence, unused_rule, unused_token, useless_rule, useless_token}
 use Rattle.cfgfindings.specs.Useless.{IsUseless}
 
@@ -40,11 +40,11 @@ module _ (g : Numbered) where
     pub ours : rules_added ≤ r
     pub none : HasNone (HasProduction (core g)) r
 
-  -- if the rule is a root, exactly the other rules of the file in its group, in ascending order; otherwise none
+  -- if the rule is in a sink group, exactly the other rules of the file in its group, in ascending order; otherwise none
   pub record AreOthers (r : ℕ) (others : List ℕ) : Type 0 where
     pub ascending : IsStrictlyIncreasing others
     pub all : (q : ℕ) → Contains others q
-        ↔ ((rules_added ≤ q) × (q ≡ r → ⊥) × IsRoot (HasProduction (core g)) r × DependsOn (HasProduction (core g)) r q)
+        ↔ ((rules_added ≤ q) × (q ≡ r → ⊥) × IsInSinkGroup (HasProduction (core g)) r × DependsOn (HasProduction (core g)) r q)
 
   -- a production of the file that no sentence of its rule uses, although the rule has one
   pub record IsUnusable (p : ℕ) : Type 0 where
@@ -105,7 +105,7 @@ module _ (g : Numbered) where
   ReportsGroup first None = (r : ℕ) (others : List ℕ) → IsCyclicGroup first (r ∷ others) → ⊥
 
   -- an earlier production of the same rule with the same symbols
-  pub record IsTwin (p earlier : ℕ) : Type 0 where
+  pub record Repeats (p earlier : ℕ) : Type 0 where
     pub ours : p < g.start_production
     pub before : earlier < p
     pub rule : (nth_production (core g) earlier).rule ≡ (nth_production (core g) p).rule
@@ -113,8 +113,8 @@ module _ (g : Numbered) where
 
   -- if there are several, the finding is about the first
   abbrev pub ReportsRepeated : ℕ → Option ShownFinding → Type 0
-  ReportsRepeated p (Some finding) = (earlier : ℕ) × IsTwin p earlier × ((other : ℕ) → IsTwin p other → earlier ≤ other) × (finding ≡ repeated g p earlier)
-  ReportsRepeated p None = (earlier : ℕ) → IsTwin p earlier → ⊥
+  ReportsRepeated p (Some finding) = (earlier : ℕ) × Repeats p earlier × ((other : ℕ) → Repeats p other → earlier ≤ other) × (finding ≡ repeated g p earlier)
+  ReportsRepeated p None = (earlier : ℕ) → Repeats p earlier → ⊥
 
 -- the rule with this number has the name of the file's start rule
 abbrev pub IsStartRule : Syntax → Numbered → ℕ → Type 0
@@ -126,23 +126,23 @@ module _ (s : Syntax) (g : Numbered) where
     pub unproductive : IsUnproductiveRule g r
     pub start : IsStartRule s g r
 
-  -- a root, the first rule of the file in its group, which doesn't have the start rule
-  pub record IsFirstRoot (r : ℕ) : Type 0 where
+  -- the first rule of the file in its sink group, which doesn't have the start rule
+  pub record IsFirstOfSinkGroup (r : ℕ) : Type 0 where
     pub ours : rules_added g ≤ r
-    pub root : IsRoot (HasProduction (core g)) r
+    pub sink : IsInSinkGroup (HasProduction (core g)) r
     pub first : (q : ℕ) → rules_added g ≤ q → DependsOn (HasProduction (core g)) r q → r ≤ q
     pub no_start : (q : ℕ) → rules_added g ≤ q → DependsOn (HasProduction (core g)) r q → IsStartRule s g q → ⊥
 
-  -- one finding for each group of roots, and one for an unproductive start rule
+  -- one finding for each sink group, and one for an unproductive start rule
   abbrev pub ReportsNoSentence : ℕ → Option ShownFinding → Type 0
   ReportsNoSentence r (Some finding) = (others : List ℕ) × AreOthers g r others
-      × ((IsUnproductiveStart r × (finding ≡ start_without_sentence g r others)) ⊎ (IsFirstRoot r × (finding ≡ no_sentence g r others)))
-  ReportsNoSentence r None = (IsUnproductiveStart r → ⊥) × (IsFirstRoot r → ⊥)
+      × ((IsUnproductiveStart r × (finding ≡ start_without_sentence g r others)) ⊎ (IsFirstOfSinkGroup r × (finding ≡ no_sentence g r others)))
+  ReportsNoSentence r None = (IsUnproductiveStart r → ⊥) × (IsFirstOfSinkGroup r → ⊥)
 
   -- any other unproductive rule, unless it is in such a group
   pub record IsUnusableRule (r : ℕ) : Type 0 where
     pub unproductive : IsUnproductiveRule g r
-    pub no_root : IsRoot (HasProduction (core g)) r → ⊥
+    pub no_sink : IsInSinkGroup (HasProduction (core g)) r → ⊥
     pub no_start : IsStartRule s g r → ⊥
 
   abbrev pub ReportsUnusableRule : ℕ → Option ShownFinding → Type 0
@@ -203,20 +203,20 @@ module _ (s : Syntax) where
   ReportsUnusedToken n None = (name : List ℕ) (span : Span) → IsUnusedToken n name span → ⊥
 
   -- A token with this name is used: a production contains it, or a production's `%prec` names it, or it is an implicit token.
-  pub data TakesPart (name : List ℕ) : Type 0 where
-    held : {production : Production} → Contains s.productions production → Contains (map name_of production.symbols) (TokenName name) → TakesPart name
-    requested : IsRequested name → TakesPart name
-    implicit : {table : List (List ℕ × Span)} → s.tables.implicit_tokens ≡ Some table → Contains (map entry_token table) (TokenName name) → TakesPart name
+  pub data IsUsed (name : List ℕ) : Type 0 where
+    held : {production : Production} → Contains s.productions production → Contains (map name_of production.symbols) (TokenName name) → IsUsed name
+    requested : IsRequested name → IsUsed name
+    implicit : {table : List (List ℕ × Span)} → s.tables.implicit_tokens ≡ Some table → Contains (map entry_token table) (TokenName name) → IsUsed name
 
   -- the n-th token that is given a precedence isn't used; most often its name is misspelled
-  pub record IsIdle (n : ℕ) (name : List ℕ) (span : Span) : Type 0 where
+  pub record IsUnusedPrecedence (n : ℕ) (name : List ℕ) (span : Span) : Type 0 where
     pub precedence : Precedence
     pub given : slice_get s.tables.precedences n ≡ Some (name, (precedence, span))
-    pub idle : TakesPart name → ⊥
+    pub unused : IsUsed name → ⊥
 
-  abbrev pub ReportsPrecedence : ℕ → Option ShownFinding → Type 0
-  ReportsPrecedence n (Some finding) = (name : List ℕ) × (span : Span) × IsIdle n name span × (finding ≡ unused_precedence name span)
-  ReportsPrecedence n None = (name : List ℕ) (span : Span) → IsIdle n name span → ⊥
+  abbrev pub ReportsUnusedPrecedence : ℕ → Option ShownFinding → Type 0
+  ReportsUnusedPrecedence n (Some finding) = (name : List ℕ) × (span : Span) × IsUnusedPrecedence n name span × (finding ≡ unused_precedence name span)
+  ReportsUnusedPrecedence n None = (name : List ℕ) (span : Span) → IsUnusedPrecedence n name span → ⊥
 
 -- the findings for rules and tokens of the syntax, then those for rules, productions, precedences and declarations, one list after the other
 pub record AreReportedInTurn (s : Syntax) (g : Numbered) (reported : List ShownFinding) : Type 0 where
@@ -241,7 +241,7 @@ pub record AreReportedInTurn (s : Syntax) (g : Numbered) (reported : List ShownF
   pub are_useless_tokens : ReportsBelow (ReportsUselessToken g) (length g.tokens) useless_tokens
   pub are_cycles : ReportsBelow (ReportsGroup g) (length g.rules) cycles
   pub are_repeats : ReportsBelow (ReportsRepeated g) g.start_production repeats
-  pub are_precedences : ReportsBelow (ReportsPrecedence s) (length s.tables.precedences) precedences
+  pub are_precedences : ReportsBelow (ReportsUnusedPrecedence s) (length s.tables.precedences) precedences
   pub is : reported ≡ unused_rules ++ (unused_tokens ++ (shadowed
       ++ (without ++ (unusable_rules ++ (unusable_productions ++ (useless_rules ++ (useless_tokens ++ (cycles ++ (repeats ++ (precedences
       ++ (map repeated_token s.repeated_tokens ++ map overridden_precedence s.overridden_precedences)))))))))))

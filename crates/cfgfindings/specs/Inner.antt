@@ -5,4 +5,4 @@ pub mod FirstProductions
 pub mod Unproductive
 pub mod Reached
 pub mod CyclicRules
-pub mod Roots
+pub mod SinkGroups

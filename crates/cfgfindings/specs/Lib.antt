@@ -1,5 +1,5 @@
 pub mod Shown
 pub mod Useless
-pub mod Roots
+pub mod SinkGroups
 pub mod Findings
 pub mod Inner

@@ -12,8 +12,8 @@ use Rattle.cfgrammar.specs.Check.{nowhere}
 use Rattle.cfgrammar.specs.Numbered.{Numbered, core}
 use Rattle.cfgrammar.specs.Accessors.{production_part, rule_part, sym_name}
 use Rattle.cfgrammar.specs.Openings.{nth_production}
-use Rattle.cfglint_shell.specs.declared.finding_kind.FindingKind.{FindingKind}
-use Rattle.cfglint_shell.specs.declared.finding_kind.FindingKind.TheVariants.{IsCyclic, NoSentence, OverriddenPrecedence, RepeatedProduction, RepeatedToken, ShadowedRule, StartWithoutSentence, UnusableProduction, UnusableRule, UnusedPrecedence, UnusedRule, UnusedToken, UselessSymbol}
+use Rattle.finding_kinds.specs.declared.finding_kind.FindingKind.{FindingKind}
+use Rattle.finding_kinds.specs.declared.finding_kind.FindingKind.TheVariants.{CyclicRule, NoSentence, OverriddenPrecedence, RepeatedProduction, RepeatedToken, ShadowedRule, StartWithoutSentence, UnusableProduction, UnusableRule, UnusedPrecedence, UnusedRule, UnusedToken, UselessSymbol}
 
 -- the kind of finding, its spans and its text
 pub record ShownFinding : Type 0 where
@@ -26,7 +26,7 @@ abbrev pub spanskind_of : FindingKind → SpansKind
 spanskind_of ShadowedRule = DuplicationError
 spanskind_of StartWithoutSentence = DuplicationError
 spanskind_of NoSentence = DuplicationError
-spanskind_of IsCyclic = DuplicationError
+spanskind_of CyclicRule = DuplicationError
 spanskind_of RepeatedProduction = DuplicationError
 spanskind_of _ = Error
 
@@ -129,7 +129,7 @@ module _ (g : Numbered) where
   -- that these rules are cyclic, and that the first of them is by this path of steps
   abbrev pub cyclic_finding : ℕ → List ℕ → List Step → ShownFinding
   cyclic_finding r rules path = record {
-    kind = IsCyclic;
+    kind = CyclicRule;
     spans = map rule_span rules;
     text = codes "Rule " ++ (quoted (rule_name r) ++ (codes " derives itself: " ++ (rule_name r ++ flat_map step_text path)));
   }

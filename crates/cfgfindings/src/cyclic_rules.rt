@@ -153,7 +153,7 @@ fn cyclic_group(
     let mut text = format!(in alloc; "Rule '{name}' derives itself: {name}")?;
     write_path(&mut text, grammar, path)?;
     let spans = name_spans(alloc, grammar, rules)?;
-    Ok(Finding::new(FindingKind::IsCyclic, spans, text))
+    Ok(Finding::new(FindingKind::CyclicRule, spans, text))
 }
 
 /// The spans of the rules' names.

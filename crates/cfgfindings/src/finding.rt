@@ -3,8 +3,8 @@
 ghost use Rattle.std.specs.Prelude.{◌≡◌, [], ◌∷◌, IfOk, Some, string_bytes};
 ghost use Rattle.cfgfindings.specs.Shown.{offset_of};
 
-pub use cfglint_shell::FindingKind;
 use cfgrammar::{Span, Spanned, SpansKind};
+pub use finding_kinds::FindingKind;
 use std::alloc::{AllocError, Global};
 use std::fmt;
 use std::marker::Model;
@@ -119,7 +119,7 @@ impl Spanned for Finding {
             FindingKind::ShadowedRule
             | FindingKind::StartWithoutSentence
             | FindingKind::NoSentence
-            | FindingKind::IsCyclic
+            | FindingKind::CyclicRule
             | FindingKind::RepeatedProduction => SpansKind::DuplicationError,
             _ => SpansKind::Error,
         }

@@ -5,7 +5,7 @@ ghost use Rattle.std.specs.List.{flat_map};
 ghost use Rattle.cfgrammar.specs.Syntax.{entry_name};
 ghost use Rattle.cfgrammar.specs.SyntaxView.{production_view, span_entry, symbol_view};
 ghost use Rattle.cfgrammar.specs.TreeView.{syntax};
-ghost use Rattle.cfgfindings.specs.Findings.{ReportsBelow, ReportsPrecedence, TakesPart};
+ghost use Rattle.cfgfindings.specs.Findings.{IsUsed, ReportsBelow, ReportsUnusedPrecedence};
 ghost use Rattle.cfgfindings.specs.Inner.Marks.{AreMarked, Marks, precedence_keys, production_names, token_names};
 
 use crate::finding::{Finding, FindingKind};
@@ -25,37 +25,37 @@ pub(crate) fn push_precedences(
     all: &mut Vec<Finding>,
     ast: &GrammarAST,
 ) -> Result<(), AllocError>
-    ensures { OnOk result ((reported : _) × ReportsBelow (ReportsPrecedence (syntax ast.now))
+    ensures { OnOk result ((reported : _) × ReportsBelow (ReportsUnusedPrecedence (syntax ast.now))
         (length (syntax ast.now).tables.precedences) reported × (all.new.items ≡ all.old.items ++ reported)) }
 {
-    let taking = taking_part(alloc, ast)?;
-    let idle = Idle { ast, taking };
-    push_reported(alloc, all, &idle, ast.precs().len())
+    let used = used_tokens(alloc, ast)?;
+    let unused = UnusedPrecedences { ast, used };
+    push_reported(alloc, all, &unused, ast.precs().len())
 }
 
 /// Reports tokens that are given a precedence but aren't used.
 #[derive(Drop)]
-struct Idle<'a> {
+struct UnusedPrecedences<'a> {
     ast: &'a GrammarAST,
     /// Whether the token is used, in the order of the precedences.
-    taking: Vob,
+    used: Vob,
 }
 
-impl Reporter for Idle<'_> {
+impl Reporter for UnusedPrecedences<'_> {
     ghost use Rattle.std.specs.Prelude.{length};
     ghost use Rattle.cfgrammar.specs.TreeView.{syntax};
-    ghost use Rattle.cfgfindings.specs.Findings.{ReportsPrecedence, TakesPart};
+    ghost use Rattle.cfgfindings.specs.Findings.{IsUsed, ReportsUnusedPrecedence};
     ghost use Rattle.cfgfindings.specs.Inner.Marks.{AreMarked, precedence_keys};
 
     ghost count = { λ x. length (syntax x.ast.now).tables.precedences };
 
     ghost reports = { λ x n reported.
-        AreMarked (precedence_keys (syntax x.ast.now)) (TakesPart (syntax x.ast.now)) x.taking
-        → ReportsPrecedence (syntax x.ast.now) n reported };
+        AreMarked (precedence_keys (syntax x.ast.now)) (IsUsed (syntax x.ast.now)) x.used
+        → ReportsUnusedPrecedence (syntax x.ast.now) n reported };
 
     fn report(&self, alloc: Global, number: usize) -> Result<Option<Finding>, AllocError> {
-        let takes_part = self.taking.get(number).unwrap_or(false);
-        if takes_part {
+        let is_used = self.used.get(number).unwrap_or(false);
+        if is_used {
             return Ok(None);
         }
         let Some((name, (_, span))) = self.ast.precs().get_index(number) else {
@@ -69,72 +69,72 @@ impl Reporter for Idle<'_> {
 }
 
 /// For each token that is given a precedence, in order, whether it is used.
-fn taking_part(alloc: Global, ast: &GrammarAST) -> Result<Vob, AllocError>
-    ensures { IfOk result (AreMarked (precedence_keys (syntax ast.now)) (TakesPart (syntax ast.now))) }
+fn used_tokens(alloc: Global, ast: &GrammarAST) -> Result<Vob, AllocError>
+    ensures { IfOk result (AreMarked (precedence_keys (syntax ast.now)) (IsUsed (syntax ast.now))) }
 {
-    let mut taking = Vob::from_elem(alloc, false, ast.precs().len())?;
-    mark_productions(ast, &mut taking, ast.prods());
+    let mut used = Vob::from_elem(alloc, false, ast.precs().len())?;
+    mark_productions(ast, &mut used, ast.prods());
     if let Some(table) = ast.implicit_tokens() {
-        mark_table(ast, &mut taking, table);
+        mark_table(ast, &mut used, table);
     }
-    Ok(taking)
+    Ok(used)
 }
 
 /// Marks what productions contain and what their `%prec` names.
-fn mark_productions(ast: &GrammarAST, taking: &mut Vob, productions: &[Production])
-    requires { length taking.old ≡ length (syntax ast.now).tables.precedences }
+fn mark_productions(ast: &GrammarAST, used: &mut Vob, productions: &[Production])
+    requires { length used.old ≡ length (syntax ast.now).tables.precedences }
     ensures { Marks (precedence_keys (syntax ast.now)) (flat_map production_names (map production_view productions.now))
-        taking.old taking.new }
+        used.old used.new }
 {
     for production in productions {
-        mark_production(ast, taking, production);
+        mark_production(ast, used, production);
     }
 }
 
 /// Marks what a production contains and what its `%prec` names.
-fn mark_production(ast: &GrammarAST, taking: &mut Vob, production: &Production)
-    requires { length taking.old ≡ length (syntax ast.now).tables.precedences }
+fn mark_production(ast: &GrammarAST, used: &mut Vob, production: &Production)
+    requires { length used.old ≡ length (syntax ast.now).tables.precedences }
     ensures { Marks (precedence_keys (syntax ast.now)) (production_names (production_view production.now))
-        taking.old taking.new }
+        used.old used.new }
 {
-    mark_symbols(ast, taking, &production.symbols);
+    mark_symbols(ast, used, &production.symbols);
     if let Some(name) = &production.precedence {
-        mark(ast, taking, name);
+        mark(ast, used, name);
     }
 }
 
 /// Marks the tokens among symbols.
-fn mark_symbols(ast: &GrammarAST, taking: &mut Vob, symbols: &[Symbol])
-    requires { length taking.old ≡ length (syntax ast.now).tables.precedences }
+fn mark_symbols(ast: &GrammarAST, used: &mut Vob, symbols: &[Symbol])
+    requires { length used.old ≡ length (syntax ast.now).tables.precedences }
     ensures { Marks (precedence_keys (syntax ast.now)) (flat_map token_names (map symbol_view symbols.now))
-        taking.old taking.new }
+        used.old used.new }
 {
     for symbol in symbols {
         if let Symbol::Token(name, _) = symbol {
-            mark(ast, taking, name);
+            mark(ast, used, name);
         }
     }
 }
 
 /// Marks the tokens of a table.
-fn mark_table(ast: &GrammarAST, taking: &mut Vob, table: &IndexMap<String, Span>)
-    requires { length taking.old ≡ length (syntax ast.now).tables.precedences }
+fn mark_table(ast: &GrammarAST, used: &mut Vob, table: &IndexMap<String, Span>)
+    requires { length used.old ≡ length (syntax ast.now).tables.precedences }
     ensures { Marks (precedence_keys (syntax ast.now)) (map entry_name (map span_entry table.now.entries))
-        taking.old taking.new }
+        used.old used.new }
 {
     for index in 0..table.len() {
         if let Some((name, _)) = table.get_index(index) {
-            mark(ast, taking, name);
+            mark(ast, used, name);
         }
     }
 }
 
 /// Marks the token with this name, if it is given a precedence.
-fn mark(ast: &GrammarAST, taking: &mut Vob, name: &str)
-    requires { length taking.old ≡ length (syntax ast.now).tables.precedences }
-    ensures { Marks (precedence_keys (syntax ast.now)) (name.now ∷ []) taking.old taking.new }
+fn mark(ast: &GrammarAST, used: &mut Vob, name: &str)
+    requires { length used.old ≡ length (syntax ast.now).tables.precedences }
+    ensures { Marks (precedence_keys (syntax ast.now)) (name.now ∷ []) used.old used.new }
 {
     if let Some(index) = ast.precs().get_index_of(name) {
-        taking.set(index, true);
+        used.set(index, true);
     }
 }

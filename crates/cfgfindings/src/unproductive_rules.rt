@@ -5,10 +5,10 @@ ghost use Rattle.std.specs.Prelude.{MatchBool, MatchOption, OnOk, nat_le, string
 ghost use Rattle.std.specs.List.{filter};
 ghost use Rattle.cfgrammar.specs.Accessors.{rule_part};
 ghost use Rattle.cfgrammar.specs.TreeView.{syntax};
-ghost use Rattle.cfgfindings.specs.Findings.{AreOthers, IsFirstRoot, IsUnproductiveRule};
+ghost use Rattle.cfgfindings.specs.Findings.{AreOthers, IsFirstOfSinkGroup, IsUnproductiveRule};
 ghost use Rattle.cfgfindings.specs.Findings.{ReportsBelow, ReportsNoSentence, ReportsUnusableRule};
 ghost use Rattle.cfgfindings.specs.Findings.{rules_added as added};
-ghost use Rattle.cfgfindings.specs.Inner.Roots.{AreGroupOf};
+ghost use Rattle.cfgfindings.specs.Inner.SinkGroups.{AreGroupOf};
 ghost use Rattle.cfgfindings.specs.Shown.{ShownFinding, rule_span};
 
 use crate::added::rules_added;
@@ -16,15 +16,15 @@ use crate::cyclic_rules::name_spans;
 use crate::finding::{Finding, FindingKind};
 use crate::names::is_start;
 use crate::reporter::{Reporter, push_reported};
-use crate::roots::Roots;
 use crate::sentences::Unproductive;
+use crate::sink_groups::SinkGroups;
 use cfgrammar::RIdx;
 use cfgrammar::storage::to_storage;
 use cfgrammar::yacc::YaccGrammar;
 use cfgrammar::yacc::ast::GrammarAST;
 use std::alloc::{AllocError, Global};
 
-/// Adds the unproductive start rule and the groups of roots to the findings, and then the other unproductive rules of
+/// Adds the unproductive start rule and the sink groups to the findings, and then the other unproductive rules of
 /// the file.
 pub(crate) fn push_unproductive(
     alloc: Global,
@@ -38,9 +38,9 @@ pub(crate) fn push_unproductive(
         × (all.new.items ≡ all.old.items ++ (without ++ unusable))) }
 {
     let count = usize::from(unproductive.grammar().rules_len());
-    let roots = &Roots::new(alloc, unproductive)?;
-    push_reported(alloc, all, &RulesWithout { ast, roots }, count)?;
-    push_reported(alloc, all, &UnusableRules { ast, roots }, count)
+    let sink_groups = &SinkGroups::new(alloc, unproductive)?;
+    push_reported(alloc, all, &RulesWithout { ast, sink_groups }, count)?;
+    push_reported(alloc, all, &UnusableRules { ast, sink_groups }, count)
 }
 
 /// The name of the rule, if it is an unproductive rule of the file.
@@ -59,13 +59,18 @@ fn unproductive_name<'a>(unproductive: &'a Unproductive<'_>, number: usize) -> O
     Some(grammar.rule_name_str(rule))
 }
 
-/// Whether the rule, which has this group, is a root, and the first rule of the file in the group, which doesn't have
+/// Whether the rule, which has this group, is in a sink group and its first rule of the file, and the group doesn't have
 /// the start rule.
-fn is_first_root(grammar: &YaccGrammar<u32>, ast: &GrammarAST, rule: usize, group: &[usize]) -> bool
+fn is_first_of_sink_group(
+    grammar: &YaccGrammar<u32>,
+    ast: &GrammarAST,
+    rule: usize,
+    group: &[usize],
+) -> bool
     requires ours { added grammar.now ≤ rule }
     requires group { AreGroupOf grammar.now rule group.now }
-    ensures { MatchBool result (IsFirstRoot (syntax ast.now) grammar.now rule)
-        (IsFirstRoot (syntax ast.now) grammar.now rule → ⊥) }
+    ensures { MatchBool result (IsFirstOfSinkGroup (syntax ast.now) grammar.now rule)
+        (IsFirstOfSinkGroup (syntax ast.now) grammar.now rule → ⊥) }
 {
     let first = rules_added(grammar);
     grammar.invariant_holds();
@@ -120,11 +125,11 @@ fn others_of(
         .collect(alloc)
 }
 
-/// Reports each group of roots, as the finding for its first rule, and the unproductive start rule.
+/// Reports each sink group, as the finding for its first rule, and the unproductive start rule.
 #[derive(Drop)]
 struct RulesWithout<'a, 'g> {
     ast: &'a GrammarAST,
-    roots: &'g Roots<'g>,
+    sink_groups: &'g SinkGroups<'g>,
 }
 
 impl<'a, 'g> Reporter for RulesWithout<'a, 'g> {
@@ -132,17 +137,17 @@ impl<'a, 'g> Reporter for RulesWithout<'a, 'g> {
     ghost use Rattle.cfgrammar.specs.TreeView.{syntax};
     ghost use Rattle.cfgfindings.specs.Findings.{ReportsNoSentence};
 
-    ghost count = { λ x. length x.roots.now.rules };
+    ghost count = { λ x. length x.sink_groups.now.rules };
 
-    ghost reports = { λ x. ReportsNoSentence (syntax x.ast.now) x.roots.now };
+    ghost reports = { λ x. ReportsNoSentence (syntax x.ast.now) x.sink_groups.now };
 
     fn report(&self, alloc: Global, number: usize) -> Result<Option<Finding>, AllocError> {
-        let unproductive = self.roots.unproductive();
+        let unproductive = self.sink_groups.unproductive();
         let grammar = unproductive.grammar();
         let Some(name) = unproductive_name(unproductive, number) else {
             return Ok(None);
         };
-        let group = self.roots.group(number);
+        let group = self.sink_groups.group(number);
         if is_start(self.ast, name) {
             let text = format!(in alloc;
                 "No sentence can be derived from the start rule '{name}'"
@@ -150,7 +155,7 @@ impl<'a, 'g> Reporter for RulesWithout<'a, 'g> {
             let kind = FindingKind::StartWithoutSentence;
             return Ok(Some(with_others(alloc, grammar, kind, number, group, text)?));
         }
-        if !is_first_root(grammar, self.ast, number, group) {
+        if !is_first_of_sink_group(grammar, self.ast, number, group) {
             return Ok(None);
         }
         let text = format!(in alloc; "Rule '{name}' has no sentence")?;
@@ -163,7 +168,7 @@ impl<'a, 'g> Reporter for RulesWithout<'a, 'g> {
 #[derive(Drop)]
 struct UnusableRules<'a, 'g> {
     ast: &'a GrammarAST,
-    roots: &'g Roots<'g>,
+    sink_groups: &'g SinkGroups<'g>,
 }
 
 impl<'a, 'g> Reporter for UnusableRules<'a, 'g> {
@@ -171,18 +176,18 @@ impl<'a, 'g> Reporter for UnusableRules<'a, 'g> {
     ghost use Rattle.cfgrammar.specs.TreeView.{syntax};
     ghost use Rattle.cfgfindings.specs.Findings.{ReportsUnusableRule};
 
-    ghost count = { λ x. length x.roots.now.rules };
+    ghost count = { λ x. length x.sink_groups.now.rules };
 
-    ghost reports = { λ x. ReportsUnusableRule (syntax x.ast.now) x.roots.now };
+    ghost reports = { λ x. ReportsUnusableRule (syntax x.ast.now) x.sink_groups.now };
 
     fn report(&self, alloc: Global, number: usize) -> Result<Option<Finding>, AllocError> {
-        let unproductive = self.roots.unproductive();
+        let unproductive = self.sink_groups.unproductive();
         let grammar = unproductive.grammar();
         grammar.invariant_holds();
         let Some(name) = unproductive_name(unproductive, number) else {
             return Ok(None);
         };
-        if is_start(self.ast, name) || !self.roots.group(number).is_empty() {
+        if is_start(self.ast, name) || !self.sink_groups.group(number).is_empty() {
             return Ok(None);
         }
         let text = format!(in alloc;

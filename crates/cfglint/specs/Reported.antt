@@ -18,11 +18,11 @@ use Rattle.cfgdriver.specs.ReadText.{IsFound, IsMadeOfRead, IsReadAs}
 use Rattle.cfgjson.specs.Objects.{AreJsonLines, ShownDiagnostic, diagnostic_object}
 use Rattle.cfglint_shell.specs.declared.format.Format.{Format}
 use Rattle.cfglint_shell.specs.declared.format.Format.TheVariants.{Text, Json}
-use Rattle.cfglint_shell.specs.declared.levels.Level.{Level}
-use Rattle.cfglint_shell.specs.declared.levels.Level.TheVariants.{Allow, Warn, Deny}
-use Rattle.cfglint_shell.specs.declared.levels.Levels.{Levels}
+use Rattle.finding_kinds.specs.declared.levels.Level.{Level}
+use Rattle.finding_kinds.specs.declared.levels.Level.TheVariants.{Allow, Warn, Deny}
+use Rattle.finding_kinds.specs.declared.levels.Levels.{Levels}
 use Rattle.cfglint_shell.specs.declared.linter.LintOptions.{LintOptions}
-use Rattle.cfglint_shell.specs.FindingKinds.{level_of, word_of}
+use Rattle.finding_kinds.specs.FindingKinds.{level_of, word_of}
 use Rattle.cfglint_shell.specs.Tally.{Printed}
 use Rattle.cfgfindings.specs.Findings.{AreFindings}
 use Rattle.cfgfindings.specs.Shown.{ShownFinding, spanskind_of}

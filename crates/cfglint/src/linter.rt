@@ -13,10 +13,11 @@ use crate::suggestion::Names;
 use cfgdriver::{TextReader, read_text_or};
 use cfgfindings::findings;
 use cfgjson::{JsonLine, json_lines};
-use cfglint_shell::{Format, Levels, LintOptions, Linter, Report};
+use cfglint_shell::{Format, LintOptions, Linter, Report};
 use cfgrammar::yacc::ast::GrammarAST;
 use cfgrammar::yacc::{YaccGrammar, YaccGrammarError, YaccKind, YaccOriginalActionKind};
 use cfgrammar::{Spanned, render_all};
+use finding_kinds::Levels;
 use std::alloc::{AllocError, Global};
 
 /// Reports a text's errors, or the findings about its grammar that the options don't allow, in the format that the

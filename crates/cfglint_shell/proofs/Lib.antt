@@ -1,4 +1,3 @@
 pub mod RequestedArguments
 pub mod FilesInTurn
-pub mod Words
 pub mod KindsListed

@@ -1,4 +1,3 @@
-pub mod FindingKinds
 pub mod Formats
 pub mod Requests
 pub mod KindCounts

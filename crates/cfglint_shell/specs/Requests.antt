@@ -7,14 +7,14 @@ use Rattle.cfgrammar.specs.Visible.{visible}
 use Rattle.cfgprogram.specs.Kinds.{kind_named}
 use Rattle.cfglint_shell.specs.declared.arguments.Expected.{Expected}
 use Rattle.cfglint_shell.specs.declared.arguments.Expected.TheVariants.{Argument, Value, File}
-use Rattle.cfglint_shell.specs.declared.levels.Level.{Level}
-use Rattle.cfglint_shell.specs.declared.levels.Level.TheVariants as level
+use Rattle.finding_kinds.specs.declared.levels.Level.{Level}
+use Rattle.finding_kinds.specs.declared.levels.Level.TheVariants as level
 use Rattle.cfglint_shell.specs.declared.linter.LintOptions.{LintOptions}
 use Rattle.cfglint_shell.specs.declared.usage.ValueOption.{ValueOption}
 use Rattle.cfglint_shell.specs.declared.usage.ValueOption.TheVariants.{Kind, Format, Allow, Warn, Deny, StdinName}
 use Rattle.cfglint_shell.specs.declared.format.Format.TheVariants.{Text}
 use Rattle.cfglint_shell.specs.Formats.{format_named, is_text}
-use Rattle.cfglint_shell.specs.FindingKinds.{default_levels, finding_named, with_level}
+use Rattle.finding_kinds.specs.FindingKinds.{default_levels, finding_named, with_level}
 
 -- that these files are linted, in order; the name under which standard input is reported; whether warnings are denied, and whether the
 -- summary is left out

@@ -11,12 +11,11 @@ ghost use Rattle.cfglint_shell.specs.Requests.{requested_files};
 ghost use Rattle.cfglint_shell.specs.Requests.{with_argument, with_expected, with_finding, with_option, with_value};
 ghost use Rattle.cfglint_shell.specs.Requests as requests;
 
-use crate::finding_kind::FindingKind;
 use crate::format::Format;
-use crate::levels::{Level, Levels};
 use crate::linter::LintOptions;
 use crate::usage::{UsageError, ValueOption};
 use cfgprogram::kinds::kind_of;
+use finding_kinds::{FindingKind, Level, Levels};
 use std::alloc::{AllocError, Global};
 
 /// What the arguments request.

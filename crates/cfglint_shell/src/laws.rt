@@ -1,51 +1,18 @@
-//! What `==` and `clone` of kinds of findings and of levels compare and copy, what `clone` of options copies, and what
-//! words name. The impls are derived, so each law names the impl, as in `⟦<FindingKind as PartialEq>⟧`, and is true of
-//! every value.
+//! What `clone` of options and of a format copies. The impls are derived, so each law names the impl, as in
+//! `⟦<Format as Clone>⟧`, and is true of every value.
 
-ghost use Rattle.std.specs.Prelude.{◌≡◌, ◌↔◌, IsTrue, ℕ, List, Some};
-ghost use Rattle.cfglint_shell.specs.FindingKinds.{finding_named, level_of, with_level, word_of};
-ghost use Rattle.cfglint_shell.specs.declared.finding_kind.FindingKind.{FindingKind};
+ghost use Rattle.std.specs.Prelude.{◌≡◌};
 ghost use Rattle.cfglint_shell.specs.declared.format.Format.{Format};
-ghost use Rattle.cfglint_shell.specs.declared.levels.Level.{Level};
-ghost use Rattle.cfglint_shell.specs.declared.levels.Levels.{Levels};
 ghost use Rattle.cfglint_shell.specs.declared.linter.LintOptions.{LintOptions};
 
-use crate::finding_kind::FindingKind;
 use crate::format::Format;
-use crate::levels::{Level, Levels};
 use crate::linter::LintOptions;
+pub use finding_kinds::laws::{finding_kinds_are_distinct, levels_are_by_kind, words_name_kinds};
 
-/// Each kind of finding, and each level, equals only itself. A clone equals its source, and allocates nothing.
-pub fn finding_kinds_are_distinct()
-    ensures equal { (a b : FindingKind) → IsTrue (⟦<FindingKind as PartialEq>⟧.eq a b) ↔ (a ≡ b) }
-    ensures clone { (a b : FindingKind) → ⟦<FindingKind as Clone>⟧.is_clone a b → b ≡ a }
-    ensures cloned { (a : FindingKind) → ⟦<FindingKind as Clone>⟧.is_infallible a }
-    ensures equal_levels { (a b : Level) → IsTrue (⟦<Level as PartialEq>⟧.eq a b) ↔ (a ≡ b) }
-    ensures clone_level { (a b : Level) → ⟦<Level as Clone>⟧.is_clone a b → b ≡ a }
-    ensures cloned_level { (a : Level) → ⟦<Level as Clone>⟧.is_infallible a }
-{}
-
-/// A clone of options, of the levels in them or of a format equals its source, and allocates nothing.
+/// A clone of options or of a format equals its source, and allocates nothing.
 pub fn options_are_copied()
     ensures clone_format { (a b : Format) → ⟦<Format as Clone>⟧.is_clone a b → b ≡ a }
     ensures cloned_format { (a : Format) → ⟦<Format as Clone>⟧.is_infallible a }
-    ensures clone_levels { (a b : Levels) → ⟦<Levels as Clone>⟧.is_clone a b → b ≡ a }
-    ensures cloned_levels { (a : Levels) → ⟦<Levels as Clone>⟧.is_infallible a }
     ensures clone_options { (a b : LintOptions) → ⟦<LintOptions as Clone>⟧.is_clone a b → b ≡ a }
     ensures cloned_options { (a : LintOptions) → ⟦<LintOptions as Clone>⟧.is_infallible a }
-{}
-
-/// Each kind of finding is named by its word, and by no other.
-#[tactic(auto, using(crate::proofs::Words::words_name_kinds))]
-pub fn words_name_kinds()
-    ensures { (word : List ℕ) (kind : FindingKind) → (finding_named word ≡ Some kind) ↔ (word ≡ word_of kind) }
-{}
-
-/// A kind has the level that it was given last, whatever other kinds were given.
-#[tactic(auto, using(crate::proofs::Words::given_level, crate::proofs::Words::other_level))]
-pub fn levels_are_by_kind()
-    ensures given { (levels : Levels) (kind : FindingKind) (level : Level)
-        → level_of (with_level levels kind level) kind ≡ level }
-    ensures others { (levels : Levels) (kind other : FindingKind) (level : Level)
-        → (other ≡ kind → ⊥) → level_of (with_level levels kind level) other ≡ level_of levels other }
 {}

@@ -4,11 +4,9 @@
 mod answer;
 mod arguments;
 mod files;
-mod finding_kind;
 mod format;
 mod kind_counts;
 pub mod laws;
-mod levels;
 mod linter;
 mod program;
 mod runtime;
@@ -16,9 +14,7 @@ mod summary;
 mod tally;
 mod usage;
 
-pub use finding_kind::FindingKind;
 pub use format::Format;
-pub use levels::{Level, Levels};
 pub use linter::{LintOptions, Linter, Report};
 pub use program::lint;
 pub use runtime::run_over;

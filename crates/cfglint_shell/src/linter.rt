@@ -3,9 +3,9 @@
 ghost use Rattle.std.specs.Prelude.{IfOk};
 
 use crate::format::Format;
-use crate::levels::Levels;
 use cfgprogram::KindArg;
 use cfgprogram::kinds::YaccKind;
+use finding_kinds::Levels;
 use std::alloc::{AllocError, Global};
 use std::marker::Model;
 

@@ -19,8 +19,8 @@ returns-in-Some c =
     let distinct : IsDistinct bytes_eq (map entry_name s.tables.precedences) = subst (λ (es : Entries). IsDistinct bytes_eq (map entry_name es)) c.precs.ensures (entries_differ precedence_entry (λ e. refl) entries c.in-Some.ensures.unique) in
     let found : position (bytes_eq name) (map entry_name s.tables.precedences) ≡ Some c.in-Some.index =
     ap (λ (es : Entries). position (bytes_eq name) (map entry_name es)) (sym c.precs.ensures) ∙ entry_position precedence_entry (λ e. refl) name entries ∙ sym c.in-Some.ensures.index in
-    let within : c.in-Some.index < length c.args.taking.now = omega (arith, c.requires, c.in-Some.ensures.within, length-map entries precedence_entry, ap length c.precs.ensures) in
-    subst (Marks (precedence_keys s) (name ∷ []) c.args.taking.now) (sym c.set.ensures.bits) (marks_one (precedence_keys s) distinct name c.args.taking.now c.in-Some.index within found)
+    let within : c.in-Some.index < length c.args.used.now = omega (arith, c.requires, c.in-Some.ensures.within, length-map entries precedence_entry, ap length c.precs.ensures) in
+    subst (Marks (precedence_keys s) (name ∷ []) c.args.used.now) (sym c.set.ensures.bits) (marks_one (precedence_keys s) distinct name c.args.used.now c.in-Some.index within found)
 
 pub returns-in_default : goal.returns-in_default
 returns-in_default c =
@@ -29,5 +29,5 @@ returns-in_default c =
     let entries = c.precs.result.now.entries in
     let Entries = List (List ℕ × (Precedence × Span)) in
     let distinct : IsDistinct bytes_eq (map entry_name s.tables.precedences) = subst (λ (es : Entries). IsDistinct bytes_eq (map entry_name es)) c.precs.ensures (entries_differ precedence_entry (λ e. refl) entries c.in_default.ensures.unique) in
-    marks_nothing (precedence_keys s) distinct name c.args.taking.now
+    marks_nothing (precedence_keys s) distinct name c.args.used.now
     (ap (λ (es : Entries). position (bytes_eq name) (map entry_name es)) (sym c.precs.ensures) ∙ entry_position precedence_entry (λ e. refl) name entries ∙ sym c.in_default.ensures.index)

@@ -25,5 +25,5 @@ returns c =
     let s = syntax c.args.ast.now in
     let productions = c.args.productions.now in
     let past : length productions ≤ c.loop-production.production-index = omega (arith, c.loop-production-test.false, c.loop-production.auto.production-index-end) in
-    subst (λ names. Marks (precedence_keys s) names c.args.taking.now c.loop-production.taking) (sym (flat_map-map production_names production_view productions))
+    subst (λ names. Marks (precedence_keys s) names c.args.used.now c.loop-production.used) (sym (flat_map-map production_names production_view productions))
     (marks_all (precedence_keys s) (λ (production : Production). production_names (production_view production)) productions _ _ _ past c.loop-production.invariant)

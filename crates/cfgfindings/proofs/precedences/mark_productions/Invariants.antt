@@ -6,4 +6,4 @@ use Rattle.cfgfindings.specs.Inner.Marks.{Marks, precedence_keys, production_nam
 use Rattle.cfgfindings.proofs.precedences.mark_productions.Given as goal
 
 abbrev pub invariant-loop-production : goal.invariant-loop-production
-invariant-loop-production l = Marks (precedence_keys (syntax l.ast)) (flat_map (λ production. production_names (production_view production)) (take l.production-index l.productions)) l.fn.taking l.taking
+invariant-loop-production l = Marks (precedence_keys (syntax l.ast)) (flat_map (λ production. production_names (production_view production)) (take l.production-index l.productions)) l.fn.used l.used

@@ -6,4 +6,4 @@ use Rattle.cfgfindings.specs.Inner.Marks.{Marks, precedence_keys, token_names}
 use Rattle.cfgfindings.proofs.precedences.mark_symbols.Given as goal
 
 abbrev pub invariant-loop-symbol : goal.invariant-loop-symbol
-invariant-loop-symbol l = Marks (precedence_keys (syntax l.ast)) (flat_map (λ symbol. token_names (symbol_view symbol)) (take l.symbol-index l.symbols)) l.fn.taking l.taking
+invariant-loop-symbol l = Marks (precedence_keys (syntax l.ast)) (flat_map (λ symbol. token_names (symbol_view symbol)) (take l.symbol-index l.symbols)) l.fn.used l.used

@@ -29,9 +29,9 @@ loop-index-preserved c =
     elim c.match-get_index.branch [
       | in-Some w ↦
           let at = sym w.in-Some.ensures.entry in
-          subst (Marks (precedence_keys s) (flat_map names (take (index + 1) entries)) c.args.taking.now) (sym w.taking-is)
+          subst (Marks (precedence_keys s) (flat_map names (take (index + 1) entries)) c.args.used.now) (sym w.used-is)
           (marks_more (precedence_keys s) names entries index _ _ _ _ within (sym (get_or_from_slice_get entries index _ _ at)) c.loop-index.invariant
-          (subst (λ name. Marks (precedence_keys s) (name ∷ []) c.loop-index.taking w.mark.new.taking) w.deref.ensures w.mark.ensures))
+          (subst (λ name. Marks (precedence_keys s) (name ∷ []) c.loop-index.used w.mark.new.used) w.deref.ensures w.mark.ensures))
       | in_default w ↦
           let (entry, at) = element_at entries index within in
           let no : None ≡ Some entry = w.in_default.ensures.entry ∙ at in cc
@@ -41,6 +41,6 @@ pub returns : goal.returns
 returns c =
     let entries = c.args.table.now.entries in
     let names = λ (entry : String Global × Span). entry_name (span_entry entry) ∷ [] in
-    subst (λ all. Marks (precedence_keys (syntax c.args.ast.now)) all c.args.taking.now c.loop-index.taking)
+    subst (λ all. Marks (precedence_keys (syntax c.args.ast.now)) all c.args.used.now c.loop-index.used)
     (flat_map_single (λ (entry : String Global × Span). entry_name (span_entry entry)) entries ∙ sym (map-map entry_name span_entry entries))
     (marks_all _ names entries _ _ _ (omega (arith, c.loop-index-test.false, c.len-index-end.ensures.len)) c.loop-index.invariant)

@@ -18,6 +18,6 @@ returns-in_ok-repeated-in-Some c = λ are.
         rule = ap (λ (production : Production). production.rule) is.same;
         symbols = ap (λ (production : Production). production.symbols) is.same;
       },
-      λ other twin. is.least other twin.before (λ i. record { rule = twin.rule i; symbols = twin.symbols i }),
+      λ other repeats. is.least other repeats.before (λ i. record { rule = repeats.rule i; symbols = repeats.symbols i }),
       c.in_ok-repeated-in-Some.ensures,
     )

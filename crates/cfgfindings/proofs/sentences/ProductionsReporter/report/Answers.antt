@@ -2,7 +2,7 @@ use Rattle.std.proofs.Common.{◌≡◌, ◌<◌, ◌++◌, ℕ, All, codes, len
 use Rattle.cfgrammar.specs.NumberedSymbols.{sym_of}
 use Rattle.cfgrammar.specs.Numbered.{Numbered, core}
 use Rattle.cfgrammar.specs.Accessors.{IsSymbolWithin}
-use Rattle.cfglint_shell.specs.declared.finding_kind.FindingKind.TheVariants.{UnusableProduction}
+use Rattle.finding_kinds.specs.declared.finding_kind.FindingKind.TheVariants.{UnusableProduction}
 use Rattle.cfgfindings.proofs.Read.{production_seen, rule_seen}
 use Rattle.cfgfindings.proofs.Texts.{shown_at, unusable_reported}
 use Rattle.cfgfindings.proofs.Unusable.{UsesByRules, first_read, is_unusable, not_unusable}

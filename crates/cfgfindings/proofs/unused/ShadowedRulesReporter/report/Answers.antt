@@ -3,7 +3,7 @@ use Rattle.cfgrammar.specs.AstRule.{Rule}
 use Rattle.cfgrammar.specs.SyntaxView.{rule_entry}
 use Rattle.cfgrammar.specs.TreeView.{syntax}
 use Rattle.cfgfindings.specs.Findings.{IsShadowed}
-use Rattle.cfglint_shell.specs.declared.finding_kind.FindingKind.TheVariants.{ShadowedRule}
+use Rattle.finding_kinds.specs.declared.finding_kind.FindingKind.TheVariants.{ShadowedRule}
 use Rattle.cfgfindings.proofs.Texts.{after_quoted}
 use Rattle.cfgfindings.proofs.UsedRules.{rule_at, rule_key, same_name}
 use Rattle.cfgfindings.proofs.unused.ShadowedRulesReporter.report.Goals as goal

@@ -7,7 +7,7 @@ use Rattle.cfgrammar.specs.SyntaxView.{rule_entry}
 use Rattle.cfgrammar.specs.TreeView.{syntax}
 use Rattle.cfgrammar.specs.Unused.{AreUnused, IsUnused, RuleName}
 use Rattle.cfgfindings.specs.Findings.{IsShadowed}
-use Rattle.cfglint_shell.specs.declared.finding_kind.FindingKind.TheVariants.{UnusedRule}
+use Rattle.finding_kinds.specs.declared.finding_kind.FindingKind.TheVariants.{UnusedRule}
 use Rattle.cfgfindings.proofs.UsedRules.{from_none, from_some, rule_at, rule_key, same_name}
 use Rattle.cfgfindings.proofs.unused.UnusedRulesReporter.report.Goals as goal
 use Rattle.cfgfindings.proofs.unused.UnusedRulesReporter.report.Goals.{then-not-index-via-else-not-index+then-is_some, then-not-index-via-then-not-index}

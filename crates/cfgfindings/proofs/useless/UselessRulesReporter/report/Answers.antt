@@ -4,7 +4,7 @@ use Rattle.cfgrammar.specs.Numbered.{Numbered, core}
 use Rattle.cfgfindings.specs.Findings.{rules_added}
 use Rattle.cfgfindings.specs.Inner.Unproductive.{UnproductiveOrNot}
 use Rattle.cfgfindings.specs.Useless.{IsUseless}
-use Rattle.cfglint_shell.specs.declared.finding_kind.FindingKind.TheVariants.{UselessSymbol}
+use Rattle.finding_kinds.specs.declared.finding_kind.FindingKind.TheVariants.{UselessSymbol}
 use Rattle.cfgfindings.proofs.Read.{rule_seen}
 use Rattle.cfgfindings.proofs.Texts.{shown_at, useless_rule_reported}
 use Rattle.cfgfindings.proofs.useless.UselessRulesReporter.report.Goals as goal

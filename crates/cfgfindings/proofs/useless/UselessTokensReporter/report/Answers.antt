@@ -3,7 +3,7 @@ use Rattle.cfgrammar.specs.Check.{nowhere}
 use Rattle.cfgrammar.specs.Grammar.{Token}
 use Rattle.cfgrammar.specs.Numbered.{Numbered, core}
 use Rattle.cfgfindings.specs.Useless.{IsUseless}
-use Rattle.cfglint_shell.specs.declared.finding_kind.FindingKind.TheVariants.{UselessSymbol}
+use Rattle.finding_kinds.specs.declared.finding_kind.FindingKind.TheVariants.{UselessSymbol}
 use Rattle.cfgfindings.proofs.Read.{token_seen}
 use Rattle.cfgfindings.proofs.Texts.{shown_at, useless_token_reported}
 use Rattle.cfgfindings.proofs.useless.UselessTokensReporter.report.Goals as goal

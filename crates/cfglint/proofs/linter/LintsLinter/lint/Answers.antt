@@ -3,7 +3,7 @@ use Rattle.cfgrammar.specs.Answer.{Found, Unnamed, WasRead}
 use Rattle.cfgrammar.specs.YaccKind.{YaccKind}
 use Rattle.cfgdriver.specs.ReadText.{IsMadeOf}
 use Rattle.cfglint_shell.specs.declared.format.Format.{Format}
-use Rattle.cfglint_shell.specs.declared.levels.Levels.{Levels}
+use Rattle.finding_kinds.specs.declared.levels.Levels.{Levels}
 use Rattle.cfglint_shell.specs.Tally.{Printed}
 use Rattle.cfglint.specs.Reported.{ReportsErrors, ReportsFindings, ReportsText}
 use Rattle.cfglint.proofs.linter.LintsLinter.lint.Goals as goal

@@ -1,0 +1,91 @@
+//! The kinds of findings, and the words that name them.
+
+ghost use Rattle.std.specs.Prelude.{◌≡◌};
+ghost use Rattle.finding_kinds.specs.FindingKinds.{finding_named, number, word_of};
+
+/// The kind of a finding about a grammar without errors.
+#[derive(Clone, Copy, Debug, PartialEq, Eq)]
+pub enum FindingKind {
+    /// The rule isn't reachable from the start rule.
+    UnusedRule,
+    /// The token isn't reachable from the start rule, and no production's `%prec` names it.
+    UnusedToken,
+    /// No production contains the rule, since its name there is that of a token.
+    ShadowedRule,
+    /// The start rule derives no list of tokens.
+    StartWithoutSentence,
+    /// The rule derives no list of tokens, and no other rule is the reason: each unproductive rule that it leads to
+    /// leads back to it. None of them is the start rule.
+    NoSentence,
+    /// The rule, which isn't the start rule, derives no list of tokens since others don't.
+    UnusableRule,
+    /// No sentence of the production's rule uses it, since it contains an unproductive rule.
+    UnusableProduction,
+    /// No sentence of the start rule uses the symbol, although productions connect it to the start rule.
+    UselessSymbol,
+    /// The rule is cyclic, so each of its sentences has infinitely many parse trees.
+    CyclicRule,
+    /// The rule has an earlier production with the same symbols, so each sentence by one of the two has two parse
+    /// trees.
+    RepeatedProduction,
+    /// The token is given a precedence, but is in no production, and no production takes its precedence from it.
+    UnusedPrecedence,
+    /// A `%token` list has the token, and such a list has it before.
+    RepeatedToken,
+    /// A later `%prec` of its production counts, and not this one.
+    OverriddenPrecedence,
+}
+
+/// The kinds, in order.
+pub(crate) const KINDS: [FindingKind; 13] = [
+    FindingKind::UnusedRule,
+    FindingKind::UnusedToken,
+    FindingKind::ShadowedRule,
+    FindingKind::StartWithoutSentence,
+    FindingKind::NoSentence,
+    FindingKind::UnusableRule,
+    FindingKind::UnusableProduction,
+    FindingKind::UselessSymbol,
+    FindingKind::CyclicRule,
+    FindingKind::RepeatedProduction,
+    FindingKind::UnusedPrecedence,
+    FindingKind::RepeatedToken,
+    FindingKind::OverriddenPrecedence,
+];
+
+impl FindingKind {
+    /// The number of the kind.
+    pub(crate) fn number(self) -> usize
+        ensures { result ≡ number self }
+    {
+        self as usize
+    }
+
+    /// The word that names the kind in arguments and in reports, as `unused-rule`.
+    pub fn word(self) -> &'static str
+        ensures { result.now ≡ word_of self }
+    {
+        match self {
+            FindingKind::UnusedRule => "unused-rule",
+            FindingKind::UnusedToken => "unused-token",
+            FindingKind::ShadowedRule => "shadowed-rule",
+            FindingKind::StartWithoutSentence => "start-without-sentence",
+            FindingKind::NoSentence => "no-sentence",
+            FindingKind::UnusableRule => "unusable-rule",
+            FindingKind::UnusableProduction => "unusable-production",
+            FindingKind::UselessSymbol => "useless-symbol",
+            FindingKind::CyclicRule => "cyclic-rule",
+            FindingKind::RepeatedProduction => "repeated-production",
+            FindingKind::UnusedPrecedence => "unused-precedence",
+            FindingKind::RepeatedToken => "repeated-token",
+            FindingKind::OverriddenPrecedence => "overridden-precedence",
+        }
+    }
+
+    /// The kind that a word names, byte for byte.
+    pub fn of_word(word: &str) -> Option<FindingKind>
+        ensures { result ≡ finding_named word.now }
+    {
+        KINDS.iter().copied().find(|kind| kind.word() == word)
+    }
+}

@@ -1,0 +1,54 @@
+//! What becomes of findings, kind by kind.
+
+ghost use Rattle.std.specs.Prelude.{◌≡◌};
+ghost use Rattle.finding_kinds.specs.FindingKinds.{default_levels, level_of, with_level};
+
+use crate::finding_kind::FindingKind;
+
+/// What becomes of a finding.
+#[derive(Clone, Copy, Debug, PartialEq, Eq)]
+pub enum Level {
+    /// It isn't reported.
+    Allow,
+    /// It is reported as a warning.
+    Warn,
+    /// It is reported as an error.
+    Deny,
+}
+
+/// The level of each kind of finding.
+#[derive(Clone, Copy, Debug)]
+pub struct Levels {
+    by_kind: [Level; 13],
+}
+
+impl Levels {
+    /// A start rule without a sentence is an error, and every other finding is a warning, except for those that only
+    /// follow from a rule without a sentence: they aren't reported.
+    pub fn new() -> Self
+        ensures { result ≡ default_levels }
+    {
+        let mut levels = Levels {
+            by_kind: [Level::Warn; 13],
+        };
+        levels.set(FindingKind::StartWithoutSentence, Level::Deny);
+        levels.set(FindingKind::UnusableRule, Level::Allow);
+        levels.set(FindingKind::UnusableProduction, Level::Allow);
+        levels.set(FindingKind::UselessSymbol, Level::Allow);
+        levels
+    }
+
+    /// The level of a kind.
+    pub fn of(&self, kind: FindingKind) -> Level
+        ensures { result ≡ level_of self.now kind }
+    {
+        self.by_kind[kind.number()]
+    }
+
+    /// Gives a kind this level.
+    pub fn set(&mut self, kind: FindingKind, level: Level)
+        ensures { self.new ≡ with_level self.old kind level }
+    {
+        self.by_kind[kind.number()] = level;
+    }
+}
