@@ -5,7 +5,7 @@ use Rattle.lemmas.proofs.Contained.{contains_first, contains_later}
 use Rattle.derivation.specs.Grammar.{Sym, Rule, Token}
 use Rattle.cfgtables.specs.Openings.{nth_production}
 use Rattle.cfgleast.specs.Generator.{CostTables}
-use Rattle.cfgchoices.specs.Inner.Choices.{ChoicesGive, empty, token, free, chosen}
+use Rattle.cfgchoices.specs.Choices.{ChoicesGive, empty, token, free, chosen}
 
 module _ (x : CostTables) where
   -- what they give for the first rule, and for the other symbols

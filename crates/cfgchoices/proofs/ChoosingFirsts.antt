@@ -10,12 +10,12 @@ use Rattle.derivation.specs.Grammar.{Sym, Rule, Token}
 use Rattle.cfgtables.specs.Openings.{nth_production}
 use Rattle.derivation.specs.CostLists.{rule_cost}
 use Rattle.cfgleast.specs.Certificate.{rule_choice}
-use Rattle.cfgchoices.specs.Inner.Choices.{ChoicesGive}
-use Rattle.cfgchoices.specs.Inner.Choices as gives
-use Rattle.cfgchoices.specs.Inner.FirstChoices.{IsNotAbove}
+use Rattle.cfgchoices.specs.Choices.{ChoicesGive}
+use Rattle.cfgchoices.specs.Choices as gives
+use Rattle.cfgchoices.specs.FirstChoices.{IsNotAbove}
 use Rattle.cfgchoices.specs.Inner.Candidates.{Choices, Choosing, IsChoice, IsReady, with_choices}
 use Rattle.cfgleast.specs.Generator.{CostTables, cost_answer, choice_answer, token_cost, where_some}
-use Rattle.cfgchoices.specs.Inner.Kinds.{IsTarget, IsOptimal}
+use Rattle.cfgchoices.specs.Kinds.{IsTarget, IsOptimal}
 use Rattle.cfgchoices.proofs.Choices.{choices_sequence, choices_split}
 use Rattle.cfgleast.proofs.Generated.{some_answered}
 use Rattle.cfgchoices.proofs.GrowingChoices.{Keeps, keeps_one}

@@ -8,8 +8,8 @@ use Rattle.lemmas.proofs.Contained.{contains_none}
 use Rattle.lemmas.proofs.Elements.{get_or-replicate_default}
 use Rattle.cfgleast.specs.Certificate.{rule_choice}
 use Rattle.cfgleast.specs.Generator.{CostTables, cost_answer}
-use Rattle.cfgchoices.specs.Inner.FirstChoices.{AreFirst, AreChosen}
-use Rattle.cfgchoices.specs.Inner.Kinds.{IsTarget}
+use Rattle.cfgchoices.specs.FirstChoices.{AreFirst, AreChosen}
+use Rattle.cfgchoices.specs.Kinds.{IsTarget}
 use Rattle.cfgchoices.specs.Inner.Lists.{IsBaseAt}
 use Rattle.cfgchoices.specs.Inner.Candidates.{Adds, ChosenBelow, HandlesChains, HasChoice, IsDone, IsHandled, IsKnown, IsCandidate, Known, Nominating, Candidates, Waits, with_choices, owner, waiting}
 use Rattle.cfgchoices.specs.Chains.{here}

@@ -19,9 +19,9 @@ use Rattle.derivation.specs.Sums.{sum_of, symbol_cost}
 use Rattle.derivation.specs.CostLists.{rule_cost}
 use Rattle.derivation.proofs.Sums.{plus_parts, plus_zero}
 use Rattle.cfgleast.specs.Certificate.{rule_choice}
-use Rattle.cfgchoices.specs.Inner.Choices.{ChoicesGive}
-use Rattle.cfgchoices.specs.Inner.Choices as gives
-use Rattle.cfgchoices.specs.Inner.FirstChoices.{AreFirst, IsNotAbove, IsChoiceOf, AreChosen}
+use Rattle.cfgchoices.specs.Choices.{ChoicesGive}
+use Rattle.cfgchoices.specs.Choices as gives
+use Rattle.cfgchoices.specs.FirstChoices.{AreFirst, IsNotAbove, IsChoiceOf, AreChosen}
 use Rattle.cfgleast.specs.Generator.{CostTables, cost_answer, choice_answer, token_cost, where_some}
 use Rattle.cfgchoices.specs.FirstSentence.{FirstMinimal, lexicographic}
 use Rattle.cfgchoices.specs.Splits.{Split, done, itself, part}

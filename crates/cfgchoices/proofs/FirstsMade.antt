@@ -7,10 +7,10 @@ use Rattle.cfgtables.specs.Openings.{nth_production}
 use Rattle.cfgtables.proofs.Located.{at_position}
 use Rattle.derivation.specs.CostLists.{rule_cost}
 use Rattle.cfgleast.specs.Certificate.{rule_choice}
-use Rattle.cfgchoices.specs.Inner.FirstChoices.{IsChoiceOf, AreChosen}
+use Rattle.cfgchoices.specs.FirstChoices.{IsChoiceOf, AreChosen}
 use Rattle.cfgleast.specs.Generator.{CostTables, IsGenerator, cost_answer, token_cost}
 use Rattle.cfgchoices.specs.Chains.{Along, here, next}
-use Rattle.cfgchoices.specs.Inner.Kinds.{HasTarget, IsBaseProduction, IsTarget}
+use Rattle.cfgchoices.specs.Kinds.{HasTarget, IsBaseProduction, IsTarget}
 use Rattle.cfgchoices.specs.Inner.Candidates.{Choices, Choosing, HasChoice, with_choices}
 use Rattle.cfgchoices.proofs.ChoosingFirsts.{few, paid_chosen, sequence_not_above}
 use Rattle.cfgleast.proofs.Generated.{some_answered}

@@ -3,7 +3,7 @@ use Rattle.std.proofs.Common.{◌≡◌, ℕ, ◌+◌, ◌-◌, ◌<◌, ◌≤�
 use Rattle.std.proofs.lemmas.Bool.{cases_lt}
 use Rattle.cfgindex.specs.declared.idxnewtype.PIdx.{PIdx}
 use Rattle.cfgleast.specs.Generator.{CostTables}
-use Rattle.cfgchoices.specs.Inner.Kinds.{IsTarget, IsOptimal}
+use Rattle.cfgchoices.specs.Kinds.{IsTarget, IsOptimal}
 use Rattle.cfgchoices.specs.Inner.Lists.{IsFirstFrom, IsIn, IsBaseAt}
 use Rattle.cfgchoices.specs.Inner.Candidates.{Adds, IsCandidate, Known, Candidates}
 use Rattle.cfgchoices.specs.declared.first.lists.Listed.{Listed}

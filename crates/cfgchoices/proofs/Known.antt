@@ -3,7 +3,7 @@ use Rattle.std.proofs.Common.{◌≡◌, ℕ, ◌<◌, ◌⊎◌, inl, inr, List
 use Rattle.derivation.specs.Grammar.{IsGrammar}
 use Rattle.cfgtables.specs.Openings.{nth_production}
 use Rattle.cfgleast.specs.Generator.{CostTables, IsGenerator, cost_answer}
-use Rattle.cfgchoices.specs.Inner.Kinds.{AreKinds, IsBaseProduction, IsTarget, IsKind, IsOptimal}
+use Rattle.cfgchoices.specs.Kinds.{AreKinds, IsBaseProduction, IsTarget, IsKind, IsOptimal}
 use Rattle.cfgchoices.specs.Inner.Candidates.{IsOptimalByKind, IsKnown}
 use Rattle.cfgchoices.specs.declared.kinds.Kind.{Kind}
 use Rattle.cfgchoices.specs.declared.kinds.Kind.TheVariants as variants

@@ -8,7 +8,7 @@ use Rattle.cfgindex.specs.declared.idxnewtype.PIdx.{PIdx}
 use Rattle.derivation.specs.CostLists.{rule_cost}
 use Rattle.cfgleast.specs.Generator.{CostTables, IsGenerator}
 use Rattle.cfgleast.proofs.Generated.{answered_some}
-use Rattle.cfgchoices.specs.Inner.Kinds.{IsBaseProduction}
+use Rattle.cfgchoices.specs.Kinds.{IsBaseProduction}
 use Rattle.cfgchoices.specs.Inner.Candidates.{owner}
 use Rattle.cfgchoices.proofs.Optimal.{answered_within}
 use Rattle.cfgchoices.specs.Inner.Lists.{AreListed, IsFirstFrom}

@@ -12,7 +12,7 @@ use Rattle.std.proofs.lemmas.List.Sums.{sum_by-append, sum_by-cons}
 use Rattle.derivation.specs.Grammar.{Sym, Rule, Token}
 use Rattle.cfgtables.specs.Openings.{nth_production}
 use Rattle.cfgleast.specs.Certificate.{choice_of, rule_choice}
-use Rattle.cfgchoices.specs.Inner.Choices.{ChoicesGive, empty, token, free, chosen}
+use Rattle.cfgchoices.specs.Choices.{ChoicesGive, empty, token, free, chosen}
 use Rattle.cfgleast.specs.Generator.{CostTables, IsGenerator, choice_answer, cost_answer, where_some}
 use Rattle.cfgchoices.specs.Inner.Candidates.{Choices, Choosing, Pends, with_choices, left_to_open, sequence, tree_size}
 use Rattle.cfgchoices.proofs.Choices.{choices_join}

@@ -4,7 +4,7 @@ use Rattle.std.proofs.Math.Seq.{get_or-append_seam}
 use Rattle.std.proofs.lemmas.List.{get_or_append_left, get_or_default, length-map, length_push, map-append, map-set}
 use Rattle.std.proofs.lemmas.List.Elements.{Contains-append_left, Contains-push, Contains-push_cases}
 use Rattle.cfgleast.specs.Certificate.{choice_of, rule_choice}
-use Rattle.cfgchoices.specs.Inner.Kinds.{IsTarget, production_numbers}
+use Rattle.cfgchoices.specs.Kinds.{IsTarget, production_numbers}
 use Rattle.cfgindex.specs.declared.idxnewtype.PIdx.{PIdx}
 use Rattle.cfgchoices.specs.Inner.Candidates.{Adds, HandlesChains, HasChoice, IsDone, IsHandled, IsKnown, Known, AreCandidates, NotAfter, Nominating, Candidates, GivesNoMore, Takes, Waits, left_to_choose, owner, sequence, waiting}
 use Rattle.cfgchoices.proofs.ChoosingFirsts.{few}

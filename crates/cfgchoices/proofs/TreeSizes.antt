@@ -6,7 +6,7 @@ use Rattle.std.proofs.lemmas.List.Elements.{All-head, All-tail}
 use Rattle.derivation.specs.Grammar.{Sym, Rule, Token, Grammar}
 use Rattle.cfgtables.specs.Openings.{nth_production}
 use Rattle.cfgleast.specs.Certificate.{rule_choice}
-use Rattle.cfgchoices.specs.Inner.FirstChoices.{IsNotAbove}
+use Rattle.cfgchoices.specs.FirstChoices.{IsNotAbove}
 pub use Rattle.cfgchoices.specs.Inner.Candidates.{tree_size, tree_size_of}
 
 -- sums of equal terms are equal

@@ -6,7 +6,7 @@ ghost use Rattle.derivation.specs.Grammar.{Rule};
 ghost use Rattle.derivation.specs.CostLists.{IsListed, rule_cost};
 ghost use Rattle.derivation.specs.Sums.{symbol_cost};
 ghost use Rattle.cfgleast.specs.Generator.{IsGeneratorOf, settled_tables};
-ghost use Rattle.cfgchoices.specs.Inner.Kinds.{AreKinds, HasRulesAsTargets, IsKind, IsSequenceKind};
+ghost use Rattle.cfgchoices.specs.Kinds.{AreKinds, HasRulesAsTargets, IsKind, IsSequenceKind};
 
 use cfgindex::{PIdx, RIdx, Storage, Symbol, to_storage};
 use cfgleast::partial::Partial;

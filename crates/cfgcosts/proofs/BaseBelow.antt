@@ -7,7 +7,7 @@ use Rattle.search.specs.Reachable.{FoundBy, Reachable, Reaches, SearchState, led
 use Rattle.search.proofs.Reaching.{Begun, Searching, popped_reachable, reaches_as, search_begins, search_ends, search_goes_on}
 use Rattle.cfgleast.specs.Generator.{CostTables}
 use Rattle.cfgchoices.specs.Chains.{Along, here, next}
-use Rattle.cfgchoices.specs.Inner.Kinds.{HasTarget, IsBaseProduction, IsTarget, IsBaseBelow}
+use Rattle.cfgchoices.specs.Kinds.{HasTarget, IsBaseProduction, IsTarget, IsBaseBelow}
 use Rattle.cfgcosts.specs.Inner.Minimal.{Lists}
 use Rattle.lemmas.proofs.Contained.{contains_none}
 

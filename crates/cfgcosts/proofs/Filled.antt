@@ -14,7 +14,7 @@ use Rattle.derivation.specs.Grammar.{Grammar, Sym, Rule, IsGrammar}
 use Rattle.cfgtables.specs.Openings.{nth_production}
 use Rattle.cfgleast.specs.Generator.{CostTables, IsGenerator, cost_answer}
 use Rattle.cfgcosts.specs.Inner.Minimal.{AreRequested, AreMinimal, HasSentence, IsMadeBy, IsReadyFor, Puts, row_words, sentences_in, words_of}
-use Rattle.cfgchoices.specs.Inner.Kinds.{IsMinimal, IsBaseBelow}
+use Rattle.cfgchoices.specs.Kinds.{IsMinimal, IsBaseBelow}
 use Rattle.cfgchoices.specs.FirstSentence.{lexicographic}
 use Rattle.cfgcosts.specs.Sentences.{numbers_of}
 use Rattle.cfgchoices.specs.Splits.{Split, done, itself, part}

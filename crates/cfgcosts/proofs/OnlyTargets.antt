@@ -11,7 +11,7 @@ use Rattle.cfgtables.specs.Openings.{nth_production, ArePositionsOf}
 use Rattle.cfgleast.specs.Generator.{CostTables, IsGenerator, cost_answer}
 use Rattle.derivation.proofs.Sequences.{item_shown}
 use Rattle.cfgcosts.specs.Inner.Targets.{AreTargets, HasSameSentences, IsOnlyTarget, rules_of}
-use Rattle.cfgchoices.specs.Inner.Kinds.{HasRulesAsTargets, AreKinds, HasTarget, IsTarget, IsKind, IsOptimal, IsMinimal, IsBaseBelow}
+use Rattle.cfgchoices.specs.Kinds.{HasRulesAsTargets, AreKinds, HasTarget, IsTarget, IsKind, IsOptimal, IsMinimal, IsBaseBelow}
 use Rattle.cfgchoices.specs.Chains.{Along, here, next}
 use Rattle.cfgchoices.specs.declared.kinds.Kind.{Kind}
 use Rattle.cfgchoices.specs.declared.kinds.Kind.TheVariants.{Suboptimal, ChainsTo}

@@ -15,9 +15,9 @@ use Rattle.derivation.specs.CostLists.{rule_cost}
 use Rattle.cfgleast.specs.Certificate.{rule_choice}
 use Rattle.cfgleast.specs.Generator.{CostTables, cost_answer, choice_answer, token_cost}
 use Rattle.cfgleast.proofs.Generated.{answered_some}
-use Rattle.cfgchoices.specs.Inner.Choices.{ChoicesGive}
-use Rattle.cfgchoices.specs.Inner.Choices as gives
-use Rattle.cfgchoices.specs.Inner.FirstChoices.{IsNotAbove, IsChoiceOf, AreChosen}
+use Rattle.cfgchoices.specs.Choices.{ChoicesGive}
+use Rattle.cfgchoices.specs.Choices as gives
+use Rattle.cfgchoices.specs.FirstChoices.{IsNotAbove, IsChoiceOf, AreChosen}
 use Rattle.cfgchoices.proofs.FirstChosen.{answered_choice, known, minimal_given, opens_by}
 use Rattle.cfgchoices.proofs.Optimal.{answered_within, least_of}
 

@@ -9,7 +9,7 @@ use Rattle.search.specs.Reachable.{FoundBy, Reachable, Reaches, SearchState, led
 use Rattle.search.proofs.Reaching.{Begun, Searching, popped_reachable, reaches_as, search_begins, search_ends, search_goes_on}
 use Rattle.cfgleast.specs.Generator.{CostTables, IsGenerator, cost_answer}
 use Rattle.cfgcosts.specs.Inner.Minimal.{AreRequested}
-use Rattle.cfgchoices.specs.Inner.Kinds.{IsBaseBelow}
+use Rattle.cfgchoices.specs.Kinds.{IsBaseBelow}
 use Rattle.lemmas.proofs.Contained.{contains_cases, contains_first, contains_later, contains_none}
 use Rattle.cfgchoices.proofs.Optimal.{base_costs}
 

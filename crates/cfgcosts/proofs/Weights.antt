@@ -11,7 +11,7 @@ use Rattle.cfgtables.specs.NumberedSymbols.{sym_of}
 use Rattle.derivation.specs.Grammar.{Sym, Rule, Token}
 use Rattle.cfgtables.specs.Openings.{nth_production}
 use Rattle.cfgleast.specs.Certificate.{rule_choice}
-use Rattle.cfgchoices.specs.Inner.FirstChoices.{IsNotAbove, AreChosen}
+use Rattle.cfgchoices.specs.FirstChoices.{IsNotAbove, AreChosen}
 use Rattle.cfgleast.specs.Generator.{CostTables}
 
 -- if each production has fewer symbols than `many`

@@ -4,7 +4,7 @@
 ghost use Rattle.std.specs.Prelude.{◌≡◌, ◌<◌, List, IfOk, IfSome, length};
 ghost use Rattle.derivation.specs.Grammar.{Grammar};
 ghost use Rattle.cfgcosts.specs.Inner.Targets.{AreTargets, IsOnlyTarget, rules_of};
-ghost use Rattle.cfgchoices.specs.Inner.Kinds.{HasRulesAsTargets};
+ghost use Rattle.cfgchoices.specs.Kinds.{HasRulesAsTargets};
 ghost use Rattle.cfgchoices.specs.declared.kinds.Kind.{Kind};
 
 use cfgchoices::kinds::Kind;

@@ -15,7 +15,7 @@ use Rattle.derivation.specs.Sums.{sum_of, symbol_cost}
 use Rattle.cfgleast.specs.Inner.Numbers.{IsNumberedBelow}
 use Rattle.derivation.specs.CostLists.{rule_cost}
 use Rattle.cfgleast.specs.Certificate.{IsChosenBelow, rule_choice}
-use Rattle.cfgleast.specs.Inner.Settled.{AreSettled}
+use Rattle.cfgleast.specs.Settled.{AreSettled}
 use Rattle.derivation.specs.declared.errors.CostError.{CostError}
 use Rattle.derivation.specs.declared.errors.CostError.TheVariants.{NoSentence, CostTooLarge}
 use Rattle.cfgleast.specs.Generator.{IsTooLarge, ReturnsLeast, IsLeastProduction}

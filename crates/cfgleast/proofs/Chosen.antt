@@ -12,7 +12,7 @@ use Rattle.derivation.specs.Sums.{symbol_cost}
 use Rattle.derivation.specs.CostLists.{rule_cost}
 use Rattle.cfgleast.specs.Certificate.{IsChosenBelow, rule_choice}
 use Rattle.cfgleast.specs.Inner.Open.{IsCutSum}
-use Rattle.cfgleast.specs.Inner.Settled.{unsettled, IsSettledBy, AreChosen}
+use Rattle.cfgleast.specs.Settled.{unsettled, IsSettledBy, AreChosen}
 use Rattle.cfgleast.proofs.Gains.{Gains, HasCost, all_have_costs, rule_gained, sequence_kept}
 
 module _ (g : Grammar) (cost : ℕ → ℕ) where

@@ -9,7 +9,7 @@ use Rattle.cfgtables.specs.Openings.{nth_production}
 use Rattle.cfgleast.specs.declared.partial.Partial.{Partial}
 use Rattle.derivation.specs.CostLists.{rule_cost}
 use Rattle.cfgleast.specs.Inner.Open.{WaitsFor, AreAllOpen, AreWaking, waiting_for}
-use Rattle.cfgleast.specs.Inner.Settled.{AreChosen, HasPopped}
+use Rattle.cfgleast.specs.Settled.{AreChosen, HasPopped}
 use Rattle.cfgleast.proofs.Opened.{top_in, popped_past, settled_open, woken_wait}
 use Rattle.cfgleast.proofs.Chosen.{gains_one, chosen_more}
 

@@ -11,7 +11,7 @@ use Rattle.derivation.specs.declared.errors.CostError.TheVariants.{NoSentence, C
 use Rattle.derivation.specs.CostLists.{rule_cost}
 use Rattle.cfgleast.specs.declared.settle.Settled.{Settled}
 use Rattle.cfgleast.specs.Certificate.{choice_of, rule_choice}
-use Rattle.cfgleast.specs.Inner.Settled.{AreSettled}
+use Rattle.cfgleast.specs.Settled.{AreSettled}
 
 -- a grammar, what its tokens cost, and for each rule its least cost, cut down to 65536, and its chosen production
 pub record CostTables : Type 0 where

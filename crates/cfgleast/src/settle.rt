@@ -7,7 +7,7 @@ ghost use Rattle.derivation.specs.Grammar.{IsGrammar};
 ghost use Rattle.derivation.specs.CostLists.{rule_cost};
 ghost use Rattle.cfgleast.specs.Certificate.{choice_of};
 ghost use Rattle.cfgleast.specs.Inner.Open.{AreAllOpen, AreInput, count_open};
-ghost use Rattle.cfgleast.specs.Inner.Settled.{AreChosen, AreSettled, HasPopped};
+ghost use Rattle.cfgleast.specs.Settled.{AreChosen, AreSettled, HasPopped};
 
 use crate::partial::Waitlists;
 use crate::queue::Queue;

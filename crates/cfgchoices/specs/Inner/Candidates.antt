@@ -7,9 +7,9 @@ use Rattle.cfgindex.specs.declared.idxnewtype.PIdx.{PIdx}
 use Rattle.derivation.specs.Grammar.{Sym, Rule, Token, Grammar, IsGrammar}
 use Rattle.cfgtables.specs.Openings.{nth_production}
 use Rattle.cfgleast.specs.Certificate.{choice_of, rule_choice}
-use Rattle.cfgchoices.specs.Inner.Choices.{ChoicesGive}
+use Rattle.cfgchoices.specs.Choices.{ChoicesGive}
 use Rattle.cfgleast.specs.Generator.{CostTables, IsGenerator, cost_answer}
-use Rattle.cfgchoices.specs.Inner.Kinds.{IsBaseProduction, IsTarget, IsOptimal, production_numbers}
+use Rattle.cfgchoices.specs.Kinds.{IsBaseProduction, IsTarget, IsOptimal, production_numbers}
 use Rattle.cfgchoices.specs.FirstSentence.{lexicographic}
 use Rattle.cfgchoices.specs.declared.kinds.Kind.{Kind}
 use Rattle.cfgchoices.specs.declared.kinds.Kind.TheVariants.{Suboptimal}

@@ -2,7 +2,7 @@
 use Rattle.std.specs.Prelude.{◌≡◌, ℕ, ◌+◌, ◌<◌, ◌≤◌, List, Option, Some, None, MatchOption, length, slice_index_or}
 use Rattle.cfgindex.specs.declared.idxnewtype.PIdx.{PIdx}
 use Rattle.cfgleast.specs.Generator.{CostTables, cost_answer}
-use Rattle.cfgchoices.specs.Inner.Kinds.{IsBaseProduction, IsTarget}
+use Rattle.cfgchoices.specs.Kinds.{IsBaseProduction, IsTarget}
 use Rattle.cfgchoices.specs.declared.first.lists.Listed.{Listed}
 use Rattle.cfgchoices.specs.declared.first.lists.Listed.TheVariants.{Base, ChainingTo}
 use Rattle.cfgchoices.specs.declared.first.lists.Lists.{Lists}

@@ -3,8 +3,8 @@
 ghost use Rattle.std.specs.Prelude.{◌≡◌, ◌+◌, ◌<◌, IfOk, OnOk, map};
 ghost use Rattle.cfgleast.specs.Certificate.{choice_of};
 ghost use Rattle.cfgleast.specs.Generator.{IsGeneratorOf, settled_tables, tables_of};
-ghost use Rattle.cfgchoices.specs.Inner.FirstChoices.{AreFirst, AreChosen};
-ghost use Rattle.cfgchoices.specs.Inner.Kinds.{AreKinds};
+ghost use Rattle.cfgchoices.specs.FirstChoices.{AreFirst, AreChosen};
+ghost use Rattle.cfgchoices.specs.Kinds.{AreKinds};
 ghost use Rattle.cfgchoices.specs.Inner.Candidates.{ChosenBelow, with_choices, chosen_tables, candidates_of};
 
 use crate::first::candidates::Firsts;

@@ -2,7 +2,7 @@
 
 ghost use Rattle.std.specs.Prelude.{◌≡◌, ℕ, ◌<◌, ◌≤◌, IfOk, MatchBool, MatchOption, OnOk, false, length};
 ghost use Rattle.std.specs.Prelude.{slice_index_or, true};
-ghost use Rattle.cfgchoices.specs.Inner.Kinds.{IsTarget};
+ghost use Rattle.cfgchoices.specs.Kinds.{IsTarget};
 ghost use Rattle.cfgchoices.specs.Inner.Lists.{IsIn};
 ghost use Rattle.cfgchoices.specs.Inner.Candidates.{Adds, HandlesChains, HasList, IsCandidate};
 ghost use Rattle.cfgchoices.specs.Inner.Candidates.{IsDrained, IsHandled, IsKnown};

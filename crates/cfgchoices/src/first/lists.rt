@@ -3,7 +3,7 @@
 ghost use Rattle.std.specs.Prelude.{◌≡◌, ℕ, ◌+◌, ◌<◌, IfOk, None, Some, length, replicate};
 ghost use Rattle.derivation.specs.CostLists.{rule_cost};
 ghost use Rattle.cfgleast.specs.Generator.{IsGeneratorOf, settled_tables};
-ghost use Rattle.cfgchoices.specs.Inner.Kinds.{AreKinds, IsKind};
+ghost use Rattle.cfgchoices.specs.Kinds.{AreKinds, IsKind};
 ghost use Rattle.cfgchoices.specs.Inner.Lists.{AreLists};
 
 use crate::kinds::Kind;

@@ -5,7 +5,7 @@ ghost use Rattle.std.specs.Prelude.{true};
 ghost use Rattle.cfgtables.specs.Openings.{nth_production};
 ghost use Rattle.cfgtables.specs.NumberedSymbols.{sym_of};
 ghost use Rattle.cfgleast.specs.Generator.{IsGeneratorOf, settled_tables};
-ghost use Rattle.cfgchoices.specs.Inner.Kinds.{AreKinds, IsTarget, production_numbers};
+ghost use Rattle.cfgchoices.specs.Kinds.{AreKinds, IsTarget, production_numbers};
 ghost use Rattle.cfgchoices.specs.Inner.Lists.{IsFirstFrom, IsIn, IsBaseAt};
 ghost use Rattle.cfgchoices.specs.Inner.Candidates.{HasList, IsOptimalByKind, IsKnown, is_sole, owner, sequence};
 ghost use Rattle.cfgchoices.specs.declared.kinds.Kind.TheVariants.{Suboptimal};

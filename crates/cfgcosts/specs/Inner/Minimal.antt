@@ -12,7 +12,7 @@ use Rattle.cfgtables.specs.Openings.{nth_production}
 use Rattle.cfgleast.specs.Generator.{CostTables, cost_answer}
 use Rattle.cfgchoices.specs.FirstSentence.{lexicographic}
 use Rattle.cfgchoices.specs.Splits.{Split}
-use Rattle.cfgchoices.specs.Inner.Kinds.{IsMinimal, IsBaseBelow}
+use Rattle.cfgchoices.specs.Kinds.{IsMinimal, IsBaseBelow}
 use Rattle.cfgcosts.specs.Sentences.{numbers_of}
 
 -- the new list has what was listed before and what satisfies `Is`

@@ -5,7 +5,7 @@ use Rattle.derivation.specs.Grammar.{Grammar}
 use Rattle.cfgtables.specs.Openings.{nth_production}
 use Rattle.cfgleast.specs.Generator.{CostTables, cost_answer}
 use Rattle.cfgchoices.specs.Chains.{Along}
-use Rattle.cfgchoices.specs.Inner.Kinds.{IsMinimal}
+use Rattle.cfgchoices.specs.Kinds.{IsMinimal}
 use Rattle.cfgchoices.specs.declared.kinds.Kind.{Kind}
 use Rattle.cfgchoices.specs.declared.kinds.Kind.TheVariants.{Suboptimal, ChainsTo}
 

@@ -4,7 +4,7 @@ use Rattle.cfgtables.specs.Openings.{nth_production}
 use Rattle.cfgtables.specs.NumberedSymbols.{sym_of}
 use Rattle.derivation.specs.CostLists.{rule_cost}
 use Rattle.cfgleast.specs.Generator.{tables_of}
-use Rattle.cfgchoices.specs.Inner.Kinds.{IsSequenceKind}
+use Rattle.cfgchoices.specs.Kinds.{IsSequenceKind}
 use Rattle.cfgleast.proofs.Generated.{entry_read}
 use Rattle.cfgleast.proofs.Settles.{owner_within}
 use Rattle.cfgchoices.proofs.Optimal.{kind_reported}

@@ -1,7 +1,7 @@
 use Rattle.std.proofs.Common.{◌≡◌, ◌+◌, ◌<◌, get_or, length, take, sym, subst, ◌∙◌, arith}
 use Rattle.std.proofs.lemmas.List.{get_or_default, length-map}
 use Rattle.cfgtables.proofs.Slices.{mapped_within, mapped_at, mapped_all}
-use Rattle.cfgchoices.specs.Inner.Kinds.{production_numbers}
+use Rattle.cfgchoices.specs.Kinds.{production_numbers}
 use Rattle.cfgchoices.specs.declared.kinds.Kind.TheVariants.{Suboptimal}
 use Rattle.lemmas.proofs.Options.{None-from_is_some}
 use Rattle.cfgcosts.proofs.OnlyTargets.{OnlyOne, only_ends, only_found, only_suboptimal}

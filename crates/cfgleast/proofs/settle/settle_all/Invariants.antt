@@ -3,7 +3,7 @@ use Rattle.std.specs.List.{slice_index}
 use Rattle.derivation.specs.CostLists.{rule_cost}
 use Rattle.cfgleast.specs.Certificate.{choice_of}
 use Rattle.cfgleast.specs.Inner.Open.{AreAllOpen, AreInput, count_open}
-use Rattle.cfgleast.specs.Inner.Settled.{AreChosen}
+use Rattle.cfgleast.specs.Settled.{AreChosen}
 use Rattle.cfgleast.proofs.settle.settle_all.Given as goal
 
 abbrev pub invariant-loop-top : goal.invariant-loop-top

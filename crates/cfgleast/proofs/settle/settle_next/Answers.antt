@@ -6,7 +6,7 @@ use Rattle.cfgtables.specs.Openings.{nth_production}
 use Rattle.cfgleast.specs.Certificate.{choice_of}
 use Rattle.derivation.specs.CostLists.{rule_cost}
 use Rattle.cfgleast.specs.Inner.Open.{AreAllOpen, AreInput}
-use Rattle.cfgleast.specs.Inner.Settled.{AreChosen}
+use Rattle.cfgleast.specs.Settled.{AreChosen}
 use Rattle.cfgleast.proofs.Settles.{popped_position, popped_again, settles_chosen, settles_woken, settled_if_some, unset_if_none, owner_within}
 use Rattle.cfgleast.proofs.settle.settle_next.Given.{Over}
 use Rattle.cfgleast.proofs.settle.settle_next.Goals.{After-from-rule}

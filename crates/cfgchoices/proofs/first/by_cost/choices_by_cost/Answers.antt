@@ -1,6 +1,6 @@
 use Rattle.std.proofs.Common.{◌≡◌, ℕ, zero, suc, ◌∷◌, Option, None, map, replicate, refl, ap, ◌∙◌}
 use Rattle.cfgindex.specs.declared.idxnewtype.PIdx.{PIdx}
-use Rattle.cfgchoices.specs.Inner.Kinds.{production_numbers}
+use Rattle.cfgchoices.specs.Kinds.{production_numbers}
 use Rattle.cfgchoices.specs.Inner.Candidates.{candidates_of, production_number}
 use Rattle.cfgchoices.proofs.ChosenBelow.{climbed_begins}
 use Rattle.cfgchoices.proofs.first.by_cost.choices_by_cost.Goals as goal

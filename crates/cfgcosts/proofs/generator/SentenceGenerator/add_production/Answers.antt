@@ -3,7 +3,7 @@ use Rattle.std.proofs.lemmas.List.{map-append}
 use Rattle.search.specs.Reachable.{Reaches}
 use Rattle.search.proofs.Reaching.{reaches_as, reaches_known}
 use Rattle.cfgleast.specs.Generator.{CostTables, IsGenerator}
-use Rattle.cfgchoices.specs.Inner.Kinds.{AreKinds, IsBaseProduction, IsTarget, IsKind, IsOptimal, production_numbers}
+use Rattle.cfgchoices.specs.Kinds.{AreKinds, IsBaseProduction, IsTarget, IsKind, IsOptimal, production_numbers}
 use Rattle.cfgcosts.proofs.BaseBelow.{lists_none, lists_one}
 use Rattle.cfgchoices.proofs.Optimal.{answered_within, kind_read, one_target}
 use Rattle.cfgchoices.specs.declared.kinds.Kind.{Kind}

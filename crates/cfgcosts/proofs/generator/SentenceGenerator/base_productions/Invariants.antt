@@ -1,5 +1,5 @@
 use Rattle.search.proofs.Reaching.{left_to_do}
-use Rattle.cfgchoices.specs.Inner.Kinds.{production_numbers}
+use Rattle.cfgchoices.specs.Kinds.{production_numbers}
 use Rattle.cfgcosts.proofs.BaseBelow.{BaseSearch}
 use Rattle.cfgcosts.proofs.generator.SentenceGenerator.base_productions.Given as goal
 

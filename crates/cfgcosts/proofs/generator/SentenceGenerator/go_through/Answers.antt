@@ -4,7 +4,7 @@ use Rattle.search.proofs.Each.{each_none, each_more, each_all, found_mapped}
 use Rattle.cfgtables.specs.Openings.{ArePositionsOf}
 use Rattle.cfgtables.proofs.Slices.{mapped_within, mapped_at, mapped_all}
 use Rattle.cfgleast.specs.Generator.{CostTables}
-use Rattle.cfgchoices.specs.Inner.Kinds.{IsTarget, production_numbers}
+use Rattle.cfgchoices.specs.Kinds.{IsTarget, production_numbers}
 use Rattle.cfgcosts.proofs.BaseBelow.{targets_end, owns_begin, owns_more, owns_end}
 use Rattle.cfgcosts.proofs.generator.SentenceGenerator.go_through.Goals as goal
 

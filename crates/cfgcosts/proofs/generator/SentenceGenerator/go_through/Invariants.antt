@@ -1,6 +1,6 @@
 use Rattle.std.proofs.Common.{take}
 use Rattle.search.specs.Reachable.{FoundBy, Reaches}
-use Rattle.cfgchoices.specs.Inner.Kinds.{IsTarget, production_numbers}
+use Rattle.cfgchoices.specs.Kinds.{IsTarget, production_numbers}
 use Rattle.cfgcosts.specs.Inner.Minimal.{Lists}
 use Rattle.cfgcosts.proofs.BaseBelow.{BaseAmong}
 use Rattle.cfgcosts.proofs.generator.SentenceGenerator.go_through.Given as goal

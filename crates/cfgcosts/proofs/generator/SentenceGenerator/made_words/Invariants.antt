@@ -1,7 +1,7 @@
 use Rattle.std.proofs.Common.{◌≡◌, take}
 use Rattle.std.specs.List.{flat_map}
 use Rattle.cfgtables.specs.Openings.{nth_production}
-use Rattle.cfgchoices.specs.Inner.Kinds.{production_numbers}
+use Rattle.cfgchoices.specs.Kinds.{production_numbers}
 use Rattle.cfgcosts.specs.Inner.Minimal.{row_words, sentences_in, words_of}
 use Rattle.cfgcosts.proofs.generator.SentenceGenerator.made_words.Given as goal
 

@@ -1,7 +1,7 @@
 use Rattle.std.proofs.Common.{◌↔◌, ◌<◌, ℕ, [], ◌∷◌, ◌++◌, All, Contains, length, map, sym, ap, subst, ◌∙◌, arith}
 use Rattle.std.proofs.lemmas.List.Elements.{All-contains_itself, All-weaker}
 use Rattle.cfgcosts.specs.Inner.Minimal.{AreMinimal}
-use Rattle.cfgchoices.specs.Inner.Kinds.{IsBaseBelow, production_numbers}
+use Rattle.cfgchoices.specs.Kinds.{IsBaseBelow, production_numbers}
 use Rattle.cfgcosts.specs.Sentences.{numbers_of}
 use Rattle.cfgcosts.proofs.Filled.{all_minimal, free_alone}
 use Rattle.cfgcosts.proofs.generator.SentenceGenerator.rule_sentences.Goals as goal

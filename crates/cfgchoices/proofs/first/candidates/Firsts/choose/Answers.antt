@@ -1,6 +1,6 @@
 use Rattle.std.proofs.Common.{◌≡◌, ◌<◌, ◌+◌, None, Some, length, map, slice_set, refl, sym, ap, subst, ◌∙◌, arith}
 use Rattle.cfgleast.specs.Certificate.{choice_of, rule_choice}
-use Rattle.cfgchoices.specs.Inner.Kinds.{IsTarget}
+use Rattle.cfgchoices.specs.Kinds.{IsTarget}
 use Rattle.cfgchoices.specs.Inner.Candidates.{Adds, HandlesChains, IsHandled, IsCandidate, Nominating, Candidates, Takes, candidates_of, owner, waiting}
 use Rattle.cfgchoices.proofs.Nominated.{target_nominated}
 use Rattle.cfgchoices.proofs.Taken.{chosen_going, chosen_handles, chosen_left, chosen_shown, entry_within, has_shown, now, now_nominating, number_fits, passed_going, passed_handles, taken_cost, taken_less, unset_shown}

@@ -3,7 +3,7 @@ use Rattle.std.specs.Prelude.{IfSome}
 use Rattle.cfgtables.specs.NumberedSymbols.{sym_of}
 use Rattle.cfgindex.specs.declared.idxnewtype.Symbol.{Symbol}
 use Rattle.cfgindex.specs.declared.idxnewtype.TIdx.{TIdx}
-use Rattle.cfgchoices.specs.Inner.Choices.{ChoicesGive}
+use Rattle.cfgchoices.specs.Choices.{ChoicesGive}
 use Rattle.cfgchoices.specs.Inner.Candidates.{Gives, Pends, with_choices, left_to_open, candidates_of, sequence}
 use Rattle.cfgchoices.proofs.Compared.{Begins, Next, ended, first_differ, next, some_first, some_second}
 use Rattle.cfgchoices.proofs.Nominated.{nominated_given}

@@ -1,5 +1,5 @@
 use Rattle.std.proofs.Common.{◌≡◌, ◌++◌, ◌-◌, [], take, sym, ap, subst, ◌∙◌}
-use Rattle.cfgchoices.specs.Inner.Kinds.{production_numbers}
+use Rattle.cfgchoices.specs.Kinds.{production_numbers}
 use Rattle.cfgchoices.specs.Inner.Candidates.{Takes, candidates_of}
 use Rattle.cfgchoices.proofs.Taken.{last_taken, take_sorted, take_ready}
 use Rattle.cfgchoices.proofs.first.candidates.Firsts.next.Goals as goal

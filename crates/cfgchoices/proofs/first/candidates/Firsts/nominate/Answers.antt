@@ -1,5 +1,5 @@
 use Rattle.std.proofs.Common.{sym, ap, ◌∙◌}
-use Rattle.cfgchoices.specs.Inner.Kinds.{production_numbers}
+use Rattle.cfgchoices.specs.Kinds.{production_numbers}
 use Rattle.cfgchoices.specs.Inner.Candidates.{is_sole, candidates_of}
 use Rattle.cfgchoices.proofs.Located.{covered_adds, ready_adds, ready_nominating}
 use Rattle.cfgchoices.proofs.Taken.{last_taken}

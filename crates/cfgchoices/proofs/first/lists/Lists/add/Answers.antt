@@ -1,7 +1,7 @@
 use Rattle.std.proofs.Common.{◌≡◌, ◌<◌, ℕ, length, Some, refl, sym, subst, ◌∙◌, arith}
 use Rattle.std.proofs.lemmas.List.{length-set}
 use Rattle.cfgleast.specs.Generator.{tables_of}
-use Rattle.cfgchoices.specs.Inner.Kinds.{IsTarget, IsKind}
+use Rattle.cfgchoices.specs.Kinds.{IsTarget, IsKind}
 use Rattle.cfgchoices.specs.Inner.Lists.{IsBaseAt}
 use Rattle.cfgchoices.specs.Inner.Candidates.{owner}
 use Rattle.cfgchoices.proofs.Listed.{listed_elsewhere, listed_first, listed_nowhere, base_cost_reported}

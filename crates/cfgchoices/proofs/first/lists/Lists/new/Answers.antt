@@ -3,7 +3,7 @@ use Rattle.std.proofs.lemmas.List.{get_or_default, length-replicate}
 use Rattle.derivation.specs.CostLists.{rule_cost}
 use Rattle.cfgleast.specs.Generator.{tables_of}
 use Rattle.cfgleast.proofs.Generated.{answered_some}
-use Rattle.cfgchoices.specs.Inner.Kinds.{IsTarget, IsKind}
+use Rattle.cfgchoices.specs.Kinds.{IsTarget, IsKind}
 use Rattle.cfgchoices.specs.Inner.Lists.{AreLists, IsBaseAt}
 use Rattle.cfgchoices.specs.declared.kinds.Kind.TheVariants.{Suboptimal}
 use Rattle.cfgchoices.proofs.Listed.{listed_none}

@@ -1,6 +1,6 @@
 use Rattle.std.proofs.Common.{◌≡◌, ◌<◌, ◌+◌, None, get_or, sym, ap, subst, ◌∙◌, arith}
 use Rattle.std.proofs.lemmas.List.{get_or_default}
-use Rattle.cfgchoices.specs.Inner.Kinds.{IsTarget}
+use Rattle.cfgchoices.specs.Kinds.{IsTarget}
 use Rattle.cfgchoices.specs.Inner.Lists.{AreLists, IsFirstFrom, IsBaseAt}
 use Rattle.cfgchoices.specs.Inner.Candidates.{Known}
 use Rattle.cfgchoices.proofs.first.optimal.OptimalTables.next.Given.{Over}

@@ -6,9 +6,9 @@ use Rattle.cfgtables.specs.Openings.{nth_production}
 use Rattle.derivation.specs.CostLists.{rule_cost}
 use Rattle.derivation.specs.Sums.{sum_of, symbol_cost}
 use Rattle.cfgleast.specs.Certificate.{rule_choice}
-use Rattle.cfgchoices.specs.Inner.Choices.{ChoicesGive}
+use Rattle.cfgchoices.specs.Choices.{ChoicesGive}
 use Rattle.cfgleast.specs.Generator.{CostTables, IsGenerator, token_cost}
-use Rattle.cfgchoices.specs.Inner.Kinds.{IsOptimal}
+use Rattle.cfgchoices.specs.Kinds.{IsOptimal}
 use Rattle.cfgchoices.specs.FirstSentence.{lexicographic}
 
 -- the symbol is a token, or a rule that has no choice or one with a number less than n

@@ -1,6 +1,6 @@
 -- The work list of an analysis: the productions that wait, and for each rule those that depend on its set.
 use Rattle.std.specs.Prelude.{◌≡◌, ◌↔◌, ◌⊎◌, ℕ, Bool, List, [], length, Contains, slice_index_or}
-use Rattle.cfganalysis.specs.Inner.Waiting.{Waits}
+use Rattle.cfganalysis.specs.Waiting.{Waits}
 
 -- the productions that depend on the rule's set
 abbrev pub users_of : List (List ℕ) → ℕ → List ℕ

@@ -6,8 +6,8 @@ use Rattle.cfgindex.specs.declared.idxnewtype.Symbol.{Symbol}
 use Rattle.cfgtables.specs.NumberedSymbols.{sym_of}
 use Rattle.cfgtables.specs.Openings.{most_openings, most_openings_all, nth_production}
 use Rattle.cfganalysis.specs.Table.{bits_on}
-use Rattle.cfganalysis.specs.Inner.Waiting.{waits, Waits, NoneWaits}
-use Rattle.cfganalysis.specs.Inner.Work.{users_of, DependsOnGrown}
+use Rattle.cfganalysis.specs.Waiting.{waits, Waits, NoneWaits}
+use Rattle.cfganalysis.specs.Work.{users_of, DependsOnGrown}
 
 -- a production with this rule and these symbols
 abbrev pub shown : {S : Type 0} → (S → ℕ) → RIdx S → List (Symbol S) → Production
