@@ -11,9 +11,9 @@ use Rattle.derivation.proofs.Firsts.{nullable_map, begins_map, closed_first, clo
 use Rattle.search.proofs.Bits.{bit_put, bits_on-fewer, bits_on-set}
 use Rattle.cfgtables.proofs.Located.{owner}
 use Rattle.cfganalysis.specs.Firsts.{FirstSets, AreFirsts, IsAmongFirsts, IsNullableRule, nullable_bit}
-use Rattle.cfganalysis.specs.Inner.GrowingFirsts.{AreNullableBy, is_nullable_symbol, AreSoundFirsts, CoverFirstsOf, BeginsBy, no_firsts, with_nullable, HasNoMoreFirsts, HoldsRule, count_firsts}
+use Rattle.cfganalysis.specs.Inner.GrowingFirsts.{AreNullableBy, is_nullable_symbol, AreSoundFirsts, CoverFirstsOf, BeginsBy, no_firsts, with_nullable, HasNoMoreFirsts, count_firsts}
 use Rattle.cfganalysis.specs.Table.{IsTable, Joins, bits_on}
-use Rattle.cfganalysis.specs.Growth.{CoversEach, AddsProduction}
+use Rattle.cfganalysis.specs.Growth.{HoldsRule, CoversEach, AddsProduction}
 use Rattle.cfganalysis.proofs.Joins.{bit-no_bits, IsTable-no_bits, count_of-fewer}
 use Rattle.cfganalysis.specs.Waiting.{Waits, NoneWaits}
 

@@ -1,6 +1,6 @@
 -- A work-list algorithm computes sets, one for each rule: each production adds what it gives, which depends on the sets of some rules.
 use Rattle.std.specs.Prelude.{◌≡◌, ℕ, ◌+◌, ◌-◌, ◌*◌, ◌^◌, ◌<◌, ◌≤◌, ◌⊎◌, ◌↔◌, Bool, false, cond, List, map, length, Contains}
-use Rattle.derivation.specs.Grammar.{Grammar, Production, IsGrammar}
+use Rattle.derivation.specs.Grammar.{Grammar, Production, Rule, IsGrammar}
 use Rattle.cfgindex.specs.declared.idxnewtype.RIdx.{RIdx}
 use Rattle.cfgindex.specs.declared.idxnewtype.Symbol.{Symbol}
 use Rattle.cfgtables.specs.NumberedSymbols.{sym_of}
@@ -12,6 +12,10 @@ use Rattle.cfganalysis.specs.Work.{users_of, DependsOnGrown}
 -- a production with this rule and these symbols
 abbrev pub shown : {S : Type 0} → (S → ℕ) → RIdx S → List (Symbol S) → Production
 shown number rule symbols = record { rule = number rule.0; symbols = map (sym_of number) symbols }
+
+-- rule r is in the production; what the production gives depends on r's set
+abbrev pub HoldsRule : Production → ℕ → Type 0
+HoldsRule p r = Contains p.symbols (Rule r)
 
 -- p is a production of some grammar, and `users` has an entry for each of its rules
 abbrev pub CanNote : List (List ℕ) → Production → Type 0

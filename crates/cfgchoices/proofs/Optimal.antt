@@ -21,7 +21,7 @@ use Rattle.derivation.proofs.Made.{cost_of-token}
 use Rattle.cfgleast.specs.Generator.{CostTables, IsGenerator, cost_answer, token_cost}
 use Rattle.cfgchoices.specs.Chains.{Along, here, next, IsOptimalProduction, ChainsTo, IsBase}
 use Rattle.cfgchoices.specs.Kinds.{AreKinds, HasTarget, IsBaseProduction, HasRulesAsTargets, IsTarget, IsKind, IsSequenceKind, IsOptimal, IsMinimal, IsBaseBelow}
-use Rattle.cfgleast.specs.Inner.Open.{StopsAt}
+use Rattle.cfgleast.specs.CutSums.{StopsAt}
 use Rattle.cfgchoices.specs.Splits.{Split, done, itself, part}
 use Rattle.cfgchoices.specs.declared.kinds.Kind.{Kind}
 use Rattle.cfgchoices.specs.declared.kinds.Kind.TheVariants as kinds

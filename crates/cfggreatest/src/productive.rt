@@ -1,8 +1,7 @@
 //! Which rules are productive.
 
 ghost use Rattle.std.specs.Prelude.{◌≡◌, IfOk, MatchBool, length, map};
-ghost use Rattle.cfganalysis.specs.Growth.{CanNote, CanAddProduction, AddsProduction, shown};
-ghost use Rattle.cfganalysis.specs.Inner.GrowingFirsts.{HoldsRule};
+ghost use Rattle.cfganalysis.specs.Growth.{HoldsRule, CanNote, CanAddProduction, AddsProduction, shown};
 ghost use Rattle.cfganalysis.specs.Waiting.{Waits};
 ghost use Rattle.cfganalysis.specs.Work.{Notes};
 ghost use Rattle.cfgtables.specs.NumberedSymbols.{sym_of};

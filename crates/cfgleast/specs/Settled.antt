@@ -1,13 +1,11 @@
 -- Rules that are settled at their least costs, and the productions that settled them.
-use Rattle.std.specs.Prelude.{◌≡◌, ℕ, ◌+◌, ◌<◌, ◌≤◌, min, List, ◌∷◌, Option, Some, None, All, length, sum_by}
-use Rattle.std.specs.List.Sorted.{IsPermutation}
+use Rattle.std.specs.Prelude.{◌≡◌, ℕ, ◌+◌, ◌<◌, ◌≤◌, min, List, Option, Some, None, All, length, sum_by}
 use Rattle.derivation.specs.Grammar.{Grammar}
 use Rattle.cfgtables.specs.Openings.{nth_production}
 use Rattle.derivation.specs.Sums.{sum_of, symbol_cost}
 use Rattle.derivation.specs.CostLists.{rule_cost}
 use Rattle.cfgleast.specs.Certificate.{IsChosenBelow, rule_choice}
-use Rattle.cfgleast.specs.declared.partial.Partial.{Partial}
-use Rattle.cfgleast.specs.Inner.Open.{IsCutSum, AreAllOpen}
+use Rattle.cfgleast.specs.CutSums.{IsCutSum}
 
 -- 1 for a rule that isn't settled
 abbrev pub unsettled : Option ℕ → ℕ
@@ -24,7 +22,7 @@ module _ (g : Grammar) (cost : ℕ → ℕ) (least : List (Option ℕ)) (choices
     pub below : All (IsChosenBelow choices n) (nth_production g p).symbols
 
   -- n rules were settled, each by a production, and the others have no choice
-  pub record AreChosen (n : ℕ) : Type 0 where
+  pub record AreSettledSoFar (n : ℕ) : Type 0 where
     pub costs : length least ≡ g.rules
     pub listed : length choices ≡ g.rules
     pub counted : n + sum_by unsettled least ≡ g.rules
@@ -33,13 +31,6 @@ module _ (g : Grammar) (cost : ℕ → ℕ) (least : List (Option ℕ)) (choices
 
   -- each productive rule was settled at its least cost, cut down to 65536
   pub record AreSettled (n : ℕ) : Type 0 where
-    pub chosen : AreChosen n
+    pub chosen : AreSettledSoFar n
     pub covered : (p m : ℕ) → p < length g.productions → sum_of (symbol_cost cost (rule_cost least)) (nth_production g p).symbols ≡ Some m
         → (d : ℕ) × (rule_cost least (nth_production g p).rule ≡ Some d) × (d ≤ min m 65536)
-
--- the least entry has left the queue
-pub record HasPopped (g : Grammar) (cost : ℕ → ℕ) (least : List (Option ℕ)) (top : ℕ × ℕ) (queue : List (ℕ × ℕ)) (waiting : List (List Partial)) : Type 0 where
-  pub before : List (ℕ × ℕ)
-  pub state : AreAllOpen cost (rule_cost least) g before waiting
-  pub out : IsPermutation before (top ∷ queue)
-  pub cheapest : All (λ (entry : ℕ × ℕ). top.0 ≤ entry.0) queue
