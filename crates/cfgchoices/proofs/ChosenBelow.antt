@@ -9,12 +9,12 @@ use Rattle.lemmas.proofs.Elements.{get_or-replicate_default}
 use Rattle.cfgleast.specs.Certificate.{rule_choice}
 use Rattle.cfgleast.specs.Generator.{CostTables, cost_answer}
 use Rattle.cfgchoices.specs.FirstChoices.{AreFirst, AreChosen}
-use Rattle.cfgchoices.specs.Kinds.{IsTarget}
+use Rattle.cfgchoices.specs.Kinds.{IsChain}
 use Rattle.cfgchoices.specs.Inner.Lists.{IsBaseAt}
 use Rattle.cfgchoices.specs.Inner.Candidates.{Adds, ChosenBelow, HandlesChains, HasChoice, IsDone, IsHandled, IsKnown, IsCandidate, Known, Nominating, Candidates, Waits, with_choices, owner, waiting}
 use Rattle.cfgchoices.specs.Chains.{here}
-use Rattle.cfgchoices.proofs.FirstsMade.{all_chosen, walks}
-use Rattle.cfgchoices.proofs.Nominated.{chosen_ready}
+use Rattle.cfgchoices.proofs.AllChosen.{all_chosen, walks}
+use Rattle.cfgchoices.proofs.Nominated.{chosen_below}
 use Rattle.std.proofs.lemmas.List.Folds.{sum_by-replicate}
 use Rattle.cfgchoices.proofs.Optimal.{one_cost, base_costs, base_less, optimal_whatever}
 
@@ -30,7 +30,7 @@ module _ (k : Known) (n : ℕ) (is : IsKnown k n) (f : Candidates) (c : ℕ) (cl
   abbrev x : CostTables
   x = k.tables
 
-  handed : (q r : ℕ) → IsTarget x q r → HasChoice f.choices r → IsDone x f.choices q
+  handed : (q r : ℕ) → IsChain x q r → HasChoice f.choices r → IsDone x f.choices q
   handed q r target has = all_done x f climbed.none q (climbed.going.chains q r target has)
 
   older : (r d : ℕ) → cost_answer x r ≡ Some d → 0 < d → d < c → HasChoice f.choices r
@@ -59,11 +59,11 @@ module _ (k : Known) (n : ℕ) (is : IsKnown k n) (f : Candidates) (c : ℕ) (cl
   base_nominated p (base, e) = record {
     optimal = base.optimal;
     cost = e;
-    ready = λ q h.
+    below = λ q h.
         let (d, known) = base_costs x n is.generator is.grammar p q base h in
         let less = base_less x n is.generator is.grammar (owner x p) p base.optimal.cost q d (record { leads = here; base = base }) base.optimal.rule h known in
         elim (cases_lt 0 d) [
-          | inl some ↦ chosen_ready x f.choices f.number climbed.going.nominating.candidates.choosing q (older q d known some (omega (arith, less, e)))
+          | inl some ↦ chosen_below x f.choices f.number climbed.going.nominating.candidates.choosing q (older q d known some (omega (arith, less, e)))
           | inr none ↦ inl (known ∙ ap Some (omega (arith, none)))
         ];
     floor = λ r has costs several. absurd (let lt = climbed.cheaper r c has costs in omega (arith, lt));

@@ -4,12 +4,12 @@ pub mod Splits
 pub mod Chains
 pub mod Choices
 pub mod TreeSizes
-pub mod Firsts
+pub mod FirstSentences
 pub mod Optimal
 pub mod GrowingChoices
 pub mod FirstChosen
-pub mod ChoosingFirsts
-pub mod FirstsMade
+pub mod Choosing
+pub mod AllChosen
 pub mod SequencesInOrder
 pub mod Nominated
 pub mod Pending

@@ -12,9 +12,9 @@ use Rattle.cfgchoices.specs.Kinds.{IsOptimal}
 use Rattle.cfgchoices.specs.FirstSentence.{lexicographic}
 
 -- the symbol is a token, or a rule that has no choice or one with a number less than n
-abbrev pub IsNotAbove : List (Option (ℕ × ℕ)) → ℕ → Sym → Type 0
-IsNotAbove choices n (Token t) = Unit {0}
-IsNotAbove choices n (Rule r) = IfSome (rule_choice choices r) (λ choice. choice.1 < n)
+abbrev pub IsBelowIfChosen : List (Option (ℕ × ℕ)) → ℕ → Sym → Type 0
+IsBelowIfChosen choices n (Token t) = Unit {0}
+IsBelowIfChosen choices n (Rule r) = IfSome (rule_choice choices r) (λ choice. choice.1 < n)
 
 -- the choice of rule q, which costs d: production p costs d too, and each rule in it has no choice or one with a number less than m
 pub record IsChoiceOf (x : CostTables) (q d p m : ℕ) : Type 0 where
@@ -24,7 +24,7 @@ pub record IsChoiceOf (x : CostTables) (q d p m : ℕ) : Type 0 where
   pub has : HasProduction x.grammar q (nth_production x.grammar p).symbols
   pub symbols : All (IsSymbolOf x.grammar) (nth_production x.grammar p).symbols
   pub sum : sum_of (symbol_cost (token_cost x) (rule_cost x.least)) (nth_production x.grammar p).symbols ≡ Some d
-  pub below : All (IsNotAbove x.choices m) (nth_production x.grammar p).symbols
+  pub below : All (IsBelowIfChosen x.choices m) (nth_production x.grammar p).symbols
   pub deep : m < x.grammar.rules
 
 -- the least costs are a generator's; rules that cost 1 to 65535 have choices, rules that cost 0 have none
@@ -35,7 +35,7 @@ pub record AreChosen (x : CostTables) : Type 0 where
   pub listed : length x.choices ≡ x.grammar.rules
   pub free : (q : ℕ) → rule_cost x.least q ≡ Some 0 → rule_choice x.choices q ≡ None
   pub chosen : (q d : ℕ) → rule_cost x.least q ≡ Some d → 0 < d → d ≤ 65535 → (p : ℕ) × (m : ℕ) × IsChoiceOf x q d p m
-  pub below : (q p m : ℕ) → rule_choice x.choices q ≡ Some (p, m) → All (IsNotAbove x.choices m) (nth_production x.grammar p).symbols
+  pub below : (q p m : ℕ) → rule_choice x.choices q ≡ Some (p, m) → All (IsBelowIfChosen x.choices m) (nth_production x.grammar p).symbols
 
 -- no optimal production gives anything lexicographically less than its rule's choice
 abbrev pub AreFirst : CostTables → Type 0

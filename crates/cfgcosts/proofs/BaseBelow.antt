@@ -7,7 +7,7 @@ use Rattle.search.specs.Reachable.{FoundBy, Reachable, Reaches, SearchState, led
 use Rattle.search.proofs.Reaching.{Begun, Searching, popped_reachable, reaches_as, search_begins, search_ends, search_goes_on}
 use Rattle.cfgleast.specs.Generator.{CostTables}
 use Rattle.cfgchoices.specs.Chains.{Along, here, next}
-use Rattle.cfgchoices.specs.Kinds.{HasTarget, IsBaseProduction, IsTarget, IsBaseBelow}
+use Rattle.cfgchoices.specs.Kinds.{LeadsTo, IsBase, IsChain, ReachesBase}
 use Rattle.cfgcosts.specs.Inner.Minimal.{Lists}
 use Rattle.lemmas.proofs.Contained.{contains_none}
 
@@ -26,7 +26,7 @@ lists_one base base' Is p e to from q = (
 -- the rules that chain productions lead to, and the base productions
 module _ (x : CostTables) where
   abbrev pub BaseAmong : List ℕ → ℕ → Type 0
-  BaseAmong positions q = Contains positions q × IsBaseProduction x q
+  BaseAmong positions q = Contains positions q × IsBase x q
 
   module _ (positions : List ℕ) where
     pub owns_begin : (base : List ℕ) → Lists (BaseAmong (take 0 positions)) base base
@@ -36,7 +36,7 @@ module _ (x : CostTables) where
       longer : take (n + 1) positions ≡ take n positions ++ (p ∷ [])
       longer = take_more positions n p lt ∙ ap (λ q. take n positions ++ (q ∷ [])) (sym is)
 
-      pub owns_more : (old mid new : List ℕ) → Lists (BaseAmong (take n positions)) old mid → Lists (λ q. (q ≡ p) × IsBaseProduction x q) mid new
+      pub owns_more : (old mid new : List ℕ) → Lists (BaseAmong (take n positions)) old mid → Lists (λ q. (q ≡ p) × IsBase x q) mid new
           → Lists (BaseAmong (take (n + 1) positions)) old new
       owns_more old mid new w v q = (
         (λ h. elim ((v q).0 h) [
@@ -56,13 +56,13 @@ module _ (x : CostTables) where
       )
 
     module _ (rule : ℕ) (are : ArePositionsOf x.grammar rule positions) where
-      pub targets_end : (old new : SearchState) → Reaches (FoundBy (IsTarget x) positions) old new → Reaches (HasTarget x rule) old new
-      targets_end old new w = reaches_as (FoundBy (IsTarget x) positions) (HasTarget x rule) old new
+      pub targets_end : (old new : SearchState) → Reaches (FoundBy (IsChain x) positions) old new → Reaches (LeadsTo x rule) old new
+      targets_end old new w = reaches_as (FoundBy (IsChain x) positions) (LeadsTo x rule) old new
           (λ q h. record { index = h.thing; owner = (are.listed h.thing h.finds.optimal.index).0 h.among; target = h.finds })
           (λ q h. record { thing = h.index; among = (are.listed h.index h.target.optimal.index).1 h.owner; finds = h.target })
           w
 
-      pub owns_end : (n : ℕ) → length positions ≤ n → (old new : List ℕ) → Lists (BaseAmong (take n positions)) old new → Lists (λ p. ((nth_production x.grammar p).rule ≡ rule) × IsBaseProduction x p) old new
+      pub owns_end : (n : ℕ) → length positions ≤ n → (old new : List ℕ) → Lists (BaseAmong (take n positions)) old new → Lists (λ p. ((nth_production x.grammar p).rule ≡ rule) × IsBase x p) old new
       owns_end n le old new w q =
           let all = subst (λ l. Lists (BaseAmong l) old new) (take_all n positions le) w in (
             (λ h. elim ((all q).0 h) [ inl i ↦ inl i | inr i ↦ inr ((are.listed q i.1.optimal.index).0 i.0, i.1) ]),
@@ -89,34 +89,34 @@ module _ (Link : ℕ → ℕ → Type 0) (r : ℕ) where
 -- a search along chain productions lists the base productions of the rules that were visited
 module _ (x : CostTables) (r : ℕ) where
   abbrev BaseListed : List ℕ → ℕ → Type 0
-  BaseListed base b = (p : ℕ) → (nth_production x.grammar p).rule ≡ b → IsBaseProduction x p → Contains base p
+  BaseListed base b = (p : ℕ) → (nth_production x.grammar p).rule ≡ b → IsBase x p → Contains base p
 
   pub record BaseSearch (base : List ℕ) (s : SearchState) : Type 0 where
-    pub search : Searching x.grammar.rules (λ q. q ≡ r) (HasTarget x) (BaseListed base) s
-    pub below : (p : ℕ) → Contains base p → IsBaseBelow x r p
+    pub search : Searching x.grammar.rules (λ q. q ≡ r) (LeadsTo x) (BaseListed base) s
+    pub below : (p : ℕ) → Contains base p → ReachesBase x r p
 
   pub base_search_begins : (s : SearchState) → Begun x.grammar.rules (λ q. q ≡ r) s → BaseSearch [] s
   base_search_begins s b = record {
-    search = search_begins x.grammar.rules (λ q. q ≡ r) (HasTarget x) (BaseListed []) s b;
+    search = search_begins x.grammar.rules (λ q. q ≡ r) (LeadsTo x) (BaseListed []) s b;
     below = λ p h. absurd (contains_none p h);
   }
 
   pub base_search_goes_on : (b : ℕ) (old mid new : SearchState) (base base' : List ℕ) → BaseSearch base old → mid.reachable ≡ old.reachable → old.waiting ≡ mid.waiting ++ b ∷ []
-      → Reaches (HasTarget x b) mid new → Lists (λ p. ((nth_production x.grammar p).rule ≡ b) × IsBaseProduction x p) base base' → BaseSearch base' new
+      → Reaches (LeadsTo x b) mid new → Lists (λ p. ((nth_production x.grammar p).rule ≡ b) × IsBase x p) base base' → BaseSearch base' new
   base_search_goes_on b old mid new base base' l same popped w lists = record {
-    search = search_goes_on x.grammar.rules (λ q. q ≡ r) (HasTarget x) (BaseListed base) b old mid l.search popped new (BaseListed base')
+    search = search_goes_on x.grammar.rules (λ q. q ≡ r) (LeadsTo x) (BaseListed base) b old mid l.search popped new (BaseListed base')
         (λ a d p owner without. (lists p).1 (inl (d p owner without))) (λ p owner without. (lists p).1 (inr (owner, without))) same w;
     below = λ p h. elim ((lists p).0 h) [
       | inl i ↦ l.below p i
-      | inr i ↦ record { leads = subst (Along (HasTarget x) r) (sym i.0) leads; base = i.1 }
+      | inr i ↦ record { leads = subst (Along (LeadsTo x) r) (sym i.0) leads; base = i.1 }
     ];
   }
     where
-      leads : Along (HasTarget x) r b
-      leads = along_reached (HasTarget x) r (l.search.sound b (popped_reachable x.grammar.rules (λ q. q ≡ r) (HasTarget x) (BaseListed base) b old mid l.search popped))
+      leads : Along (LeadsTo x) r b
+      leads = along_reached (LeadsTo x) r (l.search.sound b (popped_reachable x.grammar.rules (λ q. q ≡ r) (LeadsTo x) (BaseListed base) b old mid l.search popped))
 
-  pub base_search_ends : (base : List ℕ) (s : SearchState) → BaseSearch base s → s.waiting ≡ [] → (p : ℕ) → Contains base p ↔ IsBaseBelow x r p
+  pub base_search_ends : (base : List ℕ) (s : SearchState) → BaseSearch base s → s.waiting ≡ [] → (p : ℕ) → Contains base p ↔ ReachesBase x r p
   base_search_ends base s l none p = (
     l.below p,
-    (λ h. (search_ends x.grammar.rules (λ q. q ≡ r) (HasTarget x) (BaseListed base) s l.search none (reached_along (HasTarget x) r h.leads)).1 p refl h.base),
+    (λ h. (search_ends x.grammar.rules (λ q. q ≡ r) (LeadsTo x) (BaseListed base) s l.search none (reached_along (LeadsTo x) r h.leads)).1 p refl h.base),
   )

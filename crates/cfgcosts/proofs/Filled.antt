@@ -14,7 +14,7 @@ use Rattle.derivation.specs.Grammar.{Grammar, Sym, Rule, IsGrammar}
 use Rattle.cfgtables.specs.Openings.{nth_production}
 use Rattle.cfgleast.specs.Generator.{CostTables, IsGenerator, cost_answer}
 use Rattle.cfgcosts.specs.Inner.Minimal.{AreRequested, AreMinimal, HasSentence, IsMadeBy, IsReadyFor, Puts, row_words, sentences_in, words_of}
-use Rattle.cfgchoices.specs.Kinds.{IsMinimal, IsBaseBelow}
+use Rattle.cfgchoices.specs.Kinds.{IsMinimal, ReachesBase}
 use Rattle.cfgchoices.specs.FirstSentence.{lexicographic}
 use Rattle.cfgcosts.specs.Sentences.{numbers_of}
 use Rattle.cfgchoices.specs.Splits.{Split, done, itself, part}
@@ -65,7 +65,7 @@ made_by g sentences positions w =
 module _ (x : CostTables) where
   -- what base productions below a rule make of minimal sentences are those of the rule
   module _ (n : ℕ) (is : IsGenerator x n) (grammar : IsGrammar x.grammar) (r c : ℕ) (answer : cost_answer x r ≡ Some c) where
-    made_minimal : (sentences : ℕ → List (List ℕ)) (base : List ℕ) → 0 < c → IsReadyFor x sentences r → ((p : ℕ) → Contains base p ↔ IsBaseBelow x r p)
+    made_minimal : (sentences : ℕ → List (List ℕ)) (base : List ℕ) → 0 < c → IsReadyFor x sentences r → ((p : ℕ) → Contains base p ↔ ReachesBase x r p)
         → (w : List ℕ) → IsMadeBy x.grammar sentences base w ↔ IsMinimal x r w
     made_minimal sentences base some ready all w = (
       (λ m. let below = (all m.index).0 m.among in
@@ -77,7 +77,7 @@ module _ (x : CostTables) where
       }),
     )
 
-    pub all_minimal : {A E : Type 0} (sentences : ℕ → List (List ℕ)) (base : List ℕ) → 0 < c → IsReadyFor x sentences r → ((p : ℕ) → Contains base p ↔ IsBaseBelow x r p)
+    pub all_minimal : {A E : Type 0} (sentences : ℕ → List (List ℕ)) (base : List ℕ) → 0 < c → IsReadyFor x sentences r → ((p : ℕ) → Contains base p ↔ ReachesBase x r p)
         → (f : A → List (List ℕ)) (result : Result A E) → IfOk result (λ words. (w : List ℕ) → Contains (f words) w ↔ IsMadeBy x.grammar sentences base w)
         → IfOk result (λ words. IsStrictlySortedBy lexicographic (f words)) → IfOk result (λ words. AreMinimal x r (f words))
     all_minimal sentences base some ready all f (Ok words) made order = record {

@@ -9,7 +9,7 @@ use Rattle.search.specs.Reachable.{FoundBy, Reachable, Reaches, SearchState, led
 use Rattle.search.proofs.Reaching.{Begun, Searching, popped_reachable, reaches_as, search_begins, search_ends, search_goes_on}
 use Rattle.cfgleast.specs.Generator.{CostTables, IsGenerator, cost_answer}
 use Rattle.cfgcosts.specs.Inner.Minimal.{AreRequested}
-use Rattle.cfgchoices.specs.Kinds.{IsBaseBelow}
+use Rattle.cfgchoices.specs.Kinds.{ReachesBase}
 use Rattle.lemmas.proofs.Contained.{contains_cases, contains_first, contains_later, contains_none}
 use Rattle.cfgchoices.proofs.Optimal.{base_costs}
 
@@ -17,7 +17,7 @@ module _ (x : CostTables) (r : ℕ) where
   -- a base production below rule q contains rule s
   pub record Asks (q s : ℕ) : Type 0 where
     pub index : ℕ
-    pub below : IsBaseBelow x q index
+    pub below : ReachesBase x q index
     pub holds : Contains (nth_production x.grammar index).symbols (Rule s)
 
   abbrev pub HasAnswer : ℕ → Type 0
@@ -44,7 +44,7 @@ module _ (x : CostTables) (r : ℕ) where
   }
 
   pub asking_goes_on : (b c : ℕ) (old mid new : SearchState) (base : List ℕ) (listed listed' : List (ℕ × ℕ)) → Asking listed old → mid.reachable ≡ old.reachable
-      → old.waiting ≡ mid.waiting ++ b ∷ [] → ((p : ℕ) → Contains base p ↔ IsBaseBelow x b p) → Reaches (FoundBy (HeldIn x.grammar) base) mid new
+      → old.waiting ≡ mid.waiting ++ b ∷ [] → ((p : ℕ) → Contains base p ↔ ReachesBase x b p) → Reaches (FoundBy (HeldIn x.grammar) base) mid new
       → cost_answer x b ≡ Some c → IsPermutation ((c, b) ∷ listed) listed' → Asking listed' new
   asking_goes_on b c old mid new base listed listed' a same popped all w answer moved =
       let to = λ (e : ℕ × ℕ) (h : Contains ((c, b) ∷ listed) e). Contains-permutation ((c, b) ∷ listed) listed' e moved h in

@@ -12,7 +12,7 @@ use Rattle.cfgtables.specs.Openings.{nth_production}
 use Rattle.cfgleast.specs.Generator.{CostTables, cost_answer}
 use Rattle.cfgchoices.specs.FirstSentence.{lexicographic}
 use Rattle.cfgchoices.specs.Splits.{Split}
-use Rattle.cfgchoices.specs.Kinds.{IsMinimal, IsBaseBelow}
+use Rattle.cfgchoices.specs.Kinds.{IsMinimal, ReachesBase}
 use Rattle.cfgcosts.specs.Sentences.{numbers_of}
 
 -- the new list has what was listed before and what satisfies `Is`
@@ -23,7 +23,7 @@ Lists Is old new = (p : ℕ) → Contains new p ↔ (Contains old p ⊎ Is p)
 pub record AreRequested (x : CostTables) (r : ℕ) (listed : List (ℕ × ℕ)) : Type 0 where
   pub costs : (c q : ℕ) → Contains listed (c, q) → cost_answer x q ≡ Some c
   pub first : (c : ℕ) × Contains listed (c, r)
-  pub below : (c q p s : ℕ) → Contains listed (c, q) → IsBaseBelow x q p → Contains (nth_production x.grammar p).symbols (Rule s)
+  pub below : (c q p s : ℕ) → Contains listed (c, q) → ReachesBase x q p → Contains (nth_production x.grammar p).symbols (Rule s)
       → (d : ℕ) × Contains listed (d, s)
 
 -- the numbers of the tokens of words
@@ -68,4 +68,4 @@ pub record AreMinimal (x : CostTables) (r : ℕ) (words : List (List ℕ)) : Typ
 
 -- so are those of each rule in a base production below the rule
 abbrev pub IsReadyFor : CostTables → (ℕ → List (List ℕ)) → ℕ → Type 0
-IsReadyFor x sentences r = (p q : ℕ) → IsBaseBelow x r p → Contains (nth_production x.grammar p).symbols (Rule q) → AreMinimal x q (sentences q)
+IsReadyFor x sentences r = (p q : ℕ) → ReachesBase x r p → Contains (nth_production x.grammar p).symbols (Rule q) → AreMinimal x q (sentences q)
