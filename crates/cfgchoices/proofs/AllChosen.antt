@@ -36,9 +36,9 @@ module _ (x : CostTables) (n : ℕ) (is : IsGenerator x n) (grammar : IsGrammar 
         let least = least_of x n is grammar r c answer in
         let (w, s, costs) = least.0 in
         let made = minimal_made x n is grammar r c w answer some (s, λ v t. subst (λ k. k ≤ cost_of (token_cost x) v) (sym costs) (least.1 v t)) in
-        let below = made.below in
-        let same = along_cost below.leads c below.base.optimal.cost answer below.base.optimal.rule in
-        back below.leads (base made.index below.base (subst (λ d. d < bound) same low))
+        let reaches = made.reaches in
+        let same = along_cost reaches.leads c reaches.base.optimal.cost answer reaches.base.optimal.rule in
+        back reaches.leads (base made.index reaches.base (subst (λ d. d < bound) same low))
 
     opens : (q d p m : ℕ) → rule_cost x.least q ≡ Some d → d ≤ 65535 → rule_choice l q ≡ Some (p, m) → IsChoiceOf (with_choices x l) q d p m
     opens q d p m e small choice =

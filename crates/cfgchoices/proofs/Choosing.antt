@@ -140,7 +140,7 @@ module _ (x : CostTables) where
     pub target_gives : (q : ℕ) {a : List Sym} (w : List ℕ) → LinksTo x q a → All (IsPaid (token_cost x)) a → ChoicesGive (with_choices x l) a w → ChoicesGive (with_choices x l) (Rule q ∷ []) w
     target_gives q w (in_prefix {a = a} free) all given =
         let parts = choices_split (with_choices x l) q a w given in
-        let none = free_gives a parts.back free (All-tail (IsPaid (token_cost x)) (Rule q) a all) parts.second in
+        let none = free_gives a parts.suffix free (All-tail (IsPaid (token_cost x)) (Rule q) a all) parts.second in
         subst (ChoicesGive (with_choices x l) (Rule q ∷ [])) (sym (parts.whole ∙ ap (λ b. parts.prefix ++ b) none ∙ append-nil parts.prefix)) parts.first
     target_gives q w (further {s = s} {a = a} free chains) all given = target_gives q w chains (All-tail (IsPaid (token_cost x)) s a all)
         (free_first s a w free (All-head (IsPaid (token_cost x)) s a all) given)

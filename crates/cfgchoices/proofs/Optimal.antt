@@ -232,21 +232,21 @@ module _ (x : CostTables) (n : ℕ) (is : IsGenerator x n) (grammar : IsGrammar 
   along_reported here = here
   along_reported (next {a = a} {b = b} h k) = next (target_reported a b h) (along_reported k)
 
-  -- what a base production below the rule makes of minimal sentences is a minimal sentence of the rule
+  -- what a base production that the rule reaches makes of minimal sentences is a minimal sentence of the rule
   pub base_makes : (r p : ℕ) (w : List ℕ) → ReachesBase x r p → Cut (nth_production x.grammar p).symbols w → IsMinimal x r w
-  base_makes r p w below cut = made_by_base_minimal P cost paid r w (record {
+  base_makes r p w reaches cut = made_by_base_minimal P cost paid r w (record {
     owner = (nth_production x.grammar p).rule;
     symbols = (nth_production x.grammar p).symbols;
-    reaches = record { leads = along_reported below.leads; base = below.base.is };
+    reaches = record { leads = along_reported reaches.leads; base = reaches.base.is };
     parts = cut;
   })
 
   -- each rule in such a production costs less
   pub base_less : (r p c s d : ℕ) → ReachesBase x r p → cost_answer x r ≡ Some c → Contains (nth_production x.grammar p).symbols (Rule s) → cost_answer x s ≡ Some d → d < c
-  base_less r p c s d below e h k =
-      let base = below.base.is in
+  base_less r p c s d reaches e h k =
+      let base = reaches.base.is in
       let less = base.less s d h (least_of s d k) in
-      let same = least_along (along_reported below.leads) base.least base.optimal.least in
+      let same = least_along (along_reported reaches.leads) base.least base.optimal.least in
       let one = least_is_one P cost r c base.least (least_of r c e) same in
       omega (arith, less, one)
     where
@@ -264,10 +264,10 @@ module _ (x : CostTables) (n : ℕ) (is : IsGenerator x n) (grammar : IsGrammar 
       let part = part_at sums (nth_production x.grammar p).symbols h.0 (Rule s) optimal.cost h.1 h.2 (optimal_sum p base.optimal) in
       (part.value, some_answered (rule_cost x.least s) part.value part.is (omega (arith, part.within, known.1)))
 
-  -- a minimal sentence of a rule that costs something is made by a base production below the rule
+  -- a minimal sentence of a rule that costs something is made by a base production that the rule reaches
   pub record IsMade (r : ℕ) (w : List ℕ) : Type 0 where
     pub index : ℕ
-    pub below : ReachesBase x r index
+    pub reaches : ReachesBase x r index
     pub parts : Cut (nth_production x.grammar index).symbols w
 
   target_located : (a b c : ℕ) → chains.LeadsTo P cost a b → Least P cost a c → 0 < c → c ≤ 65535 → LeadsTo x a b
@@ -306,7 +306,7 @@ module _ (x : CostTables) (n : ℕ) (is : IsGenerator x n) (grammar : IsGrammar 
       let (p, same, base) = base_located down.owner down.symbols c down.reaches.base least some small in
       record {
         index = p;
-        below = record { leads = subst (λ (q : Production). Along (LeadsTo x) r q.rule) (sym same) along; base = base };
+        reaches = record { leads = subst (λ (q : Production). Along (LeadsTo x) r q.rule) (sym same) along; base = base };
         parts = subst (λ (q : Production). Cut q.symbols w) (sym same) down.parts;
       }
 

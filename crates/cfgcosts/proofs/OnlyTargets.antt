@@ -147,11 +147,11 @@ module _ {S : Type 0} (number : S → ℕ) (x : CostTables) (kinds : List (Kind 
   ]
 
   module _ (n : ℕ) (is : IsGenerator x n) (grammar : IsGrammar x.grammar) where
-    below_target : (r q p : ℕ) → LeadsOnlyTo number x.grammar kinds r q → ReachesBase x r p → ReachesBase x q p
-    below_target r q p h below = record { leads = go refl below.leads; base = below.base }
+    reaches_target : (r q p : ℕ) → LeadsOnlyTo number x.grammar kinds r q → ReachesBase x r p → ReachesBase x q p
+    reaches_target r q p h reaches = record { leads = go refl reaches.leads; base = reaches.base }
       where
         go : {a : ℕ} → a ≡ r → Along (LeadsTo x) a (nth_production x.grammar p).rule → Along (LeadsTo x) q (nth_production x.grammar p).rule
-        go e here = absurd (base_leads_nowhere x n is grammar p q below.base (only_optimal r q p h e below.base.optimal))
+        go e here = absurd (base_leads_nowhere x n is grammar p q reaches.base (only_optimal r q p h e reaches.base.optimal))
         go e (next {b = b} link rest) =
             let same = one_target x n is grammar link.index b q link.target (only_optimal r q link.index h (link.owner ∙ e) link.target.optimal) in
             subst (λ m. Along (LeadsTo x) m (nth_production x.grammar p).rule) same rest
@@ -160,9 +160,9 @@ module _ {S : Type 0} (number : S → ℕ) (x : CostTables) (kinds : List (Kind 
     only_same r q h w =
         let target = only_target r q h in (
           (λ m. let made = minimal_made x n is grammar q target.optimal.cost w target.same target.optimal.positive m in
-              base_makes x n is grammar r made.index w (record { leads = next (record { index = h.index; owner = h.owner; target = target }) made.below.leads; base = made.below.base }) made.parts),
+              base_makes x n is grammar r made.index w (record { leads = next (record { index = h.index; owner = h.owner; target = target }) made.reaches.leads; base = made.reaches.base }) made.parts),
           (λ m. let made = minimal_made x n is grammar r target.optimal.cost w (only_cost r q h) target.optimal.positive m in
-              base_makes x n is grammar q made.index w (below_target r q made.index h made.below) made.parts),
+              base_makes x n is grammar q made.index w (reaches_target r q made.index h made.reaches) made.parts),
         )
 
     -- so do rules from which a chain of such productions leads to it

@@ -4,7 +4,7 @@ use Rattle.search.specs.Reachable.{Reaches}
 use Rattle.search.proofs.Reaching.{reaches_as, reaches_known}
 use Rattle.cfgleast.specs.Generator.{CostTables}
 use Rattle.cfgchoices.specs.Kinds.{AreKinds, IsBase, IsChain, IsKind, IsOptimal, production_numbers}
-use Rattle.cfgcosts.proofs.BaseBelow.{lists_none, lists_one}
+use Rattle.cfgcosts.proofs.ReachedBases.{lists_none, lists_one}
 use Rattle.cfgchoices.proofs.Optimal.{answered_within, base_leads_nowhere, kind_read, one_target}
 use Rattle.cfgchoices.specs.declared.kinds.Kind.{Kind}
 use Rattle.cfgcosts.proofs.generator.SentenceGenerator.add_production.Given.{Over}

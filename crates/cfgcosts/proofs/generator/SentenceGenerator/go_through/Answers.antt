@@ -5,7 +5,7 @@ use Rattle.cfgtables.specs.Openings.{ArePositionsOf}
 use Rattle.cfgtables.proofs.Slices.{mapped_within, mapped_at, mapped_all}
 use Rattle.cfgleast.specs.Generator.{CostTables}
 use Rattle.cfgchoices.specs.Kinds.{IsChain, production_numbers}
-use Rattle.cfgcosts.proofs.BaseBelow.{targets_end, owns_begin, owns_more, owns_end}
+use Rattle.cfgcosts.proofs.ReachedBases.{targets_end, owns_begin, owns_more, owns_end}
 use Rattle.cfgcosts.proofs.generator.SentenceGenerator.go_through.Goals as goal
 
 pub rule_to_prods-p-items-requires : goal.rule_to_prods-p-items-requires

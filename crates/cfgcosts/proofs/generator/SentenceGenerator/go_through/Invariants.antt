@@ -2,7 +2,7 @@ use Rattle.std.proofs.Common.{take}
 use Rattle.search.specs.Reachable.{FoundBy, Reaches}
 use Rattle.cfgchoices.specs.Kinds.{IsChain, production_numbers}
 use Rattle.cfgcosts.specs.Inner.Minimal.{Lists}
-use Rattle.cfgcosts.proofs.BaseBelow.{BaseAmong}
+use Rattle.cfgcosts.proofs.ReachedBases.{BaseAmong}
 use Rattle.cfgcosts.proofs.generator.SentenceGenerator.go_through.Given as goal
 
 abbrev pub invariant-loop-p : goal.invariant-loop-p

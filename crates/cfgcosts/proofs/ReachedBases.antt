@@ -1,4 +1,4 @@
--- Base productions below a rule are found by a search along chain productions.
+-- The base productions that a rule reaches are found by a search along chain productions.
 use Rattle.std.proofs.Common.{◌≡◌, ◌↔◌, ℕ, ◌+◌, ◌<◌, ◌≤◌, inl, inr, List, [], ◌∷◌, ◌++◌, Contains, get_or, length, take, refl, sym, ap, subst, ◌∙◌}
 use Rattle.std.proofs.lemmas.List.{take_all, take_more}
 use Rattle.std.proofs.lemmas.List.Elements.{Contains-append_left, Contains-push, Contains-push_cases}
@@ -93,12 +93,12 @@ module _ (x : CostTables) (r : ℕ) where
 
   pub record BaseSearch (base : List ℕ) (s : SearchState) : Type 0 where
     pub search : Searching x.grammar.rules (λ q. q ≡ r) (LeadsTo x) (BaseListed base) s
-    pub below : (p : ℕ) → Contains base p → ReachesBase x r p
+    pub reached : (p : ℕ) → Contains base p → ReachesBase x r p
 
   pub base_search_begins : (s : SearchState) → Begun x.grammar.rules (λ q. q ≡ r) s → BaseSearch [] s
   base_search_begins s b = record {
     search = search_begins x.grammar.rules (λ q. q ≡ r) (LeadsTo x) (BaseListed []) s b;
-    below = λ p h. absurd (contains_none p h);
+    reached = λ p h. absurd (contains_none p h);
   }
 
   pub base_search_goes_on : (b : ℕ) (old mid new : SearchState) (base base' : List ℕ) → BaseSearch base old → mid.reachable ≡ old.reachable → old.waiting ≡ mid.waiting ++ b ∷ []
@@ -106,8 +106,8 @@ module _ (x : CostTables) (r : ℕ) where
   base_search_goes_on b old mid new base base' l same popped w lists = record {
     search = search_goes_on x.grammar.rules (λ q. q ≡ r) (LeadsTo x) (BaseListed base) b old mid l.search popped new (BaseListed base')
         (λ a d p owner without. (lists p).1 (inl (d p owner without))) (λ p owner without. (lists p).1 (inr (owner, without))) same w;
-    below = λ p h. elim ((lists p).0 h) [
-      | inl i ↦ l.below p i
+    reached = λ p h. elim ((lists p).0 h) [
+      | inl i ↦ l.reached p i
       | inr i ↦ record { leads = subst (Along (LeadsTo x) r) (sym i.0) leads; base = i.1 }
     ];
   }
@@ -117,6 +117,6 @@ module _ (x : CostTables) (r : ℕ) where
 
   pub base_search_ends : (base : List ℕ) (s : SearchState) → BaseSearch base s → s.waiting ≡ [] → (p : ℕ) → Contains base p ↔ ReachesBase x r p
   base_search_ends base s l none p = (
-    l.below p,
+    l.reached p,
     (λ h. (search_ends x.grammar.rules (λ q. q ≡ r) (LeadsTo x) (BaseListed base) s l.search none (reached_along (LeadsTo x) r h.leads)).1 p refl h.base),
   )
