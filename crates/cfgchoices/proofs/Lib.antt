@@ -15,7 +15,7 @@ pub mod Nominated
 pub mod Pending
 pub mod Located
 pub mod Taken
-pub mod ChosenBelow
+pub mod CheaperChosen
 pub mod Compared
 pub mod SoleRules
 pub mod Known

@@ -16,7 +16,7 @@ abbrev pub IsBelowIfChosen : List (Option (ℕ × ℕ)) → ℕ → Sym → Type
 IsBelowIfChosen choices n (Token t) = Unit {0}
 IsBelowIfChosen choices n (Rule r) = IfSome (rule_choice choices r) (λ choice. choice.1 < n)
 
--- the choice of rule q, which costs d: production p costs d too, and each rule in it has no choice or one with a number less than m
+-- the choice of rule q, which costs d, is production p, with number m: p costs d too, and the choices of the rules in it have lesser numbers
 pub record IsChoiceOf (x : CostTables) (q d p m : ℕ) : Type 0 where
   pub choice : rule_choice x.choices q ≡ Some (p, m)
   pub index : p < length x.grammar.productions

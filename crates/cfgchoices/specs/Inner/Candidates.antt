@@ -41,6 +41,7 @@ pub record Choosing (x : CostTables) (l : Choices) (n : ℕ) : Type 0 where
   pub count : count_by is_some l ≡ n
   pub each : (r p m : ℕ) → rule_choice l r ≡ Some (p, m) → IsChoice x l r p m × (m < n)
 
+-- the size of a rule's tree, if `f` gives the sizes of the trees of symbols in its chosen production: `each`, and those
 abbrev pub tree_size_of : Grammar → ℕ → (Sym → ℕ) → Option (ℕ × ℕ) → ℕ
 tree_size_of g each f None = each
 tree_size_of g each f (Some choice) = sum_by f (nth_production g choice.0).symbols + each
@@ -56,9 +57,11 @@ tree_size g choices each (suc n) (Rule r) = tree_size_of g each (tree_size g cho
 abbrev pub IsInOrder : {X : Type 0} → (X → X → Type 0) → X → List X → Type 0
 IsInOrder R d xs = (i j : ℕ) → i < j → j < length xs → R (slice_index_or xs i d) (slice_index_or xs j d)
 
+-- the symbols of production p
 abbrev pub sequence : CostTables → ℕ → List Sym
 sequence x p = (nth_production x.grammar p).symbols
 
+-- the rule of production p
 abbrev pub owner : CostTables → ℕ → ℕ
 owner x p = (nth_production x.grammar p).rule
 
@@ -88,6 +91,7 @@ left_to_open x l pending = sum_by (tree_size x.grammar l 1 x.grammar.rules) pend
 abbrev pub NotAfter : CostTables → Choices → List Sym → List Sym → Type 0
 NotAfter x l a b = (u v : List ℕ) → ChoicesGive (with_choices x l) a u → ChoicesGive (with_choices x l) b v → lexicographic u v ≡ Greater → ⊥
 
+-- rule r has a choice
 abbrev pub HasChoice : Choices → ℕ → Type 0
 HasChoice l r = (choice : ℕ × ℕ) × (rule_choice l r ≡ Some choice)
 
@@ -118,9 +122,12 @@ HasList number k (Chain r) = number r.0 < k.tables.grammar.rules
 abbrev pub is_sole : Known → ℕ → Bool
 is_sole k r = slice_index_or k.sole r false
 
+-- rule r has at most one optimal production
 abbrev pub IsSole : CostTables → ℕ → Type 0
 IsSole x r = (p q : ℕ) → IsOptimal x p → IsOptimal x q → owner x p ≡ r → owner x q ≡ r → p ≡ q
 
+-- what is known is true: the rules that `sole` marks have at most one optimal production, each optimal production is a base or a chain
+-- production, and all costs are less than the limit
 pub record IsKnown (k : Known) (n : ℕ) : Type 0 where
   pub generator : IsGenerator k.tables n
   pub grammar : IsGrammar k.tables.grammar
@@ -129,7 +136,7 @@ pub record IsKnown (k : Known) (n : ℕ) : Type 0 where
   pub kinds : (p : ℕ) → IsOptimal k.tables p → IsBase k.tables p ⊎ ((q : ℕ) × IsChain k.tables p q)
   pub costs : (r c : ℕ) → cost_answer k.tables r ≡ Some c → c < k.limit
 
--- by its kind, production p is optimal
+-- production p is optimal, as its kind says
 abbrev pub IsOptimalByKind : {S : Type 0} → List (Kind S) → ℕ → Type 0
 IsOptimalByKind kinds p = (p < length kinds) × (slice_index_or kinds p Suboptimal ≡ Suboptimal → ⊥)
 
@@ -148,6 +155,7 @@ pub record Candidates : Type 0 where
   pub sorted : List ℕ
   pub foremost : List (Option ℕ)
 
+-- the candidates and choices of the code
 abbrev pub candidates_of : {S : Type 0} → (S → ℕ) → Chooser S → Candidates
 candidates_of number f = record {
   choices = map (choice_of number) f.choices.items;
@@ -166,6 +174,7 @@ chosen_tables x f = with_choices x f.choices
 abbrev pub Waits : Candidates → ℕ → Type 0
 Waits f p = Contains f.ready p ⊎ Contains f.sorted p
 
+-- how many candidates wait
 abbrev pub waiting : Candidates → ℕ
 waiting f = length f.ready + length f.sorted
 
@@ -177,7 +186,7 @@ IsHandled x f q = IsDone x f.choices q ⊎ ((p : ℕ) × Waits f p × GivesNoMor
 abbrev pub IsFloor : Known → Choices → ℕ → ℕ → Type 0
 IsFloor k l c p = (r : ℕ) → HasChoice l r → cost_answer k.tables r ≡ Some c → is_sole k r ≡ false → NotAfter k.tables l (Rule r ∷ []) (sequence k.tables p)
 
--- a candidate: an optimal production that costs c, and each rule in it has a choice or costs nothing
+-- p is a candidate: an optimal production that costs c, in which each rule is free or has a choice
 pub record IsCandidate (k : Known) (l : Choices) (n c p : ℕ) : Type 0 where
   pub optimal : IsOptimal k.tables p
   pub cost : optimal.cost ≡ c
@@ -238,7 +247,7 @@ abbrev pub left_to_choose : Known → Candidates → ℕ
 left_to_choose k f = (k.tables.grammar.rules - f.number) * (length k.tables.grammar.productions + 1) + waiting f
 
 -- All rules that cost less than c have choices, which give their lexicographically first minimal sentences; no other rule has a choice.
-pub record ChosenBelow (k : Known) (f : Candidates) (c : ℕ) : Type 0 where
+pub record CheaperChosen (k : Known) (f : Candidates) (c : ℕ) : Type 0 where
   pub going : HandlesChains k f
   pub none : waiting f ≡ 0
   pub base : (p : ℕ) (base : IsBase k.tables p) → base.optimal.cost < c → IsDone k.tables f.choices p

@@ -7,11 +7,11 @@ use Rattle.cfgchoices.specs.declared.first.lists.Listed.{Listed}
 use Rattle.cfgchoices.specs.declared.first.lists.Listed.TheVariants.{Base, Chain}
 use Rattle.cfgchoices.specs.declared.first.lists.Lists.{Lists}
 
--- a base production that costs this
+-- p is a base production that costs c
 abbrev pub IsBaseAt : CostTables → ℕ → ℕ → Type 0
 IsBaseAt x c p = (base : IsBase x p) × (base.optimal.cost ≡ c)
 
--- a production is in the list
+-- production p is in the list
 abbrev pub IsIn : {S : Type 0} → (S → ℕ) → CostTables → Listed S → ℕ → Type 0
 IsIn number x (Base c) p = IsBaseAt x c p
 IsIn number x (Chain r) p = IsChain x p (number r.0)

@@ -5,7 +5,7 @@ ghost use Rattle.cfgleast.specs.Certificate.{choice_of};
 ghost use Rattle.cfgleast.specs.Generator.{IsGeneratorOf, settled_tables, tables_of};
 ghost use Rattle.cfgchoices.specs.FirstChoices.{AreFirst, AreChosen};
 ghost use Rattle.cfgchoices.specs.Kinds.{AreKinds};
-ghost use Rattle.cfgchoices.specs.Inner.Candidates.{ChosenBelow, with_choices, chosen_tables, candidates_of};
+ghost use Rattle.cfgchoices.specs.Inner.Candidates.{CheaperChosen, with_choices, chosen_tables, candidates_of};
 
 use crate::first::candidates::Chooser;
 use crate::first::lists::{Listed, no_productions};
@@ -28,9 +28,9 @@ impl<S: Storage> Chooser<S> {
         optimal: &OptimalTables<S, T>,
         cost: usize,
     ) -> Result<(), AllocError>
-        requires climbed { ChosenBelow optimal.now (candidates_of S.number self.old) cost }
+        requires climbed { CheaperChosen optimal.now (candidates_of S.number self.old) cost }
         requires within { cost < optimal.now.limit }
-        ensures { OnOk result (ChosenBelow optimal.now (candidates_of S.number self.new) (cost + 1)) }
+        ensures { OnOk result (CheaperChosen optimal.now (candidates_of S.number self.new) (cost + 1)) }
     {
         optimal.invariant_holds();
         self.cost = cost;
@@ -48,7 +48,7 @@ impl<S: Storage> Chooser<S> {
         &mut self,
         optimal: &OptimalTables<S, T>,
     ) -> Result<(), AllocError>
-        requires { ChosenBelow optimal.now (candidates_of S.number self.old) 1 }
+        requires { CheaperChosen optimal.now (candidates_of S.number self.old) 1 }
         ensures walks { OnOk result (AreChosen (chosen_tables optimal.now.tables (candidates_of S.number self.new))) }
         ensures first { OnOk result (AreFirst (chosen_tables optimal.now.tables (candidates_of S.number self.new))) }
     {

@@ -1,5 +1,5 @@
 use Rattle.cfgchoices.specs.Inner.Candidates.{candidates_of}
-use Rattle.cfgchoices.proofs.ChosenBelow.{begun_nominating, climbed_more, nominated_going, base_nominated}
+use Rattle.cfgchoices.proofs.CheaperChosen.{begun_nominating, climbed_more, nominated_going, base_nominated}
 use Rattle.cfgchoices.proofs.first.candidates.Chooser.choose_at_cost.Goals as goal
 
 pub nominate_listed-requires-clause-nominating : goal.nominate_listed-requires-clause-nominating

@@ -1,6 +1,6 @@
 use Rattle.std.proofs.Common.{arith}
 use Rattle.cfgchoices.specs.Inner.Candidates.{candidates_of}
-use Rattle.cfgchoices.proofs.ChosenBelow.{climbed_first, climbed_walks}
+use Rattle.cfgchoices.proofs.CheaperChosen.{climbed_first, climbed_walks}
 use Rattle.cfgchoices.proofs.first.candidates.Chooser.choose_by_cost.Goals as goal
 
 pub returns : goal.returns

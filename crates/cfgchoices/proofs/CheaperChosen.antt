@@ -11,7 +11,7 @@ use Rattle.cfgleast.specs.Generator.{CostTables, cost_answer}
 use Rattle.cfgchoices.specs.FirstChoices.{AreFirst, AreChosen}
 use Rattle.cfgchoices.specs.Kinds.{IsChain}
 use Rattle.cfgchoices.specs.Inner.Lists.{IsBaseAt}
-use Rattle.cfgchoices.specs.Inner.Candidates.{Adds, ChosenBelow, HandlesChains, HasChoice, IsDone, IsHandled, IsKnown, IsCandidate, Known, Nominating, Candidates, Waits, with_choices, owner, waiting}
+use Rattle.cfgchoices.specs.Inner.Candidates.{Adds, CheaperChosen, HandlesChains, HasChoice, IsDone, IsHandled, IsKnown, IsCandidate, Known, Nominating, Candidates, Waits, with_choices, owner, waiting}
 use Rattle.cfgchoices.specs.Chains.{here}
 use Rattle.cfgchoices.proofs.AllChosen.{all_chosen, walks}
 use Rattle.cfgchoices.proofs.Nominated.{chosen_below}
@@ -26,7 +26,7 @@ all_done : (x : CostTables) (f : Candidates) → waiting f ≡ 0 → (q : ℕ) �
 all_done x f none q (inl done) = done
 all_done x f none q (inr (p, waits, holds)) = absurd (no_wait f none p waits)
 
-module _ (k : Known) (n : ℕ) (is : IsKnown k n) (f : Candidates) (c : ℕ) (climbed : ChosenBelow k f c) where
+module _ (k : Known) (n : ℕ) (is : IsKnown k n) (f : Candidates) (c : ℕ) (climbed : CheaperChosen k f c) where
   abbrev x : CostTables
   x = k.tables
 
@@ -81,7 +81,7 @@ module _ (k : Known) (n : ℕ) (is : IsKnown k n) (f : Candidates) (c : ℕ) (cl
     }
 
     -- and all candidates are used up
-    pub climbed_more : (f'' : Candidates) → HandlesChains k f'' → waiting f'' ≡ 0 → ((q : ℕ) → IsHandled x f' q → IsHandled x f'' q) → f''.cost ≡ f'.cost → ChosenBelow k f'' (c + 1)
+    pub climbed_more : (f'' : Candidates) → HandlesChains k f'' → waiting f'' ≡ 0 → ((q : ℕ) → IsHandled x f' q → IsHandled x f'' q) → f''.cost ≡ f'.cost → CheaperChosen k f'' (c + 1)
     climbed_more f'' going none handles same = record {
       going = going;
       none = none;
@@ -112,7 +112,7 @@ module _ (k : Known) (n : ℕ) (is : IsKnown k n) (f : Candidates) (c : ℕ) (cl
 
 -- nothing is chosen yet
 pub climbed_begins : (k : Known) (f : Candidates) → f.choices ≡ replicate k.tables.grammar.rules None → f.number ≡ 0 → f.ready ≡ [] → f.sorted ≡ []
-    → f.foremost ≡ replicate k.tables.grammar.rules None → ChosenBelow k f 1
+    → f.foremost ≡ replicate k.tables.grammar.rules None → CheaperChosen k f 1
 climbed_begins k f choices number ready sorted foremost = record {
   going = record {
     nominating = record {
