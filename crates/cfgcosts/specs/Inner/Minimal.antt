@@ -15,7 +15,7 @@ use Rattle.cfgchoices.specs.Splits.{Split}
 use Rattle.cfgchoices.specs.Kinds.{IsMinimal, ReachesBase}
 use Rattle.cfgcosts.specs.Sentences.{numbers_of}
 
--- the new list has what was listed before and what satisfies `Is`
+-- the new list has what the old one has, and what satisfies `Is`
 abbrev pub Lists : (ℕ → Type 0) → List ℕ → List ℕ → Type 0
 Lists Is old new = (p : ℕ) → Contains new p ↔ (Contains old p ⊎ Is p)
 
@@ -34,6 +34,7 @@ words_of number words = map (numbers_of number) words.items
 abbrev pub sentences_in : {S : Type 0} → (S → ℕ) → BTreeMap ℕ (Vec (Vec (TIdx S) Global) Global) → ℕ → List (List ℕ)
 sentences_in number table r = unwrap_or (option_map (words_of number) (get nat_cmp table r)) []
 
+-- w is among the sentences of rule r
 abbrev pub HasSentence : (ℕ → List (List ℕ)) → ℕ → List ℕ → Type 0
 HasSentence sentences r w = Contains (sentences r) w
 
@@ -55,7 +56,7 @@ pub record Puts (r : ℕ) (words : List (List ℕ)) (sentences sentences' : ℕ 
   pub here : sentences' r ≡ words
   pub others : (q : ℕ) → (q ≡ r → ⊥) → sentences' q ≡ sentences q
 
--- one of these productions makes the word of such sentences
+-- one of these productions makes w: it consists of a sentence for each of the production's symbols
 pub record IsMadeBy (g : Grammar) (sentences : ℕ → List (List ℕ)) (positions : List ℕ) (w : List ℕ) : Type 0 where
   pub index : ℕ
   pub among : Contains positions index
