@@ -56,9 +56,9 @@ module _ (P : ℕ → List Sym → Type 0) (cost : ℕ → ℕ) (costs : Sym →
       made_by zero r c choice lt = absurd (omega (arith, lt))
       made_by (suc n) r c choice lt = made_rule r c choice (made_sequence P cost costs R over (IsChosenBelow choices choice.choice.1)
           (λ q d below e.
-              let next = chosen q d e in
-              let less = number_below choice.choice.1 q d next below in
-              made_by n q d next (omega (arith, lt, less)))
+          let next = chosen q d e in
+          let less = number_below choice.choice.1 q d next below in
+          made_by n q d next (omega (arith, lt, less)))
           choice.symbols choice.sum choice.below choice.sum_is)
 
       -- each cost that depends on a choice is that of a sentence

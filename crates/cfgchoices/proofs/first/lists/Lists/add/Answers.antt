@@ -58,7 +58,7 @@ returns-in-Chain g c =
     let target = subst (IsKind number x p) c.in-Chain.is c.requires.kind in
     let within = subst (λ m. r < m) (sym l.rules) (answered_within x n c.requires.generator r target.optimal.cost target.same) in
     let there = subst (λ m. p < m) (sym l.positions) c.requires.index in record {
-      base = listed_elsewhere number (IsBaseAt x) p lists.base.items lists.next.items l.base c.from-in-Chain-2.result c.from-in-Chain-2.ensures c.index-in-Chain.result.now 
+      base = listed_elsewhere number (IsBaseAt x) p lists.base.items lists.next.items l.base c.from-in-Chain-2.result c.from-in-Chain-2.ensures c.index-in-Chain.result.now
           (λ k i. base_leads_nowhere x n c.requires.generator c.invariant_holds.ensures.content p r i.0 target);
       chain = listed_first number (λ r q. IsChain x q r) p lists.chain.items lists.next.items l.chain c.from-in-Chain-2.result c.from-in-Chain-2.ensures c.index-in-Chain.result.now
           r c.from-in-Chain.result c.from-in-Chain-3.result c.args.p refl target (λ k i. one_target x n c.requires.generator c.invariant_holds.ensures.content p k r i target) within there c.from-in-Chain.ensures c.from-in-Chain-3.ensures c.index-in-Chain.ensures;
