@@ -6,7 +6,7 @@ use Rattle.std.proofs.lemmas.Bool.{cases_lt}
 use Rattle.std.proofs.lemmas.List.{take_all, get_or_past}
 use Rattle.lemmas.proofs.Elements.{within_from_get_or}
 use Rattle.std.proofs.lemmas.List.Elements.{All-more, All-contains, All-take, All-weaker}
-use Rattle.derivation.specs.Grammar.{Sym, Rule, Token, Grammar, IsGrammar, HasProduction}
+use Rattle.derivation.specs.Grammar.{Sym, Rule, Grammar, IsGrammar, HasProduction}
 use Rattle.derivation.specs.Sentence.{Sentence, cost_of, HasSentenceOf}
 use Rattle.derivation.specs.Tree.{Yields, opened}
 use Rattle.derivation.proofs.Trees.{trees_from_derivation, derivation_from_trees}
