@@ -111,6 +111,12 @@ def test_pages(room):
         ("tools/last_runs.txt", replaced(" texts, 0", "1 texts, 0"), "Last runs: "),
         ("tools/expected.txt", emptied, "0 expected"),
         ("tools/expected.txt", gone, "expected.txt is gone"),
+        ("crates/cfganalysis/src/paths.rt", replaced("cfganalysis.specs.Paths.", "cfgcycles.specs.Inner.Layers."),
+         "paths.rt cites specs/Inner of cfgcycles"),
+        ("crates/cfganalysis/specs/Follows.antt", replaced("cfganalysis.specs.Table.", "cfganalysis.specs.Inner.Flat."),
+         "Follows.antt is outside specs/Inner, and cites it"),
+        ("crates/cfganalysis/src/growth.rt", replaced("cfganalysis.specs.Growth.", "cfganalysis.specs.Inner.Growth."),
+         "what callers see of Analysis cites AddsProduction of specs/Inner"),
     ]:
         with changed(copy, file, change):
             fails(copy, words, "tools/pages", "check")

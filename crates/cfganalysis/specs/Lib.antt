@@ -3,4 +3,7 @@ pub mod Table
 pub mod Firsts
 pub mod Follows
 pub mod Paths
+pub mod Waiting
+pub mod Work
+pub mod Growth
 pub mod Inner

@@ -1,7 +1,7 @@
 //! A stack that contains each number at most once.
 
 ghost use Rattle.std.specs.Prelude.{◌≡◌, ◌<◌, true, false, length, replicate, slice_set, IfOk, MatchOption};
-ghost use Rattle.cfganalysis.specs.Inner.Waiting.{NoneWaits, WaitsNoMore};
+ghost use Rattle.cfganalysis.specs.Waiting.{NoneWaits, WaitsNoMore};
 
 use cfgindex::Vob;
 use std::alloc::{AllocError, Global};
@@ -16,7 +16,7 @@ pub struct Waiting {
 
 impl Model for Waiting {
     ghost use Rattle.std.specs.Prelude.{◌≤◌, List, Bool, length, vec_capacity};
-    ghost use Rattle.cfganalysis.specs.Inner.Waiting.{IsStack};
+    ghost use Rattle.cfganalysis.specs.Waiting.{IsStack};
 
     ghost Value = { List Bool };
 

@@ -1,8 +1,8 @@
 //! A work list: the productions that an analysis has to visit again.
 
 ghost use Rattle.std.specs.Prelude.{◌≡◌, ◌<◌, ℕ, [], false, length, replicate, Contains, IfOk};
-ghost use Rattle.cfganalysis.specs.Inner.Waiting.{NoneWaits, Waits};
-ghost use Rattle.cfganalysis.specs.Inner.Work.{Queues, Notes, users_of};
+ghost use Rattle.cfganalysis.specs.Waiting.{NoneWaits, Waits};
+ghost use Rattle.cfganalysis.specs.Work.{Queues, Notes, users_of};
 
 use crate::waiting::Waiting;
 use cfgindex::ListTable;

@@ -10,7 +10,7 @@ use Rattle.derivation.specs.Tree.{Yields, empty, token, opened}
 use Rattle.derivation.proofs.Trees.{trees_join, trees_from_derivation, derivation_from_trees}
 use Rattle.derivation.proofs.Costs.{least_is_one, minimal_costs_least}
 use Rattle.cfgchoices.specs.Splits.{Split, done, itself, part}
-use Rattle.cfgchoices.specs.Chains.{Along, here, next, IsOptimalProduction, ChainsTo, IsMadeAlongChain}
+use Rattle.cfgchoices.specs.Chains.{Along, here, next, IsOptimal, LeadsTo, IsMadeByBase}
 use Rattle.derivation.proofs.Made.{cost_of-token}
 use Rattle.lemmas.proofs.Contained.{contains_first, contains_later, contains_none, contains_cases}
 use Rattle.cfgchoices.proofs.Lengths.{IsPaid, positive_empty, sentence_positive, tokens_positive}
@@ -39,7 +39,7 @@ module _ (P : ℕ → List Sym → Type 0) (cost : ℕ → ℕ) where
   trees_of_cut s = trees_from_split P (Split-map (Minimal P cost) (IsYielded P) (λ r u m. trees_from_derivation P (Rule r ∷ []) u m.0) s)
 
   -- an optimal production makes minimal sentences of minimal sentences
-  pub made_minimal : (r : ℕ) (symbols : List Sym) (c : ℕ) (w : List ℕ) → IsOptimalProduction P cost r symbols c → Cut symbols w → Minimal P cost r w
+  pub made_minimal : (r : ℕ) (symbols : List Sym) (c : ℕ) (w : List ℕ) → IsOptimal P cost r symbols c → Cut symbols w → Minimal P cost r w
   made_minimal r symbols c w optimal s = (
     derivation_from_trees P (opened optimal.has (trees_of_cut s) empty (sym (append-nil w))),
     (λ v d. let least = optimal.least.1 v d in let same = same_cost s optimal.parts in omega (arith, least, same, optimal.is)),
@@ -93,15 +93,15 @@ module _ (P : ℕ → List Sym → Type 0) (cost : ℕ → ℕ) where
               part m' (handed_back b c w s others later l (omega (arith, both, small)) m) (sym (ap (λ l. l ++ w) none))
         ]
 
-    pub along_back : {r b : ℕ} (w : List ℕ) → Along (ChainsTo P cost) r b → Minimal P cost b w → Minimal P cost r w
+    pub along_back : {r b : ℕ} (w : List ℕ) → Along (LeadsTo P cost) r b → Minimal P cost b w → Minimal P cost r w
     along_back w here m = m
     along_back {r = r} w (next {b = b} h k) m =
         let optimal = h.optimal in
         made_minimal r h.symbols h.least w optimal
         (handed_back b h.least w optimal.parts (paid r h.symbols optimal.has) h.among h.same (omega (arith, optimal.is)) (along_back w k m))
 
-    pub chain_makes_minimal : (r : ℕ) (w : List ℕ) → IsMadeAlongChain P cost r w → Minimal P cost r w
-    chain_makes_minimal r w h = along_back w h.leads (made_minimal h.owner h.symbols h.base.least w h.base.optimal h.parts)
+    pub made_by_base_minimal : (r : ℕ) (w : List ℕ) → IsMadeByBase P cost r w → Minimal P cost r w
+    made_by_base_minimal r w h = along_back w h.reaches.leads (made_minimal h.owner h.symbols h.reaches.base.least w h.reaches.base.optimal h.parts)
 
     -- the parts of a list's least word are minimal
     module _ (F : ℕ → List ℕ → Type 0) where
@@ -182,27 +182,31 @@ module _ (P : ℕ → List Sym → Type 0) (cost : ℕ → ℕ) where
           ]
 
     abbrev Comes : ℕ → List ℕ → Type 0
-    Comes r w = Minimal P cost r w → IsMadeAlongChain P cost r w
+    Comes r w = Minimal P cost r w → IsMadeByBase P cost r w
 
     comes_up : (r : ℕ) (symbols : List Sym) (w : List ℕ) → P r symbols → Yields P symbols w → Split (IsYieldedAnd P Comes) symbols w → Comes r w
     comes_up r symbols w has tree s m =
         let up = λ (v : List ℕ) (t : Yields P symbols v). m.1 v (derivation_from_trees P (opened has t empty (sym (append-nil v)))) in
         let parts = minimal_parts Comes s up in
         let cut = Split-map (IsMinimalAnd Comes) (Minimal P cost) (λ r u k. k.0) parts in
-        let optimal : IsOptimalProduction P cost r symbols (cost_of cost w) = record { has = has; least = minimal_costs_least P cost r w m; word = w; parts = cut; is = refl } in
+        let optimal : IsOptimal P cost r symbols (cost_of cost w) = record { has = has; least = minimal_costs_least P cost r w m; word = w; parts = cut; is = refl } in
         elim (target_or_less Comes (cost_of cost w) parts (paid r symbols has) (omega arith)) [
           | inl target ↦
               let down = target.holds.1 target.holds.0 in
-              let link : ChainsTo P cost r target.rule = record { symbols = symbols; least = cost_of cost w; optimal = optimal; among = target.among; same = target.same } in
-              record { owner = down.owner; symbols = down.symbols; leads = next link down.leads; base = down.base; parts = down.parts }
+              let link : LeadsTo P cost r target.rule = record { symbols = symbols; least = cost_of cost w; optimal = optimal; among = target.among; same = target.same } in
+              record {
+                owner = down.owner;
+                symbols = down.symbols;
+                reaches = record { leads = next link down.reaches.leads; base = down.reaches.base };
+                parts = down.parts;
+              }
           | inr less ↦ record {
             owner = r;
             symbols = symbols;
-            leads = here;
-            base = record { least = cost_of cost w; optimal = optimal; less = less };
+            reaches = record { leads = here; base = record { least = cost_of cost w; optimal = optimal; less = less } };
             parts = cut;
           }
         ]
 
-    pub minimal_made_along_chain : (r : ℕ) (w : List ℕ) → Minimal P cost r w → IsMadeAlongChain P cost r w
-    minimal_made_along_chain r w m = by_rules P Comes comes_up r w (trees_from_derivation P (Rule r ∷ []) w m.0) m
+    pub minimal_made_by_base : (r : ℕ) (w : List ℕ) → Minimal P cost r w → IsMadeByBase P cost r w
+    minimal_made_by_base r w m = by_rules P Comes comes_up r w (trees_from_derivation P (Rule r ∷ []) w m.0) m

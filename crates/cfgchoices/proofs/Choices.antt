@@ -5,21 +5,21 @@ use Rattle.lemmas.proofs.Contained.{contains_first, contains_later}
 use Rattle.derivation.specs.Grammar.{Sym, Rule, Token}
 use Rattle.cfgtables.specs.Openings.{nth_production}
 use Rattle.cfgleast.specs.Generator.{CostTables}
-use Rattle.cfgchoices.specs.Inner.Choices.{ChoicesGive, empty, token, free, chosen}
+use Rattle.cfgchoices.specs.Choices.{ChoicesGive, empty, token, free, chosen}
 
 module _ (x : CostTables) where
   -- what they give for the first rule, and for the other symbols
   pub record Given (r : ℕ) (a : List Sym) (w : List ℕ) : Type 0 where
     pub prefix : List ℕ
-    pub back : List ℕ
-    pub whole : w ≡ prefix ++ back
+    pub suffix : List ℕ
+    pub whole : w ≡ prefix ++ suffix
     pub first : ChoicesGive x (Rule r ∷ []) prefix
-    pub second : ChoicesGive x a back
+    pub second : ChoicesGive x a suffix
 
   pub choices_split : (r : ℕ) (a : List Sym) (w : List ℕ) → ChoicesGive x (Rule r ∷ a) w → Given r a w
-  choices_split r a w (free nothing h) = record { prefix = []; back = w; whole = refl; first = free nothing empty; second = h }
+  choices_split r a w (free nothing h) = record { prefix = []; suffix = w; whole = refl; first = free nothing empty; second = h }
   choices_split r a _ (chosen {u = u} {w = w} costly choice h k e) =
-      record { prefix = u; back = w; whole = e; first = chosen costly choice h empty (sym (append-nil u)); second = k }
+      record { prefix = u; suffix = w; whole = e; first = chosen costly choice h empty (sym (append-nil u)); second = k }
 
   pub choices_join : {a b : List Sym} {u v : List ℕ} → ChoicesGive x a u → ChoicesGive x b v → ChoicesGive x (a ++ b) (u ++ v)
   choices_join empty k = k

@@ -8,7 +8,7 @@ use Rattle.std.specs.declared.cmp.Ordering.TheVariants.{Less, Equal, Greater}
 use Rattle.derivation.specs.Grammar.{Sym}
 use Rattle.cfgleast.specs.Generator.{CostTables}
 use Rattle.cfgchoices.specs.FirstSentence.{lexicographic}
-use Rattle.cfgchoices.specs.Inner.Choices.{ChoicesGive}
+use Rattle.cfgchoices.specs.Choices.{ChoicesGive}
 use Rattle.cfgchoices.specs.Inner.Candidates.{FirstTokensAre}
 use Rattle.cfgchoices.proofs.Pending.{token_prefix}
 

@@ -19,14 +19,14 @@ use Rattle.derivation.specs.Sums.{sum_of, symbol_cost}
 use Rattle.derivation.specs.CostLists.{rule_cost}
 use Rattle.derivation.proofs.Sums.{plus_parts, plus_zero}
 use Rattle.cfgleast.specs.Certificate.{rule_choice}
-use Rattle.cfgchoices.specs.Inner.Choices.{ChoicesGive}
-use Rattle.cfgchoices.specs.Inner.Choices as gives
-use Rattle.cfgchoices.specs.Inner.FirstChoices.{AreFirst, IsNotAbove, IsChoiceOf, AreChosen}
+use Rattle.cfgchoices.specs.Choices.{ChoicesGive}
+use Rattle.cfgchoices.specs.Choices as gives
+use Rattle.cfgchoices.specs.FirstChoices.{AreFirst, IsBelowIfChosen, IsChoiceOf, AreChosen}
 use Rattle.cfgleast.specs.Generator.{CostTables, cost_answer, choice_answer, token_cost, where_some}
 use Rattle.cfgchoices.specs.FirstSentence.{FirstMinimal, lexicographic}
 use Rattle.cfgchoices.specs.Splits.{Split, done, itself, part}
 use Rattle.cfgchoices.proofs.Choices.{choices_sequence}
-use Rattle.cfgchoices.proofs.Firsts.{by_order, sequence_before, begins_none}
+use Rattle.cfgchoices.proofs.FirstSentences.{by_order, sequence_before, begins_none}
 use Rattle.cfgleast.proofs.Gains.{part_at}
 use Rattle.cfgleast.proofs.Generated.{answered_some, some_answered}
 use Rattle.cfgchoices.proofs.Lengths.{IsPaid}
@@ -86,7 +86,7 @@ module _ (x : CostTables) (walks : AreChosen x) (grammar : IsGrammar x.grammar) 
       (λ r c among f low. elim (cases_lt 0 c) [
         | inl paid ↦
             let (p', m', o') = walks.chosen r c f paid low in
-            let less = subst (λ (b : Option (ℕ × ℕ)). IfSome b (λ choice. choice.1 < m)) o'.choice (All-contains (IsNotAbove x.choices m) (nth_production x.grammar p).symbols (Rule r) o.below among) in
+            let less = subst (λ (b : Option (ℕ × ℕ)). IfSome b (λ choice. choice.1 < m)) o'.choice (All-contains (IsBelowIfChosen x.choices m) (nth_production x.grammar p).symbols (Rule r) o.below among) in
             gives_below k r c p' m' (omega (arith, less, lt)) f paid low o'
         | inr free ↦ gives_free r c f free
       ]) in

@@ -3,21 +3,21 @@ use Rattle.std.proofs.Common.{◌≡◌, ℕ, ◌+◌, ◌-◌, ◌<◌, ◌≤�
 use Rattle.std.proofs.lemmas.Bool.{cases_lt}
 use Rattle.cfgindex.specs.declared.idxnewtype.PIdx.{PIdx}
 use Rattle.cfgleast.specs.Generator.{CostTables}
-use Rattle.cfgchoices.specs.Inner.Kinds.{IsTarget, IsOptimal}
+use Rattle.cfgchoices.specs.Kinds.{IsChain, IsOptimal}
 use Rattle.cfgchoices.specs.Inner.Lists.{IsFirstFrom, IsIn, IsBaseAt}
 use Rattle.cfgchoices.specs.Inner.Candidates.{Adds, IsCandidate, Known, Candidates}
 use Rattle.cfgchoices.specs.declared.first.lists.Listed.{Listed}
-use Rattle.cfgchoices.specs.declared.first.lists.Listed.TheVariants.{Base, ChainingTo}
+use Rattle.cfgchoices.specs.declared.first.lists.Listed.TheVariants.{Base, Chain}
 
 pub in_optimal : {S : Type 0} (number : S → ℕ) (x : CostTables) (listed : Listed S) (p : ℕ) → IsIn number x listed p → IsOptimal x p
 in_optimal number x (Base c) p h = h.0.optimal
-in_optimal number x (ChainingTo r) p h = h.optimal
+in_optimal number x (Chain r) p h = h.optimal
 
 pub next_in : {S : Type 0} (number : S → ℕ) (x : CostTables) (listed : Listed S) (p : ℕ) (next : Option (PIdx S)) → IsIn number x listed p
-    → ((c : ℕ) → IsBaseAt x c p → IsFirstFrom number (IsBaseAt x c) (p + 1) next) → ((r : ℕ) → IsTarget x p r → IsFirstFrom number (λ q. IsTarget x q r) (p + 1) next)
+    → ((c : ℕ) → IsBaseAt x c p → IsFirstFrom number (IsBaseAt x c) (p + 1) next) → ((r : ℕ) → IsChain x p r → IsFirstFrom number (λ q. IsChain x q r) (p + 1) next)
     → IsFirstFrom number (IsIn number x listed) (p + 1) next
-next_in number x (Base c) p next h base chaining = base c h
-next_in number x (ChainingTo r) p next h base chaining = chaining (number r.0) h
+next_in number x (Base c) p next h base chain = base c h
+next_in number x (Chain r) p next h base chain = chain (number r.0) h
 
 -- how many productions are left from the next one on
 abbrev pub left_from : {S : Type 0} → (S → ℕ) → ℕ → Option (PIdx S) → ℕ

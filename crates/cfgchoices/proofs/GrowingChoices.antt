@@ -3,7 +3,7 @@ use Rattle.std.proofs.Common.{◌≡◌, ℕ, inl, inr, List, slice_set, Option,
 use Rattle.lemmas.proofs.Elements.{get_or-set}
 use Rattle.derivation.specs.Grammar.{Sym}
 use Rattle.cfgleast.specs.Certificate.{rule_choice}
-use Rattle.cfgchoices.specs.Inner.Choices.{ChoicesGive, empty, token, free, chosen}
+use Rattle.cfgchoices.specs.Choices.{ChoicesGive, empty, token, free, chosen}
 use Rattle.cfgchoices.specs.Inner.Candidates.{Choices, with_choices}
 use Rattle.cfgleast.specs.Generator.{CostTables, cost_answer, choice_answer, where_some}
 

@@ -3,7 +3,7 @@ use Rattle.std.proofs.Common.{◌≡◌, ℕ, ◌<◌, ◌⊎◌, inl, inr, List
 use Rattle.derivation.specs.Grammar.{IsGrammar}
 use Rattle.cfgtables.specs.Openings.{nth_production}
 use Rattle.cfgleast.specs.Generator.{CostTables, IsGenerator, cost_answer}
-use Rattle.cfgchoices.specs.Inner.Kinds.{AreKinds, IsBaseProduction, IsTarget, IsKind, IsOptimal}
+use Rattle.cfgchoices.specs.Kinds.{AreKinds, IsBase, IsChain, IsKind, IsOptimal}
 use Rattle.cfgchoices.specs.Inner.Candidates.{IsOptimalByKind, IsKnown}
 use Rattle.cfgchoices.specs.declared.kinds.Kind.{Kind}
 use Rattle.cfgchoices.specs.declared.kinds.Kind.TheVariants as variants
@@ -16,13 +16,13 @@ module _ {S : Type 0} (number : S → ℕ) (x : CostTables) (kinds : List (Kind 
   counted : (p : ℕ) → IsOptimal x p → IsOptimalByKind kinds p
   counted p optimal = (within p optimal, λ e. subst (IsKind number x p) e (are.each p (within p optimal)) optimal)
 
-  base_or_target : (p : ℕ) → IsOptimal x p → IsBaseProduction x p ⊎ ((q : ℕ) × IsTarget x p q)
+  base_or_target : (p : ℕ) → IsOptimal x p → IsBase x p ⊎ ((q : ℕ) × IsChain x p q)
   base_or_target p optimal = go (get_or kinds p Suboptimal) (are.each p (within p optimal))
     where
-      go : (kind : Kind S) → IsKind number x p kind → IsBaseProduction x p ⊎ ((q : ℕ) × IsTarget x p q)
+      go : (kind : Kind S) → IsKind number x p kind → IsBase x p ⊎ ((q : ℕ) × IsChain x p q)
       go Suboptimal is = absurd (is optimal)
       go Base is = inl is
-      go (variants.ChainsTo r) is = inr (number r.0, is)
+      go (variants.Chain r) is = inr (number r.0, is)
 
   pub known : (n : ℕ) → IsGenerator x n → IsGrammar x.grammar → (sole : List Bool) (limit : ℕ) → length sole ≡ x.grammar.rules
       → ((r : ℕ) → get_or sole r false ≡ true → (p q : ℕ) → IsOptimalByKind kinds p → IsOptimalByKind kinds q → (nth_production x.grammar p).rule ≡ r → (nth_production x.grammar q).rule ≡ r → p ≡ q)

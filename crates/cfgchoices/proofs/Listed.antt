@@ -8,7 +8,7 @@ use Rattle.cfgindex.specs.declared.idxnewtype.PIdx.{PIdx}
 use Rattle.derivation.specs.CostLists.{rule_cost}
 use Rattle.cfgleast.specs.Generator.{CostTables, IsGenerator}
 use Rattle.cfgleast.proofs.Generated.{answered_some}
-use Rattle.cfgchoices.specs.Inner.Kinds.{IsBaseProduction}
+use Rattle.cfgchoices.specs.Kinds.{IsBase}
 use Rattle.cfgchoices.specs.Inner.Candidates.{owner}
 use Rattle.cfgchoices.proofs.Optimal.{answered_within}
 use Rattle.cfgchoices.specs.Inner.Lists.{AreListed, IsFirstFrom}
@@ -83,7 +83,7 @@ listed_none number Is n lists firsts next below none = record {
 }
 
 -- what a base production costs, as the list of the code says
-pub base_cost_reported : (x : CostTables) (n : ℕ) → IsGenerator x n → (p i c : ℕ) (base : IsBaseProduction x p) (o : Option ℕ) → i ≡ owner x p → o ≡ get_or x.least i o → o ≡ Some c → base.optimal.cost ≡ c
+pub base_cost_reported : (x : CostTables) (n : ℕ) → IsGenerator x n → (p i c : ℕ) (base : IsBase x p) (o : Option ℕ) → i ≡ owner x p → o ≡ get_or x.least i o → o ≡ Some c → base.optimal.cost ≡ c
 base_cost_reported x n is p i c base o at read some =
     let within = subst (λ m. owner x p < m) (sym is.settled.chosen.costs) (answered_within x n is (owner x p) base.optimal.cost base.optimal.rule) in
     same_Some _ _ (sym (answered_some (rule_cost x.least (owner x p)) base.optimal.cost base.optimal.rule).0

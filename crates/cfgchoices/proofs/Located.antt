@@ -11,10 +11,10 @@ use Rattle.std.proofs.lemmas.List.{get_or-map, take-append-drop, take-map, drop-
 use Rattle.lemmas.proofs.Elements.{get_or-set}
 use Rattle.std.proofs.lemmas.List.Edits.{length-insert}
 use Rattle.std.proofs.lemmas.List.Elements.{Contains-append_left, Contains-append_right, Contains-append_cases, Contains-get_or, Contains-push, Contains-push_cases}
-use Rattle.cfgchoices.specs.Inner.Choices.{ChoicesGive}
+use Rattle.cfgchoices.specs.Choices.{ChoicesGive}
 use Rattle.cfgleast.specs.Generator.{CostTables}
 use Rattle.cfgchoices.specs.FirstSentence.{lexicographic}
-use Rattle.cfgchoices.specs.Inner.Kinds.{production_numbers}
+use Rattle.cfgchoices.specs.Kinds.{production_numbers}
 use Rattle.cfgchoices.specs.Inner.Candidates.{Adds, Handles, HasChoice, IsHandled, IsCandidate, Known, AreCandidates, NotAfter, Nominating, Candidates, GivesNoMore, Waits, with_choices, is_sole, owner, production_number, sequence}
 use Rattle.lemmas.proofs.Contained.{contains_cases, contains_first, contains_later}
 use Rattle.cfgchoices.proofs.Nominated.{IsGiven, handled_wider, not_after_both, nominated_given, holds_itself}

@@ -9,14 +9,14 @@ use Rattle.lemmas.proofs.Elements.{get_or-set}
 use Rattle.derivation.specs.Grammar.{Sym, Rule}
 use Rattle.cfgtables.proofs.Located.{at_position}
 use Rattle.cfgleast.specs.Certificate.{rule_choice}
-use Rattle.cfgchoices.specs.Inner.Choices.{ChoicesGive}
-use Rattle.cfgchoices.specs.Inner.Choices as gives
+use Rattle.cfgchoices.specs.Choices.{ChoicesGive}
+use Rattle.cfgchoices.specs.Choices as gives
 use Rattle.cfgleast.specs.Generator.{CostTables, cost_answer, token_cost}
-use Rattle.cfgchoices.specs.Inner.Kinds.{IsTarget, IsOptimal}
+use Rattle.cfgchoices.specs.Kinds.{IsChain, IsOptimal}
 use Rattle.cfgchoices.specs.FirstSentence.{lexicographic}
-use Rattle.cfgchoices.specs.Inner.Candidates.{Choices, Choosing, Handles, HasChoice, IsDone, IsFloor, IsHandled, IsKnown, IsNext, IsCandidate, IsReady, Known, AreCandidates, NotAfter, Nominating, Candidates, GivesNoMore, Waits, with_choices, is_sole, owner, sequence}
+use Rattle.cfgchoices.specs.Inner.Candidates.{Choices, Choosing, Handles, HasChoice, IsDone, IsFloor, IsHandled, IsKnown, IsNext, IsCandidate, IsFreeOrChosenBelow, Known, AreCandidates, NotAfter, Nominating, Candidates, GivesNoMore, Waits, with_choices, is_sole, owner, sequence}
 use Rattle.cfgchoices.proofs.Choices.{choices_once}
-use Rattle.cfgchoices.proofs.ChoosingFirsts.{answer_chosen, choosing_more, chosen_now, gives_ready, target_gives, target_ready, later, paid_chosen, ready_kept}
+use Rattle.cfgchoices.proofs.Choosing.{answer_chosen, choosing_more, chosen_now, gives_below, target_gives, target_below, later, paid_chosen, below_kept}
 use Rattle.lemmas.proofs.Contained.{contains_one}
 use Rattle.cfgchoices.proofs.FirstChosen.{not_after}
 use Rattle.cfgchoices.proofs.GrowingChoices.{Keeps, gives_kept, keeps_one}
@@ -62,12 +62,12 @@ module _ (x : CostTables) where
   handled_wider f f' same wider q (inr (p, waits, holds)) = inr (p, wider p waits, subst (λ l. GivesNoMore x l p q) (sym same) holds)
 
   module _ (l : Choices) (n : ℕ) (state : Choosing x l n) where
-    pub chosen_ready : (r : ℕ) → HasChoice l r → IsReady x l n r
-    chosen_ready r ((p, m), e) = inr (subst (λ (o : Option (ℕ × ℕ)). IsSomeAnd o (λ choice. choice.1 < n)) (sym e) (state.each r p m e).1)
+    pub chosen_below : (r : ℕ) → HasChoice l r → IsFreeOrChosenBelow x l n r
+    chosen_below r ((p, m), e) = inr (subst (λ (o : Option (ℕ × ℕ)). IsSomeAnd o (λ choice. choice.1 < n)) (sym e) (state.each r p m e).1)
 
     pub choice_given : (r : ℕ) → HasChoice l r → IsGiven l (Rule r ∷ [])
-    choice_given r h = gives_ready x l n state n (Rule r ∷ [])
-        (λ q among. let same : Rule r ≡ Rule q = contains_one (Rule r) (Rule q) among in let is : r ≡ q = cc in subst (IsReady x l n) is (chosen_ready r h))
+    choice_given r h = gives_below x l n state n (Rule r ∷ [])
+        (λ q among. let same : Rule r ≡ Rule q = contains_one (Rule r) (Rule q) among in let is : r ≡ q = cc in subst (IsFreeOrChosenBelow x l n) is (chosen_below r h))
 
     -- the choice of a rule gives what is given for the rule, and no more
     pub rule_gives : (r p m : ℕ) → rule_choice l r ≡ Some (p, m) → (w : List ℕ) → ChoicesGive (with_choices x l) (sequence x p) w → ChoicesGive (with_choices x l) (Rule r ∷ []) w
@@ -77,13 +77,13 @@ module _ (x : CostTables) where
 
     pub sequence_gives : (r p m : ℕ) → rule_choice l r ≡ Some (p, m) → (w : List ℕ) → ChoicesGive (with_choices x l) (Rule r ∷ []) w → ChoicesGive (with_choices x l) (sequence x p) w
     sequence_gives r p m e w h =
-        let (u, made) = gives_ready x l n state m (sequence x p) (state.each r p m e).0.ready in
+        let (u, made) = gives_below x l n state m (sequence x p) (state.each r p m e).0.below in
         subst (ChoicesGive (with_choices x l) (sequence x p)) (choices_once (with_choices x l) (rule_gives r p m e u made) h) made
 
     pub choice_is_done : (p m : ℕ) → rule_choice l (owner x p) ≡ Some (p, m) → IsDone x l p
     choice_is_done p m e = record {
       chosen = ((p, m), e);
-      given = gives_ready x l n state m (sequence x p) (state.each (owner x p) p m e).0.ready;
+      given = gives_below x l n state m (sequence x p) (state.each (owner x p) p m e).0.below;
       first = λ u v h k. not_greater u v (choices_once (with_choices x l) h (rule_gives (owner x p) p m e v k));
     }
 
@@ -95,7 +95,7 @@ module _ (x : CostTables) where
     }
 
 pub nominated_given : (k : Known) (l : Choices) (n : ℕ) → Choosing k.tables l n → (c p : ℕ) → IsCandidate k l n c p → IsGiven k.tables l (sequence k.tables p)
-nominated_given k l n state c p o = gives_ready k.tables l n state n (sequence k.tables p) o.ready
+nominated_given k l n state c p o = gives_below k.tables l n state n (sequence k.tables p) o.below
 
 module _ (k : Known) (n : ℕ) (is : IsKnown k n) where
   abbrev x : CostTables
@@ -123,10 +123,10 @@ module _ (k : Known) (n : ℕ) (is : IsKnown k n) where
     l = f.choices
 
     abbrev pub chosen : Choices
-    chosen = later x l f.number (owner x p) p candidates.choosing unset within next.nominated.optimal refl next.nominated.ready
+    chosen = later x l f.number (owner x p) p candidates.choosing unset within next.nominated.optimal refl next.nominated.below
 
     abbrev pub choosing : Choosing x chosen (f.number + 1)
-    choosing = choosing_more x l f.number (owner x p) p candidates.choosing unset within next.nominated.optimal refl next.nominated.ready
+    choosing = choosing_more x l f.number (owner x p) p candidates.choosing unset within next.nominated.optimal refl next.nominated.below
 
     paid_sequence : (q : ℕ) → IsOptimal x q → All (IsPaid (token_cost x)) (sequence x q)
     paid_sequence q optimal = paid x n is.generator is.grammar (owner x q) (sequence x q) (at_position x.grammar q _ optimal.index refl refl)
@@ -135,7 +135,7 @@ module _ (k : Known) (n : ℕ) (is : IsKnown k n) where
     costs_now = next.nominated.optimal.rule ∙ ap Some next.nominated.cost
 
     now : rule_choice chosen (owner x p) ≡ Some (p, f.number)
-    now = chosen_now x l f.number (owner x p) p candidates.choosing unset within next.nominated.optimal refl next.nominated.ready
+    now = chosen_now x l f.number (owner x p) p candidates.choosing unset within next.nominated.optimal refl next.nominated.below
 
     keeps : Keeps l chosen
     keeps = keeps_one l (owner x p) (p, f.number) unset
@@ -177,7 +177,7 @@ module _ (k : Known) (n : ℕ) (is : IsKnown k n) where
           let o = candidates.nominated q h in record {
             optimal = o.optimal;
             cost = o.cost;
-            ready = λ r i. ready_kept x l chosen keeps r f.number (f.number + 1) (omega arith) (o.ready r i);
+            below = λ r i. below_kept x l chosen keeps r f.number (f.number + 1) (omega arith) (o.below r i);
             floor = floor_kept q h;
           };
       sole = candidates.sole;
@@ -206,28 +206,29 @@ module _ (k : Known) (n : ℕ) (is : IsKnown k n) where
     }
 
     -- the chain productions that lead to the rule can be candidates
-    pub target_nominated : (q : ℕ) → IsTarget x q (owner x p) → IsCandidate k chosen (f.number + 1) f.cost q
-    target_nominated q target = record {
-      optimal = target.optimal;
-      cost = one_cost x (owner x p) target.optimal.cost f.cost target.same costs_now;
-      ready = target_ready x chosen q (owner x p) (f.number + 1) target (subst (λ (o : Option (ℕ × ℕ)). IsSomeAnd o (λ choice. choice.1 < f.number + 1)) (sym now) (omega arith));
-      floor = λ r has costs several u v g h.
-          let back = target_gives x chosen (owner x p) v (chains_target x q (owner x p) target) (paid_sequence q target.optimal) h in
-          elim (cases r has) [
-            | inl old ↦ not_after_kept x l chosen keeps (Rule r ∷ []) (sequence x p) (choice_given x l f.number candidates.choosing r old) mine (next.nominated.floor r old costs several)
-                u v g (sequence_gives x chosen (f.number + 1) choosing (owner x p) p f.number now v back)
-            | inr is ↦ not_greater u v (choices_once (with_choices x chosen) (subst (λ s. ChoicesGive (with_choices x chosen) (Rule s ∷ []) u) is g) back)
-          ];
-    }
+    pub target_nominated : (q : ℕ) → IsChain x q (owner x p) → IsCandidate k chosen (f.number + 1) f.cost q
+    target_nominated q target =
+        let links = chains_target x n is.generator is.grammar q (owner x p) target in record {
+          optimal = target.optimal;
+          cost = one_cost x (owner x p) target.optimal.cost f.cost target.same costs_now;
+          below = target_below x chosen q (owner x p) (f.number + 1) links (subst (λ (o : Option (ℕ × ℕ)). IsSomeAnd o (λ choice. choice.1 < f.number + 1)) (sym now) (omega arith));
+          floor = λ r has costs several u v g h.
+              let back = target_gives x chosen (owner x p) v links (paid_sequence q target.optimal) h in
+              elim (cases r has) [
+                | inl old ↦ not_after_kept x l chosen keeps (Rule r ∷ []) (sequence x p) (choice_given x l f.number candidates.choosing r old) mine (next.nominated.floor r old costs several)
+                    u v g (sequence_gives x chosen (f.number + 1) choosing (owner x p) p f.number now v back)
+                | inr is ↦ not_greater u v (choices_once (with_choices x chosen) (subst (λ s. ChoicesGive (with_choices x chosen) (Rule s ∷ []) u) is g) back)
+              ];
+        }
 
     pub handled_chosen : (q : ℕ) → IsHandled x f q ⊎ GivesNoMore x l p q → IsHandled x with_choice q
     handled_chosen q (inl (inl old)) = inl (done_kept x l f.number candidates.choosing chosen keeps q old)
     handled_chosen q (inl (inr (r, waits, holds))) = inr (r, waits, holds_kept x l chosen keeps r q (given r waits) holds)
     handled_chosen q (inr holds) = inl (holds_done x chosen p q done (holds_kept x l chosen keeps p q mine holds))
 
-    pub chains_chosen : (f' : Candidates) → f'.choices ≡ chosen → Handles x (λ q. IsTarget x q (owner x p)) with_choice f'
-        → ((q r : ℕ) → IsTarget x q r → HasChoice l r → IsHandled x f q ⊎ GivesNoMore x l p q) → (q r : ℕ) → IsTarget x q r → HasChoice f'.choices r → IsHandled x f' q
+    pub chains_chosen : (f' : Candidates) → f'.choices ≡ chosen → Handles x (λ q. IsChain x q (owner x p)) with_choice f'
+        → ((q r : ℕ) → IsChain x q r → HasChoice l r → IsHandled x f q ⊎ GivesNoMore x l p q) → (q r : ℕ) → IsChain x q r → HasChoice f'.choices r → IsHandled x f' q
     chains_chosen f' same handles chains q r target has = elim (cases r (subst (λ m. HasChoice m r) same has)) [
       | inl old ↦ handles q (inl (handled_chosen q (chains q r target old)))
-      | inr is ↦ handles q (inr (subst (IsTarget x q) is target))
+      | inr is ↦ handles q (inr (subst (IsChain x q) is target))
     ]

@@ -1,4 +1,4 @@
--- What the cost tables say of optimal productions, and what derivations say of them.
+-- What the cost tables say of optimal productions, which derivations define.
 use Rattle.std.proofs.Common.{◌≡◌, ℕ, ◌<◌, ◌≤◌, ◌⊎◌, inl, inr, List, [], ◌∷◌, ◌++◌, length, get_or, Option, Some, None, Result, Ok, Err, All, Contains, arith, refl, sym, ap, subst, ◌∙◌}
 use Rattle.std.proofs.lemmas.Option.{none-some, same_Some}
 use Rattle.std.proofs.lemmas.Bool.{cases_lt}
@@ -19,9 +19,11 @@ use Rattle.derivation.specs.CostLists.{rule_cost}
 use Rattle.derivation.proofs.Sums.{plus_parts, plus_both}
 use Rattle.derivation.proofs.Made.{cost_of-token}
 use Rattle.cfgleast.specs.Generator.{CostTables, IsGenerator, cost_answer, token_cost}
-use Rattle.cfgchoices.specs.Chains.{Along, here, next, IsOptimalProduction, ChainsTo, IsBase}
-use Rattle.cfgchoices.specs.Inner.Kinds.{AreKinds, HasTarget, IsBaseProduction, HasRulesAsTargets, IsTarget, IsKind, IsSequenceKind, IsOptimal, IsMinimal, IsBaseBelow}
-use Rattle.cfgleast.specs.Inner.Open.{StopsAt}
+use Rattle.cfgchoices.specs.Chains.{Along, here, next}
+use Rattle.cfgchoices.specs.Chains as chains
+use Rattle.cfgchoices.specs.Inner.SequenceKinds.{IsSequenceKind}
+use Rattle.cfgchoices.specs.Kinds.{AreKinds, LeadsTo, IsBase, HasRulesAsTargets, IsChain, IsKind, IsOptimal, IsMinimal, ReachesBase}
+use Rattle.cfgleast.specs.CutSums.{StopsAt}
 use Rattle.cfgchoices.specs.Splits.{Split, done, itself, part}
 use Rattle.cfgchoices.specs.declared.kinds.Kind.{Kind}
 use Rattle.cfgchoices.specs.declared.kinds.Kind.TheVariants as kinds
@@ -30,7 +32,7 @@ use Rattle.lemmas.proofs.Contained.{contains_cases, contains_none}
 use Rattle.cfgleast.proofs.Gains.{part_at}
 use Rattle.cfgleast.proofs.Generated.{answered_some, some_answered, reads_cost, reads_too_large, reads_none}
 use Rattle.cfgchoices.proofs.Lengths.{IsPaid, productions_paid}
-use Rattle.cfgchoices.proofs.Chains.{at_least, chain_makes_minimal, minimal_made_along_chain, rule_nothing}
+use Rattle.cfgchoices.proofs.Chains.{at_least, made_by_base_minimal, minimal_made_by_base, rule_nothing}
 
 -- if a rule has no cost, the list has none
 pub stops_none : (cost : ℕ → ℕ) (settled : ℕ → Option ℕ) (symbols : List Sym) (r n : ℕ) (x : Partial) → StopsAt cost settled symbols r x → sum_of (symbol_cost cost settled) symbols ≡ Some n → ⊥
@@ -73,53 +75,20 @@ module _ (x : CostTables) where
             further (p.first_is ∙ ap Some (omega (arith, p.whole, small, value, part.within))) (chains_sequence a q c p.second p.second_is (omega (arith, p.whole, small)) after k)
       ]
 
-  pub chains_target : (p q : ℕ) → IsTarget x p q → LinksTo q (nth_production x.grammar p).symbols
-  chains_target p q target =
-      let c = target.optimal.cost in
-      chains_sequence (nth_production x.grammar p).symbols q c c target.optimal.sum (omega arith) target.among (answered_some (rule_cost x.least q) c target.same).0
-
   pub others_free : {q : ℕ} {a : List Sym} → LinksTo q a → (s : ℕ) → Contains a (Rule s) → (q ≡ s) ⊎ CostsNothing (Rule s)
   others_free {q} (in_prefix {a = a} free) s h = elim (contains_cases (Rule q) (Rule s) a h) [
     | inl same ↦ inl (cc)
     | inr after ↦ inr (All-contains CostsNothing a (Rule s) free after)
   ]
-  others_free (further {s = y} {a = a} free chains) s h = elim (contains_cases y (Rule s) a h) [
+  others_free (further {s = y} {a = a} free links) s h = elim (contains_cases y (Rule s) a h) [
     | inl same ↦ inr (ap costs (sym same) ∙ free)
-    | inr after ↦ others_free chains s after
+    | inr after ↦ others_free links s after
   ]
 
 -- a production is optimal whatever is chosen
 pub optimal_whatever : (x : CostTables) (choices : List (Option (ℕ × ℕ))) (p : ℕ) → IsOptimal x p
     → IsOptimal (record { grammar = x.grammar; costs = x.costs; least = x.least; choices = choices }) p
-optimal_whatever x choices p t = record { index = t.index; cost = t.cost; positive = t.positive; rule = t.rule; sum = t.sum }
-
--- the symbols of a production determine its kind, if its rule has a cost to return that isn't 0
-module _ (x : CostTables) (p c : ℕ) (index : p < length x.grammar.productions) (rule : rule_cost x.least (nth_production x.grammar p).rule ≡ Some c) where
-  cost_is : (optimal : IsOptimal x p) → optimal.cost ≡ c
-  cost_is optimal = same_Some _ _ (sym (answered_some (rule_cost x.least (nth_production x.grammar p).rule) optimal.cost optimal.rule).0 ∙ rule)
-
-  module _ (some : 0 < c) (small : c < 65536) where
-    optimal_now : sum_of (symbol_cost (token_cost x) (rule_cost x.least)) (nth_production x.grammar p).symbols ≡ Some c → IsOptimal x p
-    optimal_now e = record {
-      index = index;
-      cost = c;
-      positive = some;
-      rule = some_answered (rule_cost x.least (nth_production x.grammar p).rule) c rule (omega (arith, small));
-      sum = e;
-    }
-
-    pub kind_reported : {S : Type 0} (number : S → ℕ) (kind : Kind S)
-        → IsSequenceKind number (token_cost x) (rule_cost x.least) c (nth_production x.grammar p).symbols kind → IsKind number x p kind
-    kind_reported number kinds.Suboptimal h = λ optimal. h (optimal.sum ∙ ap Some (cost_is optimal))
-    kind_reported number kinds.Base h = record {
-      optimal = optimal_now h.0;
-      none = λ q target. h.1 q target.among ((answered_some (rule_cost x.least q) target.optimal.cost target.same).0 ∙ ap Some (cost_is target.optimal));
-    }
-    kind_reported number (kinds.ChainsTo r) h = record {
-      optimal = optimal_now h.0;
-      among = h.1;
-      same = some_answered (rule_cost x.least (number r.0)) c h.2 (omega (arith, small)) ∙ ap Some (sym (cost_is (optimal_now h.0)));
-    }
+optimal_whatever x choices p t = record { index = t.index; cost = t.cost; positive = t.positive; rule = t.rule; is = t.is }
 
 -- the kind that is read for a production
 module _ {S : Type 0} (number : S → ℕ) (x : CostTables) where
@@ -133,15 +102,6 @@ pub answered_within : (x : CostTables) (n : ℕ) → IsGenerator x n → (q c : 
 answered_within x n is q c e =
     let known = (answered_some (rule_cost x.least q) c e).0 in
     subst (λ m. q < m) is.settled.chosen.costs (within_from_get_or x.least q None (λ none. let never : None ≡ Some c = sym none ∙ known in cc))
-
--- a production leads to at most one rule
-pub one_target : (x : CostTables) (p q r : ℕ) → IsTarget x p q → IsTarget x p r → q ≡ r
-one_target x p q r h k = elim (others_free x (chains_target x p q h) r k.among) [
-  | inl same ↦ same
-  | inr free ↦
-      let none : 0 ≡ k.optimal.cost = same_Some _ _ (sym free ∙ (answered_some (rule_cost x.least r) k.optimal.cost k.same).0) in
-      absurd (omega (arith, none, k.optimal.positive))
-]
 
 module _ (x : CostTables) (n : ℕ) (is : IsGenerator x n) (grammar : IsGrammar x.grammar) where
   abbrev P : ℕ → List Sym → Type 0
@@ -203,16 +163,26 @@ module _ (x : CostTables) (n : ℕ) (is : IsGenerator x n) (grammar : IsGrammar 
       plus_both (rule_cost x.least r) (sum_of sums a) (cost_of cost u) (cost_of cost w) (answered_some (rule_cost x.least r) (cost_of cost u) known).0
       (sum_of_cut s (omega (arith, both, small))) ∙ ap Some (sym both)
 
-  optimal_reported : (p : ℕ) (optimal : IsOptimal x p) → IsOptimalProduction P cost (nth_production x.grammar p).rule (nth_production x.grammar p).symbols optimal.cost
-  optimal_reported p optimal =
-      let known = answered_some (rule_cost x.least (nth_production x.grammar p).rule) optimal.cost optimal.rule in
-      let (w, cut, costs) = cut_of_sum (nth_production x.grammar p).symbols optimal.cost optimal.sum known.1 in record {
-        has = at_position x.grammar p _ optimal.index refl refl;
-        least = least_of (nth_production x.grammar p).rule optimal.cost optimal.rule;
-        word = w;
-        parts = cut;
-        is = costs;
-      }
+  -- an optimal production costs that by the tables too
+  pub optimal_sum : (p : ℕ) (optimal : IsOptimal x p) → sum_of sums (nth_production x.grammar p).symbols ≡ Some optimal.cost
+  optimal_sum p optimal =
+      let small = (answered_some (rule_cost x.least (nth_production x.grammar p).rule) optimal.cost optimal.rule).1 in
+      let costs = optimal.is.is in
+      sum_of_cut optimal.is.parts (omega (arith, costs, small)) ∙ ap Some costs
+
+  pub chains_target : (p q : ℕ) → IsChain x p q → LinksTo x q (nth_production x.grammar p).symbols
+  chains_target p q target =
+      let c = target.optimal.cost in
+      chains_sequence x (nth_production x.grammar p).symbols q c c (optimal_sum p target.optimal) (omega arith) target.among (answered_some (rule_cost x.least q) c target.same).0
+
+  -- a production leads to at most one rule
+  pub one_target : (p q r : ℕ) → IsChain x p q → IsChain x p r → q ≡ r
+  one_target p q r h k = elim (others_free x (chains_target p q h) r k.among) [
+    | inl same ↦ same
+    | inr free ↦
+        let none : 0 ≡ k.optimal.cost = same_Some _ _ (sym free ∙ (answered_some (rule_cost x.least r) k.optimal.cost k.same).0) in
+        absurd (omega (arith, none, k.optimal.positive))
+  ]
 
   -- an optimal production, with its number
   pub record Located (r : ℕ) (symbols : List Sym) (c : ℕ) : Type 0 where
@@ -221,10 +191,9 @@ module _ (x : CostTables) (n : ℕ) (is : IsGenerator x n) (grammar : IsGrammar 
     pub optimal : IsOptimal x index
     pub costs : optimal.cost ≡ c
 
-  pub optimal_located : (r : ℕ) (symbols : List Sym) (c : ℕ) → IsOptimalProduction P cost r symbols c → 0 < c → c ≤ 65535 → Located r symbols c
+  pub optimal_located : (r : ℕ) (symbols : List Sym) (c : ℕ) → chains.IsOptimal P cost r symbols c → 0 < c → c ≤ 65535 → Located r symbols c
   optimal_located r symbols c optimal some small =
       let has = optimal.has in
-      let costs = optimal.is in
       let same = get_or_default x.grammar.productions has.0 (record { rule = 0; symbols = [] }) (record { rule = r; symbols = symbols }) has.1 ∙ has.2 in
       record {
         index = has.0;
@@ -234,85 +203,74 @@ module _ (x : CostTables) (n : ℕ) (is : IsGenerator x n) (grammar : IsGrammar 
           cost = c;
           positive = some;
           rule = ap (λ (p : Production). cost_answer x p.rule) same ∙ answer_of r c optimal.least small;
-          sum = ap (λ (p : Production). sum_of sums p.symbols) same ∙ sum_of_cut optimal.parts (omega (arith, costs, small)) ∙ ap Some costs;
+          is = subst (λ (p : Production). chains.IsOptimal P cost p.rule p.symbols c) (sym same) optimal;
         };
         costs = refl;
       }
 
-  target_reported : (a b : ℕ) → HasTarget x a b → ChainsTo P cost a b
+  target_reported : (a b : ℕ) → LeadsTo x a b → chains.LeadsTo P cost a b
   target_reported a b h =
       let p = h.index in
       let optimal = h.target.optimal in
-      subst (λ r. ChainsTo P cost r b) h.owner (record {
+      subst (λ r. chains.LeadsTo P cost r b) h.owner (record {
         symbols = (nth_production x.grammar p).symbols;
         least = optimal.cost;
-        optimal = optimal_reported p optimal;
+        optimal = optimal.is;
         among = h.target.among;
         same = least_of b optimal.cost h.target.same;
       })
 
-  base_reported : (p : ℕ) → IsBaseProduction x p → IsBase P cost (nth_production x.grammar p).rule (nth_production x.grammar p).symbols
-  base_reported p base =
-      let optimal = base.optimal in
-      let reported = optimal_reported p optimal in
-      let known = answered_some (rule_cost x.least (nth_production x.grammar p).rule) optimal.cost optimal.rule in
-      record {
-        least = optimal.cost;
-        optimal = reported;
-        less = λ q d h l.
-            let low = at_least P cost q d reported.parts h l in
-            elim (cases_lt d optimal.cost) [
-              | inl lt ↦ lt
-              | inr ge ↦
-                  let same : d ≡ optimal.cost = omega (arith, ge, low, reported.is) in
-                  absurd (base.none q (record { optimal = optimal; among = h; same = answer_of q optimal.cost (subst (Least P cost q) same l) known.1 }))
-            ];
-      }
+  -- a base production leads to no rule
+  pub base_leads_nowhere : (p q : ℕ) → IsBase x p → IsChain x p q → ⊥
+  base_leads_nowhere p q base chain =
+      let least = base.is in
+      let less = least.less q chain.optimal.cost chain.among (least_of q chain.optimal.cost chain.same) in
+      let same = least_is_one P cost (nth_production x.grammar p).rule least.least chain.optimal.cost least.optimal.least chain.optimal.is.least in
+      omega (arith, less, same)
 
-  along_reported : {a b : ℕ} → Along (HasTarget x) a b → Along (ChainsTo P cost) a b
+  along_reported : {a b : ℕ} → Along (LeadsTo x) a b → Along (chains.LeadsTo P cost) a b
   along_reported here = here
   along_reported (next {a = a} {b = b} h k) = next (target_reported a b h) (along_reported k)
 
-  -- what a base production below the rule makes of minimal sentences is a minimal sentence of the rule
-  pub base_makes : (r p : ℕ) (w : List ℕ) → IsBaseBelow x r p → Cut (nth_production x.grammar p).symbols w → IsMinimal x r w
-  base_makes r p w below cut = chain_makes_minimal P cost paid r w (record {
+  -- what a base production that the rule reaches makes of minimal sentences is a minimal sentence of the rule
+  pub base_makes : (r p : ℕ) (w : List ℕ) → ReachesBase x r p → Cut (nth_production x.grammar p).symbols w → IsMinimal x r w
+  base_makes r p w reaches cut = made_by_base_minimal P cost paid r w (record {
     owner = (nth_production x.grammar p).rule;
     symbols = (nth_production x.grammar p).symbols;
-    leads = along_reported below.leads;
-    base = base_reported p below.base;
+    reaches = record { leads = along_reported reaches.leads; base = reaches.base.is };
     parts = cut;
   })
 
   -- each rule in such a production costs less
-  pub base_less : (r p c s d : ℕ) → IsBaseBelow x r p → cost_answer x r ≡ Some c → Contains (nth_production x.grammar p).symbols (Rule s) → cost_answer x s ≡ Some d → d < c
-  base_less r p c s d below e h k =
-      let base = base_reported p below.base in
+  pub base_less : (r p c s d : ℕ) → ReachesBase x r p → cost_answer x r ≡ Some c → Contains (nth_production x.grammar p).symbols (Rule s) → cost_answer x s ≡ Some d → d < c
+  base_less r p c s d reaches e h k =
+      let base = reaches.base.is in
       let less = base.less s d h (least_of s d k) in
-      let same = least_along (along_reported below.leads) base.least base.optimal.least in
+      let same = least_along (along_reported reaches.leads) base.least base.optimal.least in
       let one = least_is_one P cost r c base.least (least_of r c e) same in
       omega (arith, less, one)
     where
-      least_along : {a b : ℕ} → Along (ChainsTo P cost) a b → (c : ℕ) → Least P cost b c → Least P cost a c
+      least_along : {a b : ℕ} → Along (chains.LeadsTo P cost) a b → (c : ℕ) → Least P cost b c → Least P cost a c
       least_along here c l = l
       least_along (next {a = a} {b = b} h k) c l =
           let same = least_is_one P cost b c h.least (least_along k c l) h.same in
           subst (Least P cost a) (sym same) h.optimal.least
 
   -- a rule in such a production has a cost
-  pub base_costs : (p s : ℕ) → IsBaseProduction x p → Contains (nth_production x.grammar p).symbols (Rule s) → (d : ℕ) × (cost_answer x s ≡ Some d)
+  pub base_costs : (p s : ℕ) → IsBase x p → Contains (nth_production x.grammar p).symbols (Rule s) → (d : ℕ) × (cost_answer x s ≡ Some d)
   base_costs p s base h =
       let optimal = base.optimal in
       let known = answered_some (rule_cost x.least (nth_production x.grammar p).rule) optimal.cost optimal.rule in
-      let part = part_at sums (nth_production x.grammar p).symbols h.0 (Rule s) optimal.cost h.1 h.2 optimal.sum in
+      let part = part_at sums (nth_production x.grammar p).symbols h.0 (Rule s) optimal.cost h.1 h.2 (optimal_sum p base.optimal) in
       (part.value, some_answered (rule_cost x.least s) part.value part.is (omega (arith, part.within, known.1)))
 
-  -- a minimal sentence of a rule that costs something is made by a base production below the rule
+  -- a minimal sentence of a rule that costs something is made by a base production that the rule reaches
   pub record IsMade (r : ℕ) (w : List ℕ) : Type 0 where
     pub index : ℕ
-    pub below : IsBaseBelow x r index
+    pub reaches : ReachesBase x r index
     pub parts : Cut (nth_production x.grammar index).symbols w
 
-  target_located : (a b c : ℕ) → ChainsTo P cost a b → Least P cost a c → 0 < c → c ≤ 65535 → HasTarget x a b
+  target_located : (a b c : ℕ) → chains.LeadsTo P cost a b → Least P cost a c → 0 < c → c ≤ 65535 → LeadsTo x a b
   target_located a b c h l some small =
       let one = least_is_one P cost a h.least c h.optimal.least l in
       let t = optimal_located a h.symbols h.least h.optimal (omega (arith, one, some)) (omega (arith, one, small)) in
@@ -326,38 +284,29 @@ module _ (x : CostTables) (n : ℕ) (is : IsGenerator x n) (grammar : IsGrammar 
         };
       }
 
-  along_located : {a b : ℕ} (c : ℕ) → Along (ChainsTo P cost) a b → Least P cost a c → 0 < c → c ≤ 65535 → Along (HasTarget x) a b × Least P cost b c
+  along_located : {a b : ℕ} (c : ℕ) → Along (chains.LeadsTo P cost) a b → Least P cost a c → 0 < c → c ≤ 65535 → Along (LeadsTo x) a b × Least P cost b c
   along_located c here l some small = (here, l)
   along_located c (next {a = a} {b = b} h k) l some small =
       let one = least_is_one P cost a h.least c h.optimal.least l in
       let rest = along_located c k (subst (Least P cost b) one h.same) some small in
       (next (target_located a b c h l some small) rest.0, rest.1)
 
-  base_located : (r : ℕ) (symbols : List Sym) (c : ℕ) (base : IsBase P cost r symbols) → Least P cost r c → 0 < c → c ≤ 65535
-      → (p : ℕ) × (nth_production x.grammar p ≡ record { rule = r; symbols = symbols }) × IsBaseProduction x p
+  base_located : (r : ℕ) (symbols : List Sym) (c : ℕ) (base : chains.IsBase P cost r symbols) → Least P cost r c → 0 < c → c ≤ 65535
+      → (p : ℕ) × (nth_production x.grammar p ≡ record { rule = r; symbols = symbols }) × IsBase x p
   base_located r symbols c base l some small =
       let one = least_is_one P cost r base.least c base.optimal.least l in
-      let t = optimal_located r symbols base.least base.optimal (omega (arith, one, some)) (omega (arith, one, small)) in (
-        t.index,
-        t.production,
-        record {
-          optimal = t.optimal;
-          none = λ q target.
-              let same = one_cost x (nth_production x.grammar t.index).rule target.optimal.cost t.optimal.cost target.optimal.rule t.optimal.rule in
-              let less = base.less q target.optimal.cost (subst (λ (p : Production). Contains p.symbols (Rule q)) t.production target.among) (least_of q target.optimal.cost target.same) in
-              omega (arith, less, same, t.costs);
-        },
-      )
+      let t = optimal_located r symbols base.least base.optimal (omega (arith, one, some)) (omega (arith, one, small)) in
+      (t.index, t.production, record { optimal = t.optimal; is = subst (λ (p : Production). chains.IsBase P cost p.rule p.symbols) (sym t.production) base })
 
   pub minimal_made : (r c : ℕ) (w : List ℕ) → cost_answer x r ≡ Some c → 0 < c → IsMinimal x r w → IsMade r w
   minimal_made r c w e some m =
       let small = (answered_some (rule_cost x.least r) c e).1 in
-      let down = minimal_made_along_chain P cost paid r w m in
-      let (along, least) = along_located c down.leads (least_of r c e) some small in
-      let (p, same, base) = base_located down.owner down.symbols c down.base least some small in
+      let down = minimal_made_by_base P cost paid r w m in
+      let (along, least) = along_located c down.reaches.leads (least_of r c e) some small in
+      let (p, same, base) = base_located down.owner down.symbols c down.reaches.base least some small in
       record {
         index = p;
-        below = record { leads = subst (λ (q : Production). Along (HasTarget x) r q.rule) (sym same) along; base = base };
+        reaches = record { leads = subst (λ (q : Production). Along (LeadsTo x) r q.rule) (sym same) along; base = base };
         parts = subst (λ (q : Production). Cut q.symbols w) (sym same) down.parts;
       }
 
@@ -374,10 +323,59 @@ module _ (x : CostTables) (n : ℕ) (is : IsGenerator x n) (grammar : IsGrammar 
       let none = rule_nothing P cost paid r w s (omega (arith, costs)) in
       subst (IsMinimal x r) none (s, λ v t. subst (λ k. k ≤ cost_of cost v) (sym costs) (least.1 v t))
 
+  -- the symbols of a production determine its kind, if its rule has a cost to return that isn't 0
+  module _ (p c : ℕ) (index : p < length x.grammar.productions) (rule : rule_cost x.least (nth_production x.grammar p).rule ≡ Some c)
+      (some : 0 < c) (small : c ≤ 65535) where
+    cost_is : (optimal : IsOptimal x p) → optimal.cost ≡ c
+    cost_is optimal = same_Some _ _ (sym (answered_some (rule_cost x.least (nth_production x.grammar p).rule) optimal.cost optimal.rule).0 ∙ rule)
+
+    optimal_now : sum_of sums (nth_production x.grammar p).symbols ≡ Some c → IsOptimal x p
+    optimal_now e =
+        let answer = some_answered (rule_cost x.least (nth_production x.grammar p).rule) c rule small in
+        let (w, cut, costs) = cut_of_sum (nth_production x.grammar p).symbols c e small in record {
+          index = index;
+          cost = c;
+          positive = some;
+          rule = answer;
+          is = record {
+            has = at_position x.grammar p _ index refl refl;
+            least = least_of (nth_production x.grammar p).rule c answer;
+            word = w;
+            parts = cut;
+            is = costs;
+          };
+        }
+
+    pub kind_reported : {S : Type 0} (number : S → ℕ) (kind : Kind S)
+        → IsSequenceKind number (token_cost x) (rule_cost x.least) c (nth_production x.grammar p).symbols kind → IsKind number x p kind
+    kind_reported number kinds.Suboptimal h = λ optimal. h (optimal_sum p optimal ∙ ap Some (cost_is optimal))
+    kind_reported number kinds.Base h =
+        let optimal = optimal_now h.0 in
+        let costs = cost_is optimal in record {
+          optimal = optimal;
+          is = record {
+            least = optimal.cost;
+            optimal = optimal.is;
+            less = λ q d among l.
+                let low = at_least P cost q d optimal.is.parts among l in
+                elim (cases_lt d optimal.cost) [
+                  | inl lt ↦ lt
+                  | inr ge ↦
+                      let same : d ≡ c = omega (arith, ge, low, costs, optimal.is.is) in
+                      absurd (h.1 q among (answered_some (rule_cost x.least q) c (answer_of q c (subst (Least P cost q) same l) small)).0)
+                ];
+          };
+        }
+    kind_reported number (kinds.Chain r) h = record {
+      optimal = optimal_now h.0;
+      among = h.1;
+      same = some_answered (rule_cost x.least (number r.0)) c h.2 small ∙ ap Some (sym (cost_is (optimal_now h.0)));
+    }
+
 -- the rule that a chain production leads to is a rule of the grammar
 pub targets_are_rules : {S : Type 0} (number : S → ℕ) (x : CostTables) (list : List (Kind S)) (n : ℕ) → IsGenerator x n
     → ((p : ℕ) → p < length list → IsKind number x p (get_or list p kinds.Suboptimal)) → HasRulesAsTargets number x.grammar list
 targets_are_rules number x list n is each p target e = elim (cases_lt p (length list)) [
   | inl lt ↦ let h = subst (IsKind number x p) e (each p lt) in answered_within x n is (number target.0) h.optimal.cost h.same
-  | inr past ↦ let no : kinds.Suboptimal ≡ kinds.ChainsTo target = sym (get_or_past list p kinds.Suboptimal past) ∙ e in absurd (cc)
+  | inr past ↦ let no : kinds.Suboptimal ≡ kinds.Chain target = sym (get_or_past list p kinds.Suboptimal past) ∙ e in absurd (cc)
 ]

@@ -12,11 +12,11 @@ use Rattle.std.proofs.lemmas.List.Sums.{sum_by-append, sum_by-cons}
 use Rattle.derivation.specs.Grammar.{Sym, Rule, Token}
 use Rattle.cfgtables.specs.Openings.{nth_production}
 use Rattle.cfgleast.specs.Certificate.{choice_of, rule_choice}
-use Rattle.cfgchoices.specs.Inner.Choices.{ChoicesGive, empty, token, free, chosen}
+use Rattle.cfgchoices.specs.Choices.{ChoicesGive, empty, token, free, chosen}
 use Rattle.cfgleast.specs.Generator.{CostTables, IsGenerator, choice_answer, cost_answer, where_some}
 use Rattle.cfgchoices.specs.Inner.Candidates.{Choices, Choosing, Pends, with_choices, left_to_open, sequence, tree_size}
 use Rattle.cfgchoices.proofs.Choices.{choices_join}
-use Rattle.cfgchoices.proofs.ChoosingFirsts.{answer_chosen, few, paid_chosen, sequence_not_above}
+use Rattle.cfgchoices.proofs.Choosing.{answer_chosen, few, paid_chosen, sequence_below}
 use Rattle.cfgchoices.proofs.TreeSizes.{tree_size_opened, tree_size_positive}
 
 last_first : {A : Type 0} (rest : List A) (s : A) → reverse (rest ++ s ∷ []) ≡ s ∷ reverse rest
@@ -115,7 +115,7 @@ module _ (x : CostTables) (l : Choices) (n : ℕ) (state : Choosing x l n) (rest
       let deep = few x l n state in
       let below = (state.each r p m e).1 in
       let all = longer (Rule r) in
-      let one = tree_size_opened x.grammar l 1 (λ q i j is. sequence_not_above x l n state j (sequence x i) (state.each q i j is).0.ready) x.grammar.rules r p m e (omega (arith, deep, below)) in
+      let one = tree_size_opened x.grammar l 1 (λ q i j is. sequence_below x l n state j (sequence x i) (state.each q i j is).0.below) x.grammar.rules r p m e (omega (arith, deep, below)) in
       let new = sum_by-append size rest (reverse (sequence x p)) in
       let turned = sum_by-IsPermutation size (sequence x p) (reverse (sequence x p)) (IsPermutation-reverse (sequence x p)) in
       omega (arith, all, one, new, turned)

@@ -4,10 +4,10 @@ use Rattle.std.proofs.Math.Seq.{get_or-append_seam}
 use Rattle.std.proofs.lemmas.List.{get_or_append_left, get_or_default, length-map, length_push, map-append, map-set}
 use Rattle.std.proofs.lemmas.List.Elements.{Contains-append_left, Contains-push, Contains-push_cases}
 use Rattle.cfgleast.specs.Certificate.{choice_of, rule_choice}
-use Rattle.cfgchoices.specs.Inner.Kinds.{IsTarget, production_numbers}
+use Rattle.cfgchoices.specs.Kinds.{IsChain, production_numbers}
 use Rattle.cfgindex.specs.declared.idxnewtype.PIdx.{PIdx}
 use Rattle.cfgchoices.specs.Inner.Candidates.{Adds, HandlesChains, HasChoice, IsDone, IsHandled, IsKnown, Known, AreCandidates, NotAfter, Nominating, Candidates, GivesNoMore, Takes, Waits, left_to_choose, owner, sequence, waiting}
-use Rattle.cfgchoices.proofs.ChoosingFirsts.{few}
+use Rattle.cfgchoices.proofs.Choosing.{few}
 use Rattle.lemmas.proofs.Contained.{contains_none}
 use Rattle.cfgchoices.proofs.Pending.{choice_shown}
 use Rattle.std.specs.Prelude.{is_some}
@@ -109,7 +109,7 @@ module _ (k : Known) (p : ℕ) (f f' : Candidates) (t : Takes k p f f') where
       omega (arith, t.together, same)
 
   module _ (g : HandlesChains k f) where
-    chains : (q r : ℕ) → IsTarget k.tables q r → HasChoice f'.choices r → IsHandled k.tables f' q ⊎ GivesNoMore k.tables f'.choices p q
+    chains : (q r : ℕ) → IsChain k.tables q r → HasChoice f'.choices r → IsHandled k.tables f' q ⊎ GivesNoMore k.tables f'.choices p q
     chains q r target has = taken_handled q (g.chains q r target (subst (λ l. HasChoice l r) same has))
 
     foremost : (r q : ℕ) → get_or f'.foremost r None ≡ Some q → (owner k.tables q ≡ r) × (Waits f' q ⊎ HasChoice f'.choices r ⊎ (q ≡ p))
@@ -164,7 +164,7 @@ module _ (k : Known) (p : ℕ) (f f' : Candidates) (t : Takes k p f f') where
         number_fits = few k.tables _ (f'.number + 1) (choosing k n is f' p t.candidates t.next unset within)
 
         -- and the chain productions that lead to the rule are candidates
-        module _ (f'' : Candidates) (adds : Adds k.tables (λ q. IsTarget k.tables q (owner k.tables p)) (length k.tables.grammar.productions) now f'') where
+        module _ (f'' : Candidates) (adds : Adds k.tables (λ q. IsChain k.tables q (owner k.tables p)) (length k.tables.grammar.productions) now f'') where
           pub chosen_handles : (q : ℕ) → IsHandled k.tables f q → IsHandled k.tables f'' q
           chosen_handles q h = adds.handles q (inl (handled_chosen k n is f' p t.candidates t.next unset within q (taken_handled q h)))
 

@@ -6,7 +6,7 @@ use Rattle.std.proofs.lemmas.List.Elements.{All-head, All-tail}
 use Rattle.derivation.specs.Grammar.{Sym, Rule, Token, Grammar}
 use Rattle.cfgtables.specs.Openings.{nth_production}
 use Rattle.cfgleast.specs.Certificate.{rule_choice}
-use Rattle.cfgchoices.specs.Inner.FirstChoices.{IsNotAbove}
+use Rattle.cfgchoices.specs.FirstChoices.{IsBelowIfChosen}
 pub use Rattle.cfgchoices.specs.Inner.Candidates.{tree_size, tree_size_of}
 
 -- sums of equal terms are equal
@@ -46,8 +46,8 @@ module _ (g : Grammar) (choices : List (Option (ℕ × ℕ))) (each : ℕ) where
       go None = some
       go (Some choice) = omega (arith, some)
 
-  module _ (below : (r p m : ℕ) → rule_choice choices r ≡ Some (p, m) → All (IsNotAbove choices m) (nth_production g p).symbols) where
-    lower : (n m : ℕ) (s : Sym) → m < n + 1 → IsNotAbove choices m s → IsNotAbove choices n s
+  module _ (below : (r p m : ℕ) → rule_choice choices r ≡ Some (p, m) → All (IsBelowIfChosen choices m) (nth_production g p).symbols) where
+    lower : (n m : ℕ) (s : Sym) → m < n + 1 → IsBelowIfChosen choices m s → IsBelowIfChosen choices n s
     lower n m (Token t) lt h = tt
     lower n m (Rule r) lt h = go (rule_choice choices r) h
       where
@@ -56,7 +56,7 @@ module _ (g : Grammar) (choices : List (Option (ℕ × ℕ))) (each : ℕ) where
         go (Some choice) h = omega (arith, h, lt)
 
     -- it is enough to go as deep as the numbers of the choices
-    tree_size_same : (n m : ℕ) (s : Sym) → IsNotAbove choices n s → IsNotAbove choices m s → size n s ≡ size m s
+    tree_size_same : (n m : ℕ) (s : Sym) → IsBelowIfChosen choices n s → IsBelowIfChosen choices m s → size n s ≡ size m s
     unfolding tree_size
     tree_size_same zero zero (Token t) h k = refl
     tree_size_same zero zero (Rule r) h k = refl
@@ -75,10 +75,10 @@ module _ (g : Grammar) (choices : List (Option (ℕ × ℕ))) (each : ℕ) where
         go (Some choice) h = absurd (omega (arith, h))
     tree_size_same (suc n) (suc m) (Rule r) h k = go (λ s. tree_size_same n m s) (rule_choice choices r) refl h k
       where
-        go : ((s : Sym) → IsNotAbove choices n s → IsNotAbove choices m s → size n s ≡ size m s) → (o : Option (ℕ × ℕ)) → rule_choice choices r ≡ o
+        go : ((s : Sym) → IsBelowIfChosen choices n s → IsBelowIfChosen choices m s → size n s ≡ size m s) → (o : Option (ℕ × ℕ)) → rule_choice choices r ≡ o
             → IfSome o (λ choice. choice.1 < suc n) → IfSome o (λ choice. choice.1 < suc m) → size_of (size n) o ≡ size_of (size m) o
         go same None e h k = refl
-        go same (Some choice) e h k = ap (λ c. c + each) (sum_by-same (IsNotAbove choices choice.1) (size n) (size m)
+        go same (Some choice) e h k = ap (λ c. c + each) (sum_by-same (IsBelowIfChosen choices choice.1) (size n) (size m)
             (λ s lt. same s (lower n choice.1 s (omega (arith, h)) lt) (lower m choice.1 s (omega (arith, k)) lt))
             (nth_production g choice.0).symbols (below r choice.0 choice.1 e))
 
@@ -87,6 +87,6 @@ module _ (g : Grammar) (choices : List (Option (ℕ × ℕ))) (each : ℕ) where
         → size n (Rule r) ≡ sum_by (size n) (nth_production g p).symbols + each
     unfolding tree_size
     tree_size_opened zero r p m e lt = absurd (omega (arith, lt))
-    tree_size_opened (suc n) r p m e lt = ap (size_of (size n)) e ∙ ap (λ c. c + each) (sum_by-same (IsNotAbove choices m) (size n) (size (suc n))
+    tree_size_opened (suc n) r p m e lt = ap (size_of (size n)) e ∙ ap (λ c. c + each) (sum_by-same (IsBelowIfChosen choices m) (size n) (size (suc n))
         (λ s h. tree_size_same n (suc n) s (lower n m s (omega (arith, lt)) h) (lower (suc n) m s (omega (arith, lt)) h))
         (nth_production g p).symbols (below r p m e))

@@ -1,6 +1,4 @@
 -- Definitions for the contracts of the crate's private functions and loops. No public contract depends on them.
-pub mod Kinds
-pub mod Choices
-pub mod FirstChoices
+pub mod SequenceKinds
 pub mod Lists
 pub mod Candidates

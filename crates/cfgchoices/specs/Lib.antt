@@ -2,4 +2,7 @@
 pub mod Splits
 pub mod Chains
 pub mod FirstSentence
+pub mod Kinds
+pub mod Choices
+pub mod FirstChoices
 pub mod Inner

@@ -6,7 +6,8 @@ ghost use Rattle.derivation.specs.Grammar.{Rule};
 ghost use Rattle.derivation.specs.CostLists.{IsListed, rule_cost};
 ghost use Rattle.derivation.specs.Sums.{symbol_cost};
 ghost use Rattle.cfgleast.specs.Generator.{IsGeneratorOf, settled_tables};
-ghost use Rattle.cfgchoices.specs.Inner.Kinds.{AreKinds, HasRulesAsTargets, IsKind, IsSequenceKind};
+ghost use Rattle.cfgchoices.specs.Inner.SequenceKinds.{IsSequenceKind};
+ghost use Rattle.cfgchoices.specs.Kinds.{AreKinds, HasRulesAsTargets, IsKind};
 
 use cfgindex::{PIdx, RIdx, Storage, Symbol, to_storage};
 use cfgleast::partial::Partial;
@@ -23,7 +24,7 @@ pub enum Kind<S> {
     /// A base production: it costs just what its rule does, and each rule in it costs less.
     Base,
     /// A chain production: it costs just what its rule does, and so does this rule in it.
-    ChainsTo(RIdx<S>),
+    Chain(RIdx<S>),
 }
 
 /// The symbol's rule, if it has this cost.
@@ -80,7 +81,7 @@ fn sequence_kind<S: Storage>(
         Ok(sum) => {
             if sum == cost {
                 match first_of_cost(least, symbols, cost) {
-                    Some(rule) => Kind::ChainsTo(rule),
+                    Some(rule) => Kind::Chain(rule),
                     None => Kind::Base,
                 }
             } else {

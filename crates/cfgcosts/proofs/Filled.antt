@@ -13,8 +13,8 @@ use Rattle.std.proofs.lemmas.List.Sorted.{Contains-permutation, IsPermutation-sy
 use Rattle.derivation.specs.Grammar.{Grammar, Sym, Rule, IsGrammar}
 use Rattle.cfgtables.specs.Openings.{nth_production}
 use Rattle.cfgleast.specs.Generator.{CostTables, IsGenerator, cost_answer}
-use Rattle.cfgcosts.specs.Inner.Minimal.{AreRequested, AreMinimal, HasSentence, IsMadeBy, IsReadyFor, Puts, row_words, sentences_in, words_of}
-use Rattle.cfgchoices.specs.Inner.Kinds.{IsMinimal, IsBaseBelow}
+use Rattle.cfgcosts.specs.Inner.Minimal.{AreRequested, AreMinimal, HasSentence, IsMadeBy, IsReadyFor, Puts, sequence_words, sentences_in, words_of}
+use Rattle.cfgchoices.specs.Kinds.{IsMinimal, ReachesBase}
 use Rattle.cfgchoices.specs.FirstSentence.{lexicographic}
 use Rattle.cfgcosts.specs.Sentences.{numbers_of}
 use Rattle.cfgchoices.specs.Splits.{Split, done, itself, part}
@@ -55,29 +55,29 @@ module _ {S : Type 0} (number : S → ℕ) where
       go (Some words) = refl
 
 -- what productions make of sentences
-pub made_by : (g : Grammar) (sentences : ℕ → List (List ℕ)) (positions : List ℕ) (w : List ℕ) → Contains (flat_map (λ p. row_words sentences (nth_production g p).symbols) positions) w ↔ IsMadeBy g sentences positions w
+pub made_by : (g : Grammar) (sentences : ℕ → List (List ℕ)) (positions : List ℕ) (w : List ℕ) → Contains (flat_map (λ p. sequence_words sentences (nth_production g p).symbols) positions) w ↔ IsMadeBy g sentences positions w
 made_by g sentences positions w =
-    let sequences = λ (p : ℕ). row_words sentences (nth_production g p).symbols in (
+    let sequences = λ (p : ℕ). sequence_words sentences (nth_production g p).symbols in (
       (λ h. let (p, among, k) = flat_source sequences positions w h in record { index = p; among = among; parts = (sequence_cut sentences (nth_production g p).symbols w).0 k }),
       (λ m. flat_contains sequences positions m.index w m.among ((sequence_cut sentences (nth_production g m.index).symbols w).1 m.parts)),
     )
 
 module _ (x : CostTables) where
-  -- what base productions below a rule make of minimal sentences are those of the rule
+  -- what base productions that a rule reaches make of minimal sentences are those of the rule
   module _ (n : ℕ) (is : IsGenerator x n) (grammar : IsGrammar x.grammar) (r c : ℕ) (answer : cost_answer x r ≡ Some c) where
-    made_minimal : (sentences : ℕ → List (List ℕ)) (base : List ℕ) → 0 < c → IsReadyFor x sentences r → ((p : ℕ) → Contains base p ↔ IsBaseBelow x r p)
+    made_minimal : (sentences : ℕ → List (List ℕ)) (base : List ℕ) → 0 < c → IsReadyFor x sentences r → ((p : ℕ) → Contains base p ↔ ReachesBase x r p)
         → (w : List ℕ) → IsMadeBy x.grammar sentences base w ↔ IsMinimal x r w
     made_minimal sentences base some ready all w = (
-      (λ m. let below = (all m.index).0 m.among in
-          base_makes x n is grammar r m.index w below (cut_within (HasSentence sentences) (IsMinimal x) (λ q u among has. ((ready m.index q below among).all u).0 has) m.parts)),
+      (λ m. let reaches = (all m.index).0 m.among in
+          base_makes x n is grammar r m.index w reaches (cut_within (HasSentence sentences) (IsMinimal x) (λ q u among has. ((ready m.index q reaches among).all u).0 has) m.parts)),
       (λ m. let made = minimal_made x n is grammar r c w answer some m in record {
         index = made.index;
-        among = (all made.index).1 made.below;
-        parts = cut_within (IsMinimal x) (HasSentence sentences) (λ q u among least. ((ready made.index q made.below among).all u).1 least) made.parts;
+        among = (all made.index).1 made.reaches;
+        parts = cut_within (IsMinimal x) (HasSentence sentences) (λ q u among least. ((ready made.index q made.reaches among).all u).1 least) made.parts;
       }),
     )
 
-    pub all_minimal : {A E : Type 0} (sentences : ℕ → List (List ℕ)) (base : List ℕ) → 0 < c → IsReadyFor x sentences r → ((p : ℕ) → Contains base p ↔ IsBaseBelow x r p)
+    pub all_minimal : {A E : Type 0} (sentences : ℕ → List (List ℕ)) (base : List ℕ) → 0 < c → IsReadyFor x sentences r → ((p : ℕ) → Contains base p ↔ ReachesBase x r p)
         → (f : A → List (List ℕ)) (result : Result A E) → IfOk result (λ words. (w : List ℕ) → Contains (f words) w ↔ IsMadeBy x.grammar sentences base w)
         → IfOk result (λ words. IsStrictlySortedBy lexicographic (f words)) → IfOk result (λ words. AreMinimal x r (f words))
     all_minimal sentences base some ready all f (Ok words) made order = record {
@@ -117,9 +117,9 @@ module _ (x : CostTables) where
 
     -- the rules that it is made of were filled before
     pub popped_ready : (n : ℕ) → IsGenerator x n → IsGrammar x.grammar → IsReadyFor x sentences top.1
-    popped_ready n is grammar p s below holds =
-        let (d, among) = all.below top.0 top.1 p s popped_requested below holds in
-        let less = base_less x n is grammar top.1 p top.0 s d below popped_answer holds (all.costs d s among) in
+    popped_ready n is grammar p s reaches holds =
+        let (d, among) = all.bases top.0 top.1 p s popped_requested reaches holds in
+        let less = base_less x n is grammar top.1 p top.0 s d reaches popped_answer holds (all.costs d s among) in
         elim (f.filled d s among) [
           | inr full ↦ full
           | inl waits ↦ elim (contains_cases top (d, s) rest (Contains-permutation left (top ∷ rest) (d, s) out waits)) [

@@ -6,12 +6,12 @@ use Rattle.std.proofs.lemmas.List.Sums.{fold-append}
 use Rattle.std.proofs.lemmas.List.Elements.{Contains-append_left, Contains-append_right, Contains-append_cases}
 use Rattle.derivation.specs.Grammar.{Sym, Rule, Token}
 use Rattle.cfgchoices.specs.Splits.{Split, done, itself, part}
-use Rattle.cfgcosts.specs.Inner.Minimal.{HasSentence, joined, row_words, words_of_symbol}
+use Rattle.cfgcosts.specs.Inner.Minimal.{HasSentence, joined, sequence_words, words_of_symbol}
 use Rattle.lemmas.proofs.Contained.{contains_first, contains_later, contains_none, contains_one, contains_cases, contains_mapped, contains_source}
 
 pub joined_none : (prefixes : List (List ℕ)) → joined prefixes [] ≡ []
 joined_none [] = refl
-joined_none (prefix ∷ prefixes) = flat_map-cons (λ (prefix : List ℕ). map (λ back. prefix ++ back) []) prefix prefixes ∙ joined_none prefixes
+joined_none (prefix ∷ prefixes) = flat_map-cons (λ (prefix : List ℕ). map (λ suffix. prefix ++ suffix) []) prefix prefixes ∙ joined_none prefixes
 
 module _ {A B : Type 0} (f : A → List B) where
   pub flat_source : (xs : List A) (y : B) → Contains (flat_map f xs) y → (x : A) × Contains xs x × Contains (f x) y
@@ -41,23 +41,23 @@ module _ (sentences : ℕ → List (List ℕ)) where
   step words s = joined words (words_of_symbol sentences s)
 
   -- a list with one more symbol
-  pub sequence_more : (sequence : List Sym) (s : Sym) → row_words sentences (sequence ++ s ∷ []) ≡ joined (row_words sentences sequence) (words_of_symbol sentences s)
+  pub sequence_more : (sequence : List Sym) (s : Sym) → sequence_words sentences (sequence ++ s ∷ []) ≡ joined (sequence_words sentences sequence) (words_of_symbol sentences s)
   sequence_more sequence s = fold-append step ([] ∷ []) sequence (s ∷ [])
 
-  begun : (s : Sym) (sequence : List Sym) (back rest : List ℕ) → Contains (words_of_symbol sentences s) back → Split (HasSentence sentences) sequence rest → Split (HasSentence sentences) (s ∷ sequence) (back ++ rest)
-  begun (Token t) sequence back rest h cut = subst (λ l. Split (HasSentence sentences) (Token t ∷ sequence) (l ++ rest)) (contains_one (t ∷ []) back h) (itself cut)
-  begun (Rule r) sequence back rest h cut = part h cut refl
+  begun : (s : Sym) (sequence : List Sym) (suffix rest : List ℕ) → Contains (words_of_symbol sentences s) suffix → Split (HasSentence sentences) sequence rest → Split (HasSentence sentences) (s ∷ sequence) (suffix ++ rest)
+  begun (Token t) sequence suffix rest h cut = subst (λ l. Split (HasSentence sentences) (Token t ∷ sequence) (l ++ rest)) (contains_one (t ∷ []) suffix h) (itself cut)
+  begun (Rule r) sequence suffix rest h cut = part h cut refl
 
   cut_first : (prefixes : List (List ℕ)) (s : Sym) (sequence : List Sym) (w : List ℕ) → Goes prefixes (s ∷ sequence) w → Goes (step prefixes s) sequence w
   cut_first prefixes s sequence w g = go s g.rest g.cut g.whole
     where
-      next : (s : Sym) (back rest : List ℕ) → Contains (words_of_symbol sentences s) back → Split (HasSentence sentences) sequence rest → w ≡ g.prefix ++ (back ++ rest) → Goes (step prefixes s) sequence w
-      next s back rest h cut e = record {
-        prefix = g.prefix ++ back;
+      next : (s : Sym) (suffix rest : List ℕ) → Contains (words_of_symbol sentences s) suffix → Split (HasSentence sentences) sequence rest → w ≡ g.prefix ++ (suffix ++ rest) → Goes (step prefixes s) sequence w
+      next s suffix rest h cut e = record {
+        prefix = g.prefix ++ suffix;
         rest = rest;
-        among = flat_contains (λ prefix. map (λ back. prefix ++ back) (words_of_symbol sentences s)) prefixes g.prefix (g.prefix ++ back) g.among (contains_mapped (λ back. g.prefix ++ back) (words_of_symbol sentences s) back h);
+        among = flat_contains (λ prefix. map (λ suffix. prefix ++ suffix) (words_of_symbol sentences s)) prefixes g.prefix (g.prefix ++ suffix) g.among (contains_mapped (λ suffix. g.prefix ++ suffix) (words_of_symbol sentences s) suffix h);
         cut = cut;
-        whole = e ∙ sym (append_assoc g.prefix back rest);
+        whole = e ∙ sym (append_assoc g.prefix suffix rest);
       }
 
       go : (s : Sym) (rest : List ℕ) → Split (HasSentence sentences) (s ∷ sequence) rest → w ≡ g.prefix ++ rest → Goes (step prefixes s) sequence w
@@ -68,14 +68,14 @@ module _ (sentences : ℕ → List (List ℕ)) where
   from_sequence [] prefixes w h = record { prefix = w; rest = []; among = h; cut = done; whole = sym (append-nil w) }
   from_sequence (s ∷ sequence) prefixes w h =
       let later = from_sequence sequence (step prefixes s) w h in
-      let (prefix, among, here) = flat_source (λ prefix. map (λ back. prefix ++ back) (words_of_symbol sentences s)) prefixes later.prefix later.among in
-      let (back, of, is) = contains_source (λ back. prefix ++ back) (words_of_symbol sentences s) later.prefix here in
+      let (prefix, among, here) = flat_source (λ prefix. map (λ suffix. prefix ++ suffix) (words_of_symbol sentences s)) prefixes later.prefix later.among in
+      let (suffix, of, is) = contains_source (λ suffix. prefix ++ suffix) (words_of_symbol sentences s) later.prefix here in
       record {
         prefix = prefix;
-        rest = back ++ later.rest;
+        rest = suffix ++ later.rest;
         among = among;
-        cut = begun s sequence back later.rest of later.cut;
-        whole = later.whole ∙ ap (λ l. l ++ later.rest) (sym is) ∙ append_assoc prefix back later.rest;
+        cut = begun s sequence suffix later.rest of later.cut;
+        whole = later.whole ∙ ap (λ l. l ++ later.rest) (sym is) ∙ append_assoc prefix suffix later.rest;
       }
 
   to_sequence : (sequence : List Sym) (prefixes : List (List ℕ)) (w : List ℕ) → Goes prefixes sequence w → Contains (fold step prefixes sequence) w
@@ -85,7 +85,7 @@ module _ (sentences : ℕ → List (List ℕ)) where
       ends _ done e = subst (Contains prefixes) (sym (e ∙ append-nil g.prefix)) g.among
   to_sequence (s ∷ sequence) prefixes w g = to_sequence sequence (step prefixes s) w (cut_first prefixes s sequence w g)
 
-  pub sequence_cut : (sequence : List Sym) (w : List ℕ) → Contains (row_words sentences sequence) w ↔ Split (HasSentence sentences) sequence w
+  pub sequence_cut : (sequence : List Sym) (w : List ℕ) → Contains (sequence_words sentences sequence) w ↔ Split (HasSentence sentences) sequence w
   sequence_cut sequence w = (
     (λ h. let g = from_sequence sequence ([] ∷ []) w h in
         subst (Split (HasSentence sentences) sequence) (ap (λ l. l ++ g.rest) (contains_one [] g.prefix g.among) ∙ sym g.whole) g.cut),

@@ -9,6 +9,6 @@ pub mod Opened
 pub mod Joins
 pub mod Sorted
 pub mod OnlyTargets
-pub mod BaseBelow
+pub mod ReachedBases
 pub mod RequestedRules
 pub mod Filled

@@ -15,9 +15,9 @@ use Rattle.derivation.specs.CostLists.{rule_cost}
 use Rattle.cfgleast.specs.Certificate.{rule_choice}
 use Rattle.cfgleast.specs.Generator.{CostTables, cost_answer, choice_answer, token_cost}
 use Rattle.cfgleast.proofs.Generated.{answered_some}
-use Rattle.cfgchoices.specs.Inner.Choices.{ChoicesGive}
-use Rattle.cfgchoices.specs.Inner.Choices as gives
-use Rattle.cfgchoices.specs.Inner.FirstChoices.{IsNotAbove, IsChoiceOf, AreChosen}
+use Rattle.cfgchoices.specs.Choices.{ChoicesGive}
+use Rattle.cfgchoices.specs.Choices as gives
+use Rattle.cfgchoices.specs.FirstChoices.{IsBelowIfChosen, IsChoiceOf, AreChosen}
 use Rattle.cfgchoices.proofs.FirstChosen.{answered_choice, known, minimal_given, opens_by}
 use Rattle.cfgchoices.proofs.Optimal.{answered_within, least_of}
 
@@ -58,21 +58,21 @@ module _ (x : CostTables) (walks : AreChosen x) (grammar : IsGrammar x.grammar) 
       absurd (omega (arith, none, c.some))
 
   -- symbols on top of what is pending, whose choices have numbers below m
-  planned : (m : ℕ) {a : List Sym} {v : List ℕ} → ChoicesGive x a v → All (IsNotAbove x.choices m) a → (rest : List Sym) (w : List ℕ) (n : ℕ) → Planned x rest w n
+  planned : (m : ℕ) {a : List Sym} {v : List ℕ} → ChoicesGive x a v → All (IsBelowIfChosen x.choices m) a → (rest : List Sym) (w : List ℕ) (n : ℕ) → Planned x rest w n
       → Plan x (reverse_aux a rest) (reverse_aux v w) (n + length v * m)
   planned m gives.empty all rest w n plan = record { openings = n; plan = plan; few = omega arith }
   planned m (gives.token {t = t} {a = a} {w = v} h) all rest w n plan =
-      let p = planned m h (All-tail (IsNotAbove x.choices m) (Token t) a all) (Token t ∷ rest) (t ∷ w) n (token plan) in
+      let p = planned m h (All-tail (IsBelowIfChosen x.choices m) (Token t) a all) (Token t ∷ rest) (t ∷ w) n (token plan) in
       let longer : length v * m ≤ length (t ∷ v) * m = mul-le-mul_right m (omega arith) in
       record { openings = p.openings; plan = p.plan; few = omega (arith, p.few, longer) }
   planned m (gives.free {r = q} {a = a} nothing h) all rest w n plan =
-      planned m h (All-tail (IsNotAbove x.choices m) (Rule q) a all) (Rule q ∷ rest) w n (free nothing plan)
+      planned m h (All-tail (IsBelowIfChosen x.choices m) (Rule q) a all) (Rule q ∷ rest) w n (free nothing plan)
   planned m (gives.chosen {r = q} {p = p} {m = k} {a = a} {u = u} {w = v} {v = both} paid choice h i e) all rest w n plan =
       let c = chosen_by q p k paid choice in
-      let less : k < m = subst (λ o. IfSome o (λ (choice : ℕ × ℕ). choice.1 < m)) c.opens.choice (All-head (IsNotAbove x.choices m) (Rule q) a all) in
+      let less : k < m = subst (λ o. IfSome o (λ (choice : ℕ × ℕ). choice.1 < m)) c.opens.choice (All-head (IsBelowIfChosen x.choices m) (Rule q) a all) in
       let some = some_tokens q p k u c (gives.chosen paid choice h gives.empty (sym (append-nil u))) in
       let first = planned k h c.opens.below rest w n plan in
-      let last = planned m i (All-tail (IsNotAbove x.choices m) (Rule q) a all) (Rule q ∷ rest) (reverse_aux u w) (first.openings + 1) (chosen c first.plan refl) in
+      let last = planned m i (All-tail (IsBelowIfChosen x.choices m) (Rule q) a all) (Rule q ∷ rest) (reverse_aux u w) (first.openings + 1) (chosen c first.plan refl) in
       let low = mul-le (length u) (k + 1) (length u) m (omega arith) (omega (arith, less)) in
       let one = mul-add (length u) k 1 in
       let same = mul-one (length u) in
@@ -83,7 +83,7 @@ module _ (x : CostTables) (walks : AreChosen x) (grammar : IsGrammar x.grammar) 
         few = omega (arith, first.few, last.few, some, low, one, same, cut);
       }
 
-  top_below : (r : ℕ) (w : List ℕ) → ChoicesGive x (Rule r ∷ []) w → IsNotAbove x.choices x.grammar.rules (Rule r)
+  top_below : (r : ℕ) (w : List ℕ) → ChoicesGive x (Rule r ∷ []) w → IsBelowIfChosen x.choices x.grammar.rules (Rule r)
   top_below r w (gives.free nothing h) =
       subst (λ o. IfSome o (λ (choice : ℕ × ℕ). choice.1 < x.grammar.rules)) (sym (walks.free r (answered_some (rule_cost x.least r) 0 nothing).0)) tt
   top_below r w (gives.chosen {p = p} {m = m} paid choice h k e) = let o = (chosen_by r p m paid choice).opens in
@@ -92,7 +92,7 @@ module _ (x : CostTables) (walks : AreChosen x) (grammar : IsGrammar x.grammar) 
   -- a walk from a rule
   pub plan_of : (r : ℕ) (w : List ℕ) → ChoicesGive x (Rule r ∷ []) w → Plan x (Rule r ∷ []) (reverse w) (length w * x.grammar.rules)
   plan_of r w given =
-      let p = planned x.grammar.rules given (All-cons (IsNotAbove x.choices x.grammar.rules) (Rule r) [] (top_below r w given) (All-nil (IsNotAbove x.choices x.grammar.rules))) [] [] 0 ended in
+      let p = planned x.grammar.rules given (All-cons (IsBelowIfChosen x.choices x.grammar.rules) (Rule r) [] (top_below r w given) (All-nil (IsBelowIfChosen x.choices x.grammar.rules))) [] [] 0 ended in
       record { openings = p.openings; plan = p.plan; few = omega (arith, p.few) }
 
   -- what comes next

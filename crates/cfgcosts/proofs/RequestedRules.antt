@@ -9,15 +9,15 @@ use Rattle.search.specs.Reachable.{FoundBy, Reachable, Reaches, SearchState, led
 use Rattle.search.proofs.Reaching.{Begun, Searching, popped_reachable, reaches_as, search_begins, search_ends, search_goes_on}
 use Rattle.cfgleast.specs.Generator.{CostTables, IsGenerator, cost_answer}
 use Rattle.cfgcosts.specs.Inner.Minimal.{AreRequested}
-use Rattle.cfgchoices.specs.Inner.Kinds.{IsBaseBelow}
+use Rattle.cfgchoices.specs.Kinds.{ReachesBase}
 use Rattle.lemmas.proofs.Contained.{contains_cases, contains_first, contains_later, contains_none}
 use Rattle.cfgchoices.proofs.Optimal.{base_costs}
 
 module _ (x : CostTables) (r : ℕ) where
-  -- a base production below rule q contains rule s
+  -- a base production that rule q reaches contains rule s
   pub record Asks (q s : ℕ) : Type 0 where
     pub index : ℕ
-    pub below : IsBaseBelow x q index
+    pub reaches : ReachesBase x q index
     pub holds : Contains (nth_production x.grammar index).symbols (Rule s)
 
   abbrev pub HasAnswer : ℕ → Type 0
@@ -29,7 +29,7 @@ module _ (x : CostTables) (r : ℕ) where
   -- each rule that is found has a cost to return
   pub answered : (n : ℕ) → IsGenerator x n → IsGrammar x.grammar → HasAnswer r → {q : ℕ} → Reachable (λ q. q ≡ r) Asks q → HasAnswer q
   answered n is grammar answer (seed {a = q} e) = subst HasAnswer (sym e) answer
-  answered n is grammar answer (led {b = q} k h) = base_costs x n is grammar h.index q h.below.base h.holds
+  answered n is grammar answer (led {b = q} k h) = base_costs x n is grammar h.index q h.reaches.base h.holds
 
   pub record Asking (listed : List (ℕ × ℕ)) (s : SearchState) : Type 0 where
     pub search : Searching x.grammar.rules (λ q. q ≡ r) Asks (IsListed listed) s
@@ -44,7 +44,7 @@ module _ (x : CostTables) (r : ℕ) where
   }
 
   pub asking_goes_on : (b c : ℕ) (old mid new : SearchState) (base : List ℕ) (listed listed' : List (ℕ × ℕ)) → Asking listed old → mid.reachable ≡ old.reachable
-      → old.waiting ≡ mid.waiting ++ b ∷ [] → ((p : ℕ) → Contains base p ↔ IsBaseBelow x b p) → Reaches (FoundBy (HeldIn x.grammar) base) mid new
+      → old.waiting ≡ mid.waiting ++ b ∷ [] → ((p : ℕ) → Contains base p ↔ ReachesBase x b p) → Reaches (FoundBy (HeldIn x.grammar) base) mid new
       → cost_answer x b ≡ Some c → IsPermutation ((c, b) ∷ listed) listed' → Asking listed' new
   asking_goes_on b c old mid new base listed listed' a same popped all w answer moved =
       let to = λ (e : ℕ × ℕ) (h : Contains ((c, b) ∷ listed) e). Contains-permutation ((c, b) ∷ listed) listed' e moved h in
@@ -53,8 +53,8 @@ module _ (x : CostTables) (r : ℕ) where
         search = search_goes_on x.grammar.rules (λ q. q ≡ r) Asks (IsListed listed) b old mid a.search popped new (IsListed listed')
             (λ q d. (d.0, to (d.0, q) (contains_later (c, b) (d.0, q) listed d.1))) (c, to (c, b) (contains_first (c, b) listed)) same
             (reaches_as (FoundBy (HeldIn x.grammar) base) (Asks b) mid new
-            (λ q h. record { index = h.thing; below = (all h.thing).0 h.among; holds = h.finds })
-            (λ q h. record { thing = h.index; among = (all h.index).1 h.below; finds = h.holds }) w);
+            (λ q h. record { index = h.thing; reaches = (all h.thing).0 h.among; holds = h.finds })
+            (λ q h. record { thing = h.index; among = (all h.index).1 h.reaches; finds = h.holds }) w);
         costs = λ d q h. elim (contains_cases (c, b) (d, q) listed (from (d, q) h)) [
           | inl e ↦ subst (λ (y : ℕ × ℕ). cost_answer x y.1 ≡ Some y.0) e answer
           | inr old ↦ a.costs d q old
@@ -72,5 +72,5 @@ module _ (x : CostTables) (r : ℕ) where
       record {
         costs = a.costs;
         first = ends r (seed refl);
-        below = λ c q p t h below holds. ends t (led (a.reachable c q h) (record { index = p; below = below; holds = holds }));
+        bases = λ c q p t h reaches holds. ends t (led (a.reachable c q h) (record { index = p; reaches = reaches; holds = holds }));
       }

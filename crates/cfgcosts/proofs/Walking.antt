@@ -20,8 +20,8 @@ use Rattle.derivation.proofs.Sums.{plus_zero}
 use Rattle.cfgleast.specs.Certificate.{choice_of, rule_choice}
 use Rattle.cfgleast.specs.Generator.{CostTables, cost_answer, token_cost}
 use Rattle.cfgleast.proofs.Generated.{answered_some}
-use Rattle.cfgchoices.specs.Inner.Choices.{ChoicesGive}
-use Rattle.cfgchoices.specs.Inner.FirstChoices.{AreFirst, AreChosen}
+use Rattle.cfgchoices.specs.Choices.{ChoicesGive}
+use Rattle.cfgchoices.specs.FirstChoices.{AreFirst, AreChosen}
 use Rattle.cfgchoices.specs.Splits.{Split, done, itself, part}
 use Rattle.cfgchoices.proofs.Pending.{last_shown, map_reverse}
 use Rattle.cfgchoices.proofs.FirstChosen.{first_given, gives_some, known}

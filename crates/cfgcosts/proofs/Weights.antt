@@ -11,7 +11,7 @@ use Rattle.cfgtables.specs.NumberedSymbols.{sym_of}
 use Rattle.derivation.specs.Grammar.{Sym, Rule, Token}
 use Rattle.cfgtables.specs.Openings.{nth_production}
 use Rattle.cfgleast.specs.Certificate.{rule_choice}
-use Rattle.cfgchoices.specs.Inner.FirstChoices.{IsNotAbove, AreChosen}
+use Rattle.cfgchoices.specs.FirstChoices.{IsBelowIfChosen, AreChosen}
 use Rattle.cfgleast.specs.Generator.{CostTables}
 
 -- if each production has fewer symbols than `many`
@@ -43,7 +43,7 @@ module _ (x : CostTables) (many : ℕ) (some : 0 < many) where
       let whole = sum_by_push (weight x many) (map (sym_of number) rest) (sym_of number symbol) in
       omega (arith, some_weight (sym_of number symbol), shown, whole)
 
-  low_weight : (m : ℕ) (s : Sym) → IsNotAbove x.choices m s → weight x many s ≤ many ^ m
+  low_weight : (m : ℕ) (s : Sym) → IsBelowIfChosen x.choices m s → weight x many s ≤ many ^ m
   low_weight m (Token t) low = one-le-pow m many some
   low_weight m (Rule q) low = go (rule_choice x.choices q) low
     where
@@ -56,7 +56,7 @@ module _ (x : CostTables) (many : ℕ) (some : 0 < many) where
       → weigh x many (rest ++ (nth_production x.grammar p).symbols) < weigh x many (rest ++ Rule q ∷ [])
   lighter_opened walks rest q p m choice short =
       let symbols = (nth_production x.grammar p).symbols in
-      let sequence = sum_by-le (weight x many) (many ^ m) symbols (All-weaker (IsNotAbove x.choices m) (λ s. weight x many s ≤ many ^ m) (low_weight m) symbols (walks.below q p m choice)) in
+      let sequence = sum_by-le (weight x many) (many ^ m) symbols (All-weaker (IsBelowIfChosen x.choices m) (λ s. weight x many s ≤ many ^ m) (low_weight m) symbols (walks.below q p m choice)) in
       let product = mul-le (length symbols + 1) (many ^ m) many (many ^ m) (omega (arith, short)) (omega arith) in
       let one = one-le-pow m many some in
       let more = add-mul (length symbols) 1 (many ^ m) in

@@ -65,10 +65,10 @@ pub struct SentenceGenerator<'a, S: Storage, T: Tables<S>> {
 impl<'a, S: Storage, T: Tables<S>> Model for SentenceGenerator<'a, S, T> {
     ghost use Rattle.std.specs.Prelude.{slice_index};
     ghost use Rattle.cfggreatest.specs.GreatestCosts.{AreGreatestCosts};
-    ghost use Rattle.cfgchoices.specs.Inner.FirstChoices.{AreFirst, AreChosen};
+    ghost use Rattle.cfgchoices.specs.FirstChoices.{AreFirst, AreChosen};
     ghost use Rattle.cfgleast.specs.Generator.{CostTables, IsGeneratorOf, settled_tables, tables_of};
     ghost use Rattle.cfgcosts.specs.Inner.Targets.{AreTargets, rules_of};
-    ghost use Rattle.cfgchoices.specs.Inner.Kinds.{AreKinds};
+    ghost use Rattle.cfgchoices.specs.Kinds.{AreKinds};
 
     ghost Value = { CostTables };
 

@@ -9,7 +9,7 @@ ghost use Rattle.derivation.specs.Sentence.{Sentence, cost_of};
 ghost use Rattle.derivation.specs.Costs.{Least, Minimal};
 ghost use Rattle.derivation.specs.CostLists.{rule_cost};
 ghost use Rattle.cfgleast.specs.Certificate.{IsCovered, IsReached};
-ghost use Rattle.cfgchoices.specs.Chains.{IsMadeAlongChain};
+ghost use Rattle.cfgchoices.specs.Chains.{IsMadeByBase};
 ghost use Rattle.cfgchoices.specs.FirstSentence.{FirstMinimal, lexicographic};
 ghost use Rattle.cfgchoices.specs.Splits.{Split};
 ghost use Rattle.cfgcosts.specs.declared.errors.SentenceError.{SentenceError};
@@ -35,7 +35,7 @@ pub fn sentences_cost_their_length()
 pub fn minimal_sentences_follow_chains()
     ensures { (g : Grammar) (costs : List ℕ) → IsGrammar g → length costs ≡ g.tokens → All (λ c. 0 < c) costs
         → (r : ℕ) (w : List ℕ) → Minimal (HasProduction g) (slice_index costs) r w
-        ↔ IsMadeAlongChain (HasProduction g) (slice_index costs) r w }
+        ↔ IsMadeByBase (HasProduction g) (slice_index costs) r w }
 {}
 
 /// No minimal sentence of a rule is a prefix of another.

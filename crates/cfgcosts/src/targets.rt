@@ -3,8 +3,8 @@
 
 ghost use Rattle.std.specs.Prelude.{◌≡◌, ◌<◌, List, IfOk, IfSome, length};
 ghost use Rattle.derivation.specs.Grammar.{Grammar};
-ghost use Rattle.cfgcosts.specs.Inner.Targets.{AreTargets, IsOnlyTarget, rules_of};
-ghost use Rattle.cfgchoices.specs.Inner.Kinds.{HasRulesAsTargets};
+ghost use Rattle.cfgcosts.specs.Inner.Targets.{AreTargets, LeadsOnlyTo, rules_of};
+ghost use Rattle.cfgchoices.specs.Kinds.{HasRulesAsTargets};
 ghost use Rattle.cfgchoices.specs.declared.kinds.Kind.{Kind};
 
 use cfgchoices::kinds::Kind;
@@ -21,14 +21,14 @@ fn only_target<S: Storage, T: Tables<S>>(
     requires rule { S.number rule.0 < (T.grammar tables.now).rules }
     requires kinds { length kinds.now ≡ length (T.grammar tables.now).productions }
     ensures { IfSome result (λ target.
-        IsOnlyTarget S.number (T.grammar tables.now) kinds.now (S.number rule.0) (S.number target.0)) }
+        LeadsOnlyTo S.number (T.grammar tables.now) kinds.now (S.number rule.0) (S.number target.0)) }
 {
     let mut only = None;
     for p in tables.rule_to_prods(rule) {
         let kind = kinds[usize::from(*p)];
         match kind {
             Kind::Suboptimal => {}
-            Kind::ChainsTo(target) if only.is_none() => only = Some(target),
+            Kind::Chain(target) if only.is_none() => only = Some(target),
             _ => return None,
         }
     }

@@ -9,9 +9,8 @@ use Rattle.lemmas.proofs.Elements.{get_or-replicate_default, set-slice_get}
 use Rattle.derivation.specs.Grammar.{Sym, Rule, Token, Grammar, Production, HasProduction}
 use Rattle.derivation.specs.Tree.{Yields, empty, token, opened}
 use Rattle.derivation.proofs.Trees.{trees_join}
-use Rattle.cfganalysis.specs.Inner.Growth.{CoversEach, AddsProduction}
-use Rattle.cfganalysis.specs.Inner.GrowingFirsts.{HoldsRule}
-use Rattle.cfganalysis.specs.Inner.Waiting.{NoneWaits, Waits}
+use Rattle.cfganalysis.specs.Growth.{HoldsRule, CoversEach, AddsProduction}
+use Rattle.cfganalysis.specs.Waiting.{NoneWaits, Waits}
 use Rattle.cfganalysis.specs.Table.{bits_on}
 use Rattle.search.proofs.Bits.{bit_put, bits_on-set}
 use Rattle.cfggreatest.specs.Inner.AtLeast.{HasWord}

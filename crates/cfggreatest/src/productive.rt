@@ -1,10 +1,9 @@
 //! Which rules are productive.
 
 ghost use Rattle.std.specs.Prelude.{◌≡◌, IfOk, MatchBool, length, map};
-ghost use Rattle.cfganalysis.specs.Inner.Growth.{CanNote, CanAddProduction, AddsProduction, shown};
-ghost use Rattle.cfganalysis.specs.Inner.GrowingFirsts.{HoldsRule};
-ghost use Rattle.cfganalysis.specs.Inner.Waiting.{Waits};
-ghost use Rattle.cfganalysis.specs.Inner.Work.{Notes};
+ghost use Rattle.cfganalysis.specs.Growth.{HoldsRule, CanNote, CanAddProduction, AddsProduction, shown};
+ghost use Rattle.cfganalysis.specs.Waiting.{Waits};
+ghost use Rattle.cfganalysis.specs.Work.{Notes};
 ghost use Rattle.cfgtables.specs.NumberedSymbols.{sym_of};
 ghost use Rattle.cfganalysis.specs.Table.{bits_on};
 ghost use Rattle.cfggreatest.specs.Inner.Productive.{AreProductive, HaveProductive};

@@ -2,7 +2,6 @@
 use Rattle.std.proofs.Common.{◌≡◌, ℕ, ◌<◌, ◌≤◌, min, List, [], ◌∷◌, Option, Some, None, Result, Ok, Err, arith, refl, sym, ap, subst, ◌∙◌}
 use Rattle.std.proofs.lemmas.Option.{none-some, same_Some}
 use Rattle.std.proofs.lemmas.List.{get_or_default}
-use Rattle.std.proofs.lemmas.List.Elements.{All-weaker}
 use Rattle.derivation.specs.Grammar.{Rule, Grammar, HasProduction}
 use Rattle.derivation.specs.Sentence.{Sentence, cost_of}
 use Rattle.derivation.specs.Costs.{Least}
@@ -12,10 +11,9 @@ use Rattle.derivation.proofs.Trees.{trees_from_derivation, derivation_from_trees
 use Rattle.cfgtables.specs.Openings.{nth_production}
 use Rattle.cfgtables.proofs.Located.{at_position}
 use Rattle.derivation.specs.Sums.{sum_of, symbol_cost}
-use Rattle.cfgleast.specs.Inner.Numbers.{IsNumberedBelow}
 use Rattle.derivation.specs.CostLists.{rule_cost}
-use Rattle.cfgleast.specs.Certificate.{IsChosenBelow, rule_choice}
-use Rattle.cfgleast.specs.Inner.Settled.{AreSettled}
+use Rattle.cfgleast.specs.Certificate.{rule_choice}
+use Rattle.cfgleast.specs.Settled.{AreSettled}
 use Rattle.derivation.specs.declared.errors.CostError.{CostError}
 use Rattle.derivation.specs.declared.errors.CostError.TheVariants.{NoSentence, CostTooLarge}
 use Rattle.cfgleast.specs.Generator.{IsTooLarge, ReturnsLeast, IsLeastProduction}
@@ -23,7 +21,6 @@ use Rattle.derivation.proofs.Sums.{plus_zero}
 use Rattle.derivation.proofs.Made.{made_sequence, cut_over}
 use Rattle.cfgleast.proofs.TreeSums.{Choice, reached}
 use Rattle.cfgleast.proofs.Bounds.{IsAtMostCut, CoversCut, lower_bound_cut}
-use Rattle.cfgleast.proofs.Certified.{number_of, number, numbered_below}
 
 module _ (g : Grammar) (cost : ℕ → ℕ) (least : List (Option ℕ)) (choices : List (Option (ℕ × ℕ))) (n : ℕ) (state : AreSettled g cost least choices n) where
   covers : CoversCut (HasProduction g) cost (rule_cost least) 65536
@@ -40,24 +37,25 @@ module _ (g : Grammar) (cost : ℕ → ℕ) (least : List (Option ℕ)) (choices
       (lower_bound_cut (HasProduction g) cost (rule_cost least) 65536 covers (trees_from_derivation (HasProduction g) (Rule r ∷ []) w s))
 
   chosen : (r c : ℕ) → rule_cost least r ≡ Some c
-      → Choice (HasProduction g) cost (symbol_cost cost (rule_cost least)) (λ c n. min c 65536 ≡ min n 65536) (number choices) r c
+      → Choice (HasProduction g) cost (symbol_cost cost (rule_cost least)) (λ c n. min c 65536 ≡ min n 65536) choices r c
   chosen r c e =
       let (p, m, by, lt) = state.chosen.chosen r c e in
       record {
+        choice = (p, m);
+        choice_is = by.choice;
         symbols = (nth_production g p).symbols;
         sum = by.sum.total;
         has = at_position g p _ by.index (sym by.owner) refl;
         sum_is = by.sum.is;
         holds = λ k h. omega (arith, by.sum.cut, h);
-        below = All-weaker (IsChosenBelow choices m) (IsNumberedBelow (number choices) (number choices r))
-            (λ s k. subst (λ x. IsNumberedBelow (number choices) x s) (sym (ap number_of by.choice)) (numbered_below choices m s k)) _ by.below;
+        below = by.below;
       }
 
   -- a sentence of that cost, cut down
   some_sentence : (r c : ℕ) → rule_cost least r ≡ Some c → (w : List ℕ) × Sentence (HasProduction g) r w × (min c 65536 ≡ min (cost_of cost w) 65536)
   some_sentence r c e =
       let made = reached (HasProduction g) cost (symbol_cost cost (rule_cost least)) (λ c n. min c 65536 ≡ min n 65536) (cut_over cost (rule_cost least) 65536)
-      (number choices) chosen r c e in
+      choices chosen r c e in
       (made.word, derivation_from_trees (HasProduction g) made.tree, made.holds)
 
   no_less : (r c : ℕ) → rule_cost least r ≡ Some c → (w : List ℕ) → Sentence (HasProduction g) r w → c ≤ cost_of cost w
@@ -113,7 +111,7 @@ module _ (g : Grammar) (cost : ℕ → ℕ) (least : List (Option ℕ)) (choices
       let same : p' ≡ p = ap (λ (x : ℕ × ℕ). x.0) pairs in
       let made = made_sequence (HasProduction g) cost (symbol_cost cost (rule_cost least)) (λ c n. min c 65536 ≡ min n 65536) (cut_over cost (rule_cost least) 65536)
       (λ s. Unit {0}) (λ q d _ f. reached (HasProduction g) cost (symbol_cost cost (rule_cost least)) (λ c n. min c 65536 ≡ min n 65536)
-      (cut_over cost (rule_cost least) 65536) (number choices) chosen q d f) (nth_production g p').symbols by.sum.total (λ i d h. tt) by.sum.is in
+      (cut_over cost (rule_cost least) 65536) choices chosen q d f) (nth_production g p').symbols by.sum.total (λ i d h. tt) by.sum.is in
       let has = at_position g p' (record { rule = r; symbols = (nth_production g p').symbols }) by.index (sym by.owner) refl in
       let derived = derivation_from_trees (HasProduction g) made.tree in
       subst (IsLeastProduction g cost r) same (record {

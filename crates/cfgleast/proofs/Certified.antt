@@ -6,7 +6,7 @@ use Rattle.std.proofs.lemmas.Bool.{cases_lt}
 use Rattle.std.proofs.lemmas.List.{take_all, get_or_past}
 use Rattle.lemmas.proofs.Elements.{within_from_get_or}
 use Rattle.std.proofs.lemmas.List.Elements.{All-more, All-contains, All-take, All-weaker}
-use Rattle.derivation.specs.Grammar.{Sym, Rule, Token, Grammar, IsGrammar, HasProduction}
+use Rattle.derivation.specs.Grammar.{Sym, Rule, Grammar, IsGrammar, HasProduction}
 use Rattle.derivation.specs.Sentence.{Sentence, cost_of, HasSentenceOf}
 use Rattle.derivation.specs.Tree.{Yields, opened}
 use Rattle.derivation.proofs.Trees.{trees_from_derivation, derivation_from_trees}
@@ -14,9 +14,8 @@ use Rattle.derivation.specs.Costs.{Least}
 use Rattle.cfgtables.specs.Openings.{nth_production}
 use Rattle.cfgtables.proofs.Located.{same_production, at_position}
 use Rattle.derivation.specs.Sums.{symbol_cost}
-use Rattle.cfgleast.specs.Inner.Numbers.{IsNumberedBelow}
 use Rattle.derivation.specs.CostLists.{IsListed, rule_cost}
-use Rattle.cfgleast.specs.Certificate.{IsCovered, IsCoveredInRange, IsChosenBelow, IsReached, IsShown, claim_of, rule_choice}
+use Rattle.cfgleast.specs.Certificate.{IsCovered, IsCoveredInRange, IsReached, IsShown, claim_of, rule_choice}
 use Rattle.derivation.proofs.Listed.{symbols_listed}
 use Rattle.derivation.proofs.Sums.{plus_zero}
 use Rattle.cfgleast.proofs.TreeSums.{Choice, reached}
@@ -86,40 +85,24 @@ module _ (g : Grammar) (costs : List ℕ) (least : List (Option ℕ)) where
         let tree = trees_from_derivation (HasProduction g) (Rule r ∷ []) w s in
         read (rule_cost least r) (cost_of (slice_index costs) w) (bounded r w tree) (in_range r w tree)
 
--- the number of a choice
-abbrev pub number_of : Option (ℕ × ℕ) → ℕ
-number_of None = 0
-number_of (Some choice) = choice.1
-
-module _ (choices : List (Option (ℕ × ℕ))) where
-  abbrev pub number : ℕ → ℕ
-  number r = number_of (rule_choice choices r)
-
-  pub numbered_below : (n : ℕ) (s : Sym) → IsChosenBelow choices n s → IsNumberedBelow number n s
-  numbered_below n (Token t) h = tt
-  numbered_below n (Rule r) h = go (rule_choice choices r) h
-    where
-      go : (o : Option (ℕ × ℕ)) → IsSomeAnd o (λ choice. choice.1 < n) → number_of o < n
-      go None h = absurd h
-      go (Some choice) h = h
-
 module _ (g : Grammar) (costs : List ℕ) (least : List (Option ℕ)) (choices : List (Option (ℕ × ℕ)))
     (each : EachIndex least (IsReached g costs least choices)) where
   choice_from : (r c : ℕ) (o : Option (ℕ × ℕ)) → rule_choice choices r ≡ o → IsSomeAnd o (λ choice. IsShown g costs least choices (claim_of r c choice))
-      → Choice (HasProduction g) (slice_index costs) (symbol_cost (slice_index costs) (rule_cost least)) (λ c n. c ≡ n) (number choices) r c
+      → Choice (HasProduction g) (slice_index costs) (symbol_cost (slice_index costs) (rule_cost least)) (λ c n. c ≡ n) choices r c
   choice_from r c None e h = absurd h
   choice_from r c (Some choice) e h = record {
+    choice = choice;
+    choice_is = e;
     symbols = (nth_production g choice.0).symbols;
     sum = c;
     has = at_position g choice.0 _ h.index (sym h.owner) refl;
     sum_is = h.sum;
     holds = λ n k. k;
-    below = All-weaker (IsChosenBelow choices choice.1) (IsNumberedBelow (number choices) (number choices r))
-        (λ s k. subst (λ n. IsNumberedBelow (number choices) n s) (sym (ap number_of e)) (numbered_below choices choice.1 s k)) _ h.below;
+    below = h.below;
   }
 
   chosen : (r c : ℕ) → rule_cost least r ≡ Some c
-      → Choice (HasProduction g) (slice_index costs) (symbol_cost (slice_index costs) (rule_cost least)) (λ c n. c ≡ n) (number choices) r c
+      → Choice (HasProduction g) (slice_index costs) (symbol_cost (slice_index costs) (rule_cost least)) (λ c n. c ≡ n) choices r c
   chosen r c e = choice_from r c (rule_choice choices r) refl
       (subst (λ o. IfSome o (λ c. IsSomeAnd (rule_choice choices r) (λ choice. IsShown g costs least choices (claim_of r c choice)))) e (each r (within_from_get_or least r None (λ k. none-some _ (sym k ∙ e)))))
 
@@ -127,7 +110,7 @@ module _ (g : Grammar) (costs : List ℕ) (least : List (Option ℕ)) (choices :
   pub certified_sentence : (r c : ℕ) → rule_cost least r ≡ Some c → HasSentenceOf (HasProduction g) (slice_index costs) r c
   certified_sentence r c e =
       let made = reached (HasProduction g) (slice_index costs) (symbol_cost (slice_index costs) (rule_cost least)) (λ c n. c ≡ n)
-      (exactly_over (slice_index costs) (rule_cost least)) (number choices) chosen r c e in
+      (exactly_over (slice_index costs) (rule_cost least)) choices chosen r c e in
       (made.word, derivation_from_trees (HasProduction g) made.tree, sym made.holds)
 
 -- a rule's cost and choice, as lists show them, and what shows them

@@ -11,12 +11,12 @@ use Rattle.cfgtables.specs.Openings.{nth_production}
 use Rattle.derivation.specs.Sums.{symbol_cost}
 use Rattle.derivation.specs.CostLists.{rule_cost}
 use Rattle.cfgleast.specs.Certificate.{IsChosenBelow, rule_choice}
-use Rattle.cfgleast.specs.Inner.Open.{IsCutSum}
-use Rattle.cfgleast.specs.Inner.Settled.{unsettled, IsSettledBy, AreChosen}
+use Rattle.cfgleast.specs.CutSums.{IsCutSum}
+use Rattle.cfgleast.specs.Settled.{unsettled, IsSettledBy, AreSettledSoFar}
 use Rattle.cfgleast.proofs.Gains.{Gains, HasCost, all_have_costs, rule_gained, sequence_kept}
 
 module _ (g : Grammar) (cost : ℕ → ℕ) where
-  none_chosen : AreChosen g cost (replicate g.rules None) (replicate g.rules None) 0
+  none_chosen : AreSettledSoFar g cost (replicate g.rules None) (replicate g.rules None) 0
   none_chosen = record {
     costs = length-replicate g.rules None;
     listed = length-replicate g.rules None;
@@ -26,11 +26,11 @@ module _ (g : Grammar) (cost : ℕ → ℕ) where
   }
 
   pub none_chosen_yet : (least : List (Option ℕ)) (choices : List (Option (ℕ × ℕ))) (n : ℕ) → least ≡ replicate g.rules None → choices ≡ replicate g.rules None → n ≡ 0
-      → AreChosen g cost least choices n
-  none_chosen_yet least choices n e f h = subst (λ l. AreChosen g cost l choices n) (sym e)
-      (subst (λ l. AreChosen g cost (replicate g.rules None) l n) (sym f) (subst (AreChosen g cost (replicate g.rules None) (replicate g.rules None)) (sym h) none_chosen))
+      → AreSettledSoFar g cost least choices n
+  none_chosen_yet least choices n e f h = subst (λ l. AreSettledSoFar g cost l choices n) (sym e)
+      (subst (λ l. AreSettledSoFar g cost (replicate g.rules None) l n) (sym f) (subst (AreSettledSoFar g cost (replicate g.rules None) (replicate g.rules None)) (sym h) none_chosen))
 
-  module _ (least : List (Option ℕ)) (choices : List (Option (ℕ × ℕ))) (n : ℕ) (state : AreChosen g cost least choices n) (r : ℕ)
+  module _ (least : List (Option ℕ)) (choices : List (Option (ℕ × ℕ))) (n : ℕ) (state : AreSettledSoFar g cost least choices n) (r : ℕ)
       (within : r < g.rules) (open' : rule_cost least r ≡ None) where
     in_costs : r < length least
     in_costs = subst (λ m. r < m) (sym state.costs) within
@@ -116,7 +116,7 @@ module _ (g : Grammar) (cost : ℕ → ℕ) where
       ]
 
       -- one more rule
-      pub chosen_more : AreChosen g cost (slice_set least r (Some c)) (slice_set choices r (Some (p, n))) (n + 1)
+      pub chosen_more : AreSettledSoFar g cost (slice_set least r (Some c)) (slice_set choices r (Some (p, n))) (n + 1)
       chosen_more = record {
         costs = length-set least r (Some c) ∙ state.costs;
         listed = length-set choices r (Some (p, n)) ∙ state.listed;

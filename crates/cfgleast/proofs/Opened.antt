@@ -11,7 +11,8 @@ use Rattle.derivation.specs.Grammar.{Sym, Rule, Grammar}
 use Rattle.cfgtables.specs.Openings.{nth_production}
 use Rattle.cfgleast.specs.declared.partial.Partial.{Partial}
 use Rattle.derivation.specs.Sums.{sum_of, symbol_cost}
-use Rattle.cfgleast.specs.Inner.Open.{IsCutSum, WaitsFor, MovesOn, enters, waits, Phase, queued, held, past, moved, AreOpen, IsAmong, waiting_for}
+use Rattle.cfgleast.specs.CutSums.{IsCutSum}
+use Rattle.cfgleast.specs.Inner.Open.{WaitsFor, MovesOn, enters, waits, Phase, queued, held, past, moved, AreOpen, IsAmong, waiting_for}
 use Rattle.cfgleast.proofs.Gains.{Gains, part_at, rule_kept, rule_gained, sequence_kept, sequence_gained}
 
 -- the elements of a list that is a permutation of another with one more element

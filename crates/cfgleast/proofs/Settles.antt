@@ -9,7 +9,8 @@ use Rattle.cfgtables.specs.Openings.{nth_production}
 use Rattle.cfgleast.specs.declared.partial.Partial.{Partial}
 use Rattle.derivation.specs.CostLists.{rule_cost}
 use Rattle.cfgleast.specs.Inner.Open.{WaitsFor, AreAllOpen, AreWaking, waiting_for}
-use Rattle.cfgleast.specs.Inner.Settled.{AreChosen, HasPopped}
+use Rattle.cfgleast.specs.Inner.Open.{HasPopped}
+use Rattle.cfgleast.specs.Settled.{AreSettledSoFar}
 use Rattle.cfgleast.proofs.Opened.{top_in, popped_past, settled_open, woken_wait}
 use Rattle.cfgleast.proofs.Chosen.{gains_one, chosen_more}
 
@@ -28,12 +29,12 @@ module _ (g : Grammar) (cost : ℕ → ℕ) (least : List (Option ℕ)) (top : �
         (ap (rule_cost least) owner ∙ e) popped.state.1,
   )
 
-  module _ (choices : List (Option (ℕ × ℕ))) (n r : ℕ) (chosen : AreChosen g cost least choices n) (within : r < g.rules) (unset : rule_cost least r ≡ None)
+  module _ (choices : List (Option (ℕ × ℕ))) (n r : ℕ) (chosen : AreSettledSoFar g cost least choices n) (within : r < g.rules) (unset : rule_cost least r ≡ None)
       (owner : (nth_production g top.1).rule ≡ r) where
     pub settles_chosen : (least' : List (Option ℕ)) (choices' : List (Option (ℕ × ℕ))) (n' : ℕ) → least' ≡ slice_set least r (Some top.0)
-        → choices' ≡ slice_set choices r (Some (top.1, n)) → n' ≡ n + 1 → AreChosen g cost least' choices' n'
-    settles_chosen least' choices' n' e f h = subst (λ l. AreChosen g cost l choices' n') (sym e) (subst (λ l. AreChosen g cost (slice_set least r (Some top.0)) l n') (sym f)
-        (subst (AreChosen g cost (slice_set least r (Some top.0)) (slice_set choices r (Some (top.1, n)))) (sym h)
+        → choices' ≡ slice_set choices r (Some (top.1, n)) → n' ≡ n + 1 → AreSettledSoFar g cost least' choices' n'
+    settles_chosen least' choices' n' e f h = subst (λ l. AreSettledSoFar g cost l choices' n') (sym e) (subst (λ l. AreSettledSoFar g cost (slice_set least r (Some top.0)) l n') (sym f)
+        (subst (AreSettledSoFar g cost (slice_set least r (Some top.0)) (slice_set choices r (Some (top.1, n)))) (sym h)
         (chosen_more g cost least choices n chosen r within unset top.0 top.1 popped_position owner (popped.state.1.queued_sum top.0 top.1 top_queued))))
 
     settles_waking : AreWaking cost (rule_cost (slice_set least r (Some top.0))) g queue (slice_set waiting r []) (waiting_for waiting r) 0

@@ -1,12 +1,13 @@
 -- What is true of the sums of productions is true of what sentences cost: a table that is closed under the productions is a bound, by
 -- induction on parse trees; a well-founded choice of productions reaches the table, by induction on the numbers of the choice.
 use Rattle.std.proofs.Common.{◌≡◌, ℕ, zero, suc, ◌+◌, ◌<◌, List, [], ◌∷◌, Option, Some, All, arith, sym, ap, subst, ◌∙◌, append-nil}
+use Rattle.std.specs.Prelude.{IsSomeAnd}
 use Rattle.std.proofs.lemmas.List.Sums.{sum_by-append}
 use Rattle.derivation.specs.Grammar.{Sym, Rule, Token}
 use Rattle.derivation.specs.Sentence.{cost_of}
 use Rattle.derivation.specs.Tree.{Yields, empty, token, opened}
 use Rattle.derivation.specs.Sums.{plus, sum_of}
-use Rattle.cfgleast.specs.Inner.Numbers.{IsNumberedBelow}
+use Rattle.cfgleast.specs.Certificate.{IsChosenBelow, rule_choice}
 use Rattle.derivation.proofs.Made.{GoesOver, Made, cost_of-token, made_sequence}
 
 module _ (P : ℕ → List Sym → Type 0) (cost : ℕ → ℕ) (costs : Sym → Option ℕ) where
@@ -28,31 +29,38 @@ module _ (P : ℕ → List Sym → Type 0) (cost : ℕ → ℕ) (costs : Sym →
       (up.both (costs (Rule r)) (sum_of costs a) (cost_of cost u) (cost_of cost w)
       (up.production r symbols (cost_of cost u) has (sums_by_trees R up h)) (sums_by_trees R up k))
 
-  -- a production that a rule's cost depends on: the cost is related to all that the sum is related to, and its rules have lesser numbers
-  pub record Choice (R : ℕ → ℕ → Type 0) (number : ℕ → ℕ) (r c : ℕ) : Type 0 where
+  -- the choice of a rule, which its cost depends on: the cost is related to all that the production's sum is related to
+  pub record Choice (R : ℕ → ℕ → Type 0) (choices : List (Option (ℕ × ℕ))) (r c : ℕ) : Type 0 where
+    pub choice : ℕ × ℕ
+    pub choice_is : rule_choice choices r ≡ Some choice
     pub symbols : List Sym
     pub sum : ℕ
     pub has : P r symbols
     pub sum_is : sum_of costs symbols ≡ Some sum
     pub holds : (n : ℕ) → R sum n → R c n
-    pub below : All (IsNumberedBelow number (number r)) symbols
+    pub below : All (IsChosenBelow choices choice.1) symbols
 
-  module _ (R : ℕ → ℕ → Type 0) (over : GoesOver cost costs R) where
-    made_rule : (number : ℕ → ℕ) (r c : ℕ) (choice : Choice R number r c) → Made P cost costs R choice.symbols choice.sum → Made P cost costs R (Rule r ∷ []) c
-    made_rule number r c choice h = record {
+  module _ (R : ℕ → ℕ → Type 0) (over : GoesOver cost costs R) (choices : List (Option (ℕ × ℕ))) where
+    made_rule : (r c : ℕ) (choice : Choice R choices r c) → Made P cost costs R choice.symbols choice.sum → Made P cost costs R (Rule r ∷ []) c
+    made_rule r c choice h = record {
       word = h.word;
       tree = opened choice.has h.tree empty (sym (append-nil h.word));
       holds = choice.holds (cost_of cost h.word) h.holds;
     }
 
-    module _ (number : ℕ → ℕ) (chosen : (r c : ℕ) → costs (Rule r) ≡ Some c → Choice R number r c) where
-      made_below : (n r c : ℕ) → number r < n → costs (Rule r) ≡ Some c → Made P cost costs R (Rule r ∷ []) c
-      made_below zero r c below e = absurd (omega (arith, below))
-      made_below (suc n) r c below e =
-          let choice = chosen r c e in
-          made_rule number r c choice (made_sequence P cost costs R over (IsNumberedBelow number (number r))
-          (λ q d h. made_below n q d (omega (arith, below, h))) choice.symbols choice.sum choice.below choice.sum_is)
+    number_below : (n r c : ℕ) (choice : Choice R choices r c) → IsChosenBelow choices n (Rule r) → choice.choice.1 < n
+    number_below n r c choice below = subst (λ (o : Option (ℕ × ℕ)). IsSomeAnd o (λ choice. choice.1 < n)) choice.choice_is below
+
+    module _ (chosen : (r c : ℕ) → costs (Rule r) ≡ Some c → Choice R choices r c) where
+      made_by : (n r c : ℕ) (choice : Choice R choices r c) → choice.choice.1 < n → Made P cost costs R (Rule r ∷ []) c
+      made_by zero r c choice lt = absurd (omega (arith, lt))
+      made_by (suc n) r c choice lt = made_rule r c choice (made_sequence P cost costs R over (IsChosenBelow choices choice.choice.1)
+          (λ q d below e.
+          let next = chosen q d e in
+          let less = number_below choice.choice.1 q d next below in
+          made_by n q d next (omega (arith, lt, less)))
+          choice.symbols choice.sum choice.below choice.sum_is)
 
       -- each cost that depends on a choice is that of a sentence
       pub reached : (r c : ℕ) → costs (Rule r) ≡ Some c → Made P cost costs R (Rule r ∷ []) c
-      reached r c e = made_below (suc (number r)) r c (omega arith) e
+      reached r c e = let choice = chosen r c e in made_by (suc choice.choice.1) r c choice (omega arith)

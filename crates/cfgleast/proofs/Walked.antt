@@ -10,7 +10,8 @@ use Rattle.cfgtables.specs.Openings.{nth_production}
 use Rattle.cfgleast.specs.declared.partial.Partial.{Partial}
 use Rattle.derivation.specs.Sums.{sum_of, symbol_cost}
 use Rattle.derivation.specs.CostLists.{IsListed}
-use Rattle.cfgleast.specs.Inner.Open.{IsCutSum, StopsAt, IsPartial, WaitsFor, MovesOn, enters, waits, Phase, queued, held, past, moved, AreOpen, AreAllOpen, AreWaking, IsAmong, count_open, waiting_for}
+use Rattle.cfgleast.specs.CutSums.{IsCutSum, StopsAt}
+use Rattle.cfgleast.specs.Inner.Open.{IsPartial, WaitsFor, MovesOn, enters, waits, Phase, queued, held, past, moved, AreOpen, AreAllOpen, AreWaking, IsAmong, count_open, waiting_for}
 use Rattle.derivation.proofs.Sums.{sum_of-append, plus_both, plus_zero}
 use Rattle.lemmas.proofs.Contained.{contains_cases}
 use Rattle.cfgleast.proofs.Opened.{moved_on, woken_above}

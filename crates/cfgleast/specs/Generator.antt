@@ -11,7 +11,7 @@ use Rattle.derivation.specs.declared.errors.CostError.TheVariants.{NoSentence, C
 use Rattle.derivation.specs.CostLists.{rule_cost}
 use Rattle.cfgleast.specs.declared.settle.Settled.{Settled}
 use Rattle.cfgleast.specs.Certificate.{choice_of, rule_choice}
-use Rattle.cfgleast.specs.Inner.Settled.{AreSettled}
+use Rattle.cfgleast.specs.Settled.{AreSettled}
 
 -- a grammar, what its tokens cost, and for each rule its least cost, cut down to 65536, and its chosen production
 pub record CostTables : Type 0 where
@@ -42,10 +42,11 @@ abbrev pub where_some : Option ℕ → Option (ℕ × ℕ) → Option (ℕ × �
 where_some None choice = None
 where_some (Some c) choice = choice
 
--- the least cost that is returned for a rule, and the choice
+-- the least cost that is returned for a rule, if it is at most 65535
 abbrev pub cost_answer : CostTables → ℕ → Option ℕ
 cost_answer x r = up_to_limit (rule_cost x.least r)
 
+-- the choice of the rule, if there is such a cost
 abbrev pub choice_answer : CostTables → ℕ → Option (ℕ × ℕ)
 choice_answer x r = where_some (cost_answer x r) (rule_choice x.choices r)
 

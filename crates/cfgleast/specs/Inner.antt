@@ -1,5 +1,3 @@
 -- Definitions for clauses inside the crate, of its loops and helpers. No public contract depends on them.
-pub mod Numbers
 pub mod Queue
 pub mod Open
-pub mod Settled

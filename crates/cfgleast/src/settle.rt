@@ -7,7 +7,8 @@ ghost use Rattle.derivation.specs.Grammar.{IsGrammar};
 ghost use Rattle.derivation.specs.CostLists.{rule_cost};
 ghost use Rattle.cfgleast.specs.Certificate.{choice_of};
 ghost use Rattle.cfgleast.specs.Inner.Open.{AreAllOpen, AreInput, count_open};
-ghost use Rattle.cfgleast.specs.Inner.Settled.{AreChosen, AreSettled, HasPopped};
+ghost use Rattle.cfgleast.specs.Inner.Open.{HasPopped};
+ghost use Rattle.cfgleast.specs.Settled.{AreSettledSoFar, AreSettled};
 
 use crate::partial::Waitlists;
 use crate::queue::Queue;
@@ -97,13 +98,13 @@ fn settle_next<S: Storage, T: Tables<S>>(
     requires input { AreInput (T.grammar grm.now) S.MAX costs.now settled.old.least.items }
     requires small { (T.grammar grm.now).rules < 2 ^ 32 }
     requires lists { length waiting.old ≡ (T.grammar grm.now).rules }
-    requires chosen { AreChosen (T.grammar grm.now) (slice_index costs.now) settled.old.least.items
+    requires chosen { AreSettledSoFar (T.grammar grm.now) (slice_index costs.now) settled.old.least.items
         (map (choice_of S.number) settled.old.choices.items) settled.old.number }
     requires popped { HasPopped (T.grammar grm.now) (slice_index costs.now) settled.old.least.items
         top queue.old waiting.old }
     ensures input { OnOk result (AreInput (T.grammar grm.now) S.MAX costs.now settled.new.least.items) }
     ensures lists { OnOk result (length waiting.new ≡ (T.grammar grm.now).rules) }
-    ensures chosen { OnOk result (AreChosen (T.grammar grm.now) (slice_index costs.now) settled.new.least.items
+    ensures chosen { OnOk result (AreSettledSoFar (T.grammar grm.now) (slice_index costs.now) settled.new.least.items
         (map (choice_of S.number) settled.new.choices.items) settled.new.number) }
     ensures state { OnOk result (AreAllOpen (slice_index costs.now) (rule_cost settled.new.least.items)
         (T.grammar grm.now)

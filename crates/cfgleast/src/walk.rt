@@ -5,7 +5,8 @@ ghost use Rattle.std.specs.Prelude.{Some, length, map, replicate, slice_index, t
 ghost use Rattle.derivation.specs.Grammar.{Rule};
 ghost use Rattle.cfgtables.specs.NumberedSymbols.{sym_of};
 ghost use Rattle.derivation.specs.CostLists.{IsListed, rule_cost};
-ghost use Rattle.cfgleast.specs.Inner.Open.{AreInput, AreWaking, AreAllOpen, IsCutSum, IsPartial, MovesOn, StopsAt};
+ghost use Rattle.cfgleast.specs.CutSums.{IsCutSum, StopsAt};
+ghost use Rattle.cfgleast.specs.Inner.Open.{AreInput, AreWaking, AreAllOpen, IsPartial, MovesOn};
 ghost use Rattle.cfgleast.specs.Inner.Open.{count_open};
 ghost use Rattle.derivation.specs.Sums.{symbol_cost};
 

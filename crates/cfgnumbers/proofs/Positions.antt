@@ -13,7 +13,7 @@ use Rattle.cfgtree.specs.WellFormed.{IsWellFormed}
 use Rattle.cfgkinds.specs.declared.kind.YaccKind.{YaccKind}
 use Rattle.cfgkinds.specs.declared.kind.YaccKind.TheVariants.{Original, Grmtools, Eco}
 use Rattle.cfgnumbers.specs.Numbered.{implicit_of}
-use Rattle.cfgnumbers.specs.Inner.Resolved.{AreTokens}
+use Rattle.cfgnumbers.specs.Resolved.{AreTokens}
 
 pub listed_within : (s : Syntax) → IsWellFormed s → All (λ rule. All (λ i. i < length s.productions) rule.1.productions) s.rules
 listed_within s well r d within =

@@ -9,7 +9,7 @@ use Rattle.cfgast.specs.Syntax.{Syntax, Production}
 use Rattle.cfgtree.specs.Check.{first_error, start_error, symbol_error, precedence_error, printed_error, production_error, locate_error, rule_error, check_of}
 use Rattle.cfgerrors.specs.Errors.{GrammarError, InvalidStartRule, error_at}
 use Rattle.cfgtree.specs.Sound.{IsSound}
-use Rattle.cfgnumbers.specs.Inner.Resolved.{IsResolved}
+use Rattle.cfgnumbers.specs.Resolved.{IsResolved}
 use Rattle.cfgnumbers.proofs.Positions.{listed_somewhere}
 
 none_first : (a b : Option GrammarError) → option_or a b ≡ None → a ≡ None

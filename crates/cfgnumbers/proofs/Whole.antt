@@ -25,7 +25,7 @@ use Rattle.cfgtree.specs.Sound.{IsSound}
 use Rattle.cfgbase.specs.declared.span.Span.{Span}
 use Rattle.cfgtree.specs.WellFormed.{IsWellFormed}
 use Rattle.cfgnumbers.specs.Numbered.{NumberedProduction, rules_before, rule_index, token_index, file_symbol, file_symbols, spaced, start_symbols, added_production, added_productions, Numbered, core, production_core, numbered_by, file_production, file_token, end_token}
-use Rattle.cfgnumbers.specs.Inner.Resolved.{AreTokens, Resolves}
+use Rattle.cfgnumbers.specs.Resolved.{AreTokens, Resolves}
 use Rattle.cfgnumbers.proofs.Added.{All-added, rules_len, tokens_len}
 use Rattle.cfgnumbers.proofs.Valid.{resolved}
 use Rattle.cfgnumbers.specs.WellNumbered.{IsWhole}

@@ -4,4 +4,5 @@ pub mod Numbered
 pub mod Accessors
 pub mod TablesView
 pub mod WellNumbered
+pub mod Resolved
 pub mod Inner

@@ -15,11 +15,11 @@ pub use cfggreatest::laws::{
 };
 pub use derivation::{
     a_greatest_cost_bounds, closed_sets_hold_before_derivations, closed_sets_hold_first,
-    closed_sets_hold_follow, concatenations_derive_in_parts, derivations_hold_inside,
-    derivations_show_cycles, extreme_sentences_cost_the_extremes, first_is_closed,
-    follow_is_closed, growing_cycles_unbound, lists_begin_symbol_by_symbol,
-    minimal_sentences_cost_the_least, paths_are_derivations, trees_are_derivations,
-    unit_paths_are_derivations, usable_productions_hold_sentences,
+    closed_sets_hold_follow, concatenations_derive_in_parts, costliest_sentences_cost_the_greatest,
+    derivations_hold_inside, derivations_show_cycles, first_is_closed, follow_is_closed,
+    growing_cycles_are_unbounded, lists_begin_symbol_by_symbol, minimal_sentences_cost_the_least,
+    paths_are_derivations, trees_are_derivations, unit_paths_are_derivations,
+    usable_productions_hold_sentences,
 };
 
 // What texts say.

@@ -10,7 +10,8 @@ use Rattle.cfgast.specs.declared.syntax.Syntax.{Syntax as CodeSyntax}
 use Rattle.cfgast.proofs.Law.{adds_syntax_of}
 use Rattle.cfgkinds.specs.declared.kind.YaccKind.{YaccKind}
 use Rattle.cfgreader.specs.declared.reader.Reader.{Reader}
-use Rattle.cfgreader.specs.Inner.Builds.{Grows, IsFile}
+use Rattle.cfgreader.specs.ReadFile.{IsFile}
+use Rattle.cfgreader.specs.Inner.Builds.{Grows}
 use Rattle.cfgreader.specs.FileGrammar.{file}
 
 module _ (kind : YaccKind) (len : ℕ) (rest : List ℕ) (old : Reader) (whole : old.rest.now ≡ rest) (long : old.len ≡ len) where

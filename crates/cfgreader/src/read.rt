@@ -3,7 +3,8 @@
 ghost use Rattle.std.specs.Prelude.{◌≡◌, ◌≤◌, IfOk, length};
 ghost use Rattle.constructs.specs.Construct.{computes};
 ghost use Rattle.constructs.specs.Read.{stop_of};
-ghost use Rattle.cfgreader.specs.Inner.Builds.{Grows, IsFile};
+ghost use Rattle.cfgreader.specs.ReadFile.{IsFile};
+ghost use Rattle.cfgreader.specs.Inner.Builds.{Grows};
 ghost use Rattle.cfgreader.specs.FileGrammar.{file};
 
 use super::reader::{ReadFault, Reader};

@@ -24,11 +24,6 @@ module _ (P : ℕ → List Sym → Type 0) (cost : ℕ → ℕ) (r : ℕ) where
   pub greatest_is_one : (c d : ℕ) → Greatest P cost r c → Greatest P cost r d → c ≡ d
   greatest_is_one c d ((w, s, e), h) ((v, t, f), k) = omega (arith, h v t, k w s)
 
-  pub least_if_none_less : (w : List ℕ) → Sentence P r w
-      → ((v : List ℕ) → Sentence P r v → cost_of cost w ≤ cost_of cost v)
-      → Least P cost r (cost_of cost w)
-  least_if_none_less w s h = ((w, s, refl), h)
-
   pub greatest_if_none_more : (w : List ℕ) → Sentence P r w
       → ((v : List ℕ) → Sentence P r v → cost_of cost v ≤ cost_of cost w)
       → Greatest P cost r (cost_of cost w)

@@ -139,18 +139,14 @@ pub fn usable_productions_hold_sentences()
 {}
 
 /// If a rule with a growing cycle is useful for a rule, this has sentences that cost more than any given number.
-pub fn growing_cycles_unbound()
+pub fn growing_cycles_are_unbounded()
     ensures { (g : Grammar) (cost : ℕ → ℕ) (r x : ℕ) → IsUseful (HasProduction g) r x
         → GrowingCycle (HasProduction g) cost x → Unbounded (HasProduction g) cost r }
 {}
 
-/// If no sentence of a rule costs less than this one, its cost is the rule's least cost; if none costs more, the
-/// greatest.
-pub fn extreme_sentences_cost_the_extremes()
-    ensures least { (g : Grammar) (cost : ℕ → ℕ) (r : ℕ) (w : List ℕ) → Sentence (HasProduction g) r w
-        → ((v : List ℕ) → Sentence (HasProduction g) r v → cost_of cost w ≤ cost_of cost v)
-        → Least (HasProduction g) cost r (cost_of cost w) }
-    ensures greatest { (g : Grammar) (cost : ℕ → ℕ) (r : ℕ) (w : List ℕ) → Sentence (HasProduction g) r w
+/// If no sentence of a rule costs more than this one, its cost is the rule's greatest cost.
+pub fn costliest_sentences_cost_the_greatest()
+    ensures { (g : Grammar) (cost : ℕ → ℕ) (r : ℕ) (w : List ℕ) → Sentence (HasProduction g) r w
         → ((v : List ℕ) → Sentence (HasProduction g) r v → cost_of cost v ≤ cost_of cost w)
         → Greatest (HasProduction g) cost r (cost_of cost w) }
 {}

@@ -1,21 +1,21 @@
 -- Candidates, which are optimal productions, and choices: a rule's choice is its candidate that gives the lexicographically first sentence.
-use Rattle.std.specs.Prelude.{◌≡◌, ℕ, zero, suc, ◌+◌, ◌-◌, ◌*◌, ◌<◌, ◌≤◌, ◌⊎◌, Bool, true, false, List, [], ◌∷◌, Option, Some, None, Contains, IsSomeAnd, count_by, is_some, length, map, reverse, slice_index_or, sum_by}
+use Rattle.std.specs.Prelude.{◌≡◌, ℕ, zero, suc, ◌+◌, ◌-◌, ◌*◌, ◌<◌, ◌≤◌, ◌⊎◌, Bool, true, false, List, [], ◌∷◌, Option, Some, None, Contains, count_by, is_some, length, map, reverse, slice_index_or, sum_by}
 use Rattle.std.specs.Ordering.{nat_cmp}
 use Rattle.std.specs.declared.cmp.Ordering.{Ordering}
 use Rattle.std.specs.declared.cmp.Ordering.TheVariants.{Greater}
 use Rattle.cfgindex.specs.declared.idxnewtype.PIdx.{PIdx}
 use Rattle.derivation.specs.Grammar.{Sym, Rule, Token, Grammar, IsGrammar}
 use Rattle.cfgtables.specs.Openings.{nth_production}
-use Rattle.cfgleast.specs.Certificate.{choice_of, rule_choice}
-use Rattle.cfgchoices.specs.Inner.Choices.{ChoicesGive}
+use Rattle.cfgleast.specs.Certificate.{IsChosenBelow, choice_of, rule_choice}
+use Rattle.cfgchoices.specs.Choices.{ChoicesGive}
 use Rattle.cfgleast.specs.Generator.{CostTables, IsGenerator, cost_answer}
-use Rattle.cfgchoices.specs.Inner.Kinds.{IsBaseProduction, IsTarget, IsOptimal, production_numbers}
+use Rattle.cfgchoices.specs.Kinds.{IsBase, IsChain, IsOptimal, production_numbers}
 use Rattle.cfgchoices.specs.FirstSentence.{lexicographic}
 use Rattle.cfgchoices.specs.declared.kinds.Kind.{Kind}
 use Rattle.cfgchoices.specs.declared.kinds.Kind.TheVariants.{Suboptimal}
 use Rattle.cfgchoices.specs.declared.first.lists.Listed.{Listed}
-use Rattle.cfgchoices.specs.declared.first.lists.Listed.TheVariants.{Base, ChainingTo}
-use Rattle.cfgchoices.specs.declared.first.candidates.Firsts.{Firsts}
+use Rattle.cfgchoices.specs.declared.first.lists.Listed.TheVariants.{Base, Chain}
+use Rattle.cfgchoices.specs.declared.first.candidates.Chooser.{Chooser}
 
 -- for each rule its choice, if any: a production, and a number that says when it was chosen
 abbrev pub Choices : Type 0
@@ -26,14 +26,14 @@ abbrev pub with_choices : CostTables → Choices → CostTables
 with_choices x l = record { grammar = x.grammar; costs = x.costs; least = x.least; choices = l }
 
 -- rule q costs nothing, so that it needs no choice, or has one with a number less than n
-abbrev pub IsReady : CostTables → Choices → ℕ → ℕ → Type 0
-IsReady x l n q = (cost_answer x q ≡ Some 0) ⊎ IsSomeAnd (rule_choice l q) (λ choice. choice.1 < n)
+abbrev pub IsFreeOrChosenBelow : CostTables → Choices → ℕ → ℕ → Type 0
+IsFreeOrChosenBelow x l n q = (cost_answer x q ≡ Some 0) ⊎ IsChosenBelow l n (Rule q)
 
--- p may be the choice of rule r, with number m: an optimal production of r, and each rule in it is ready
+-- p may be the choice of rule r, with number m: an optimal production of r, and each rule in it is free or was chosen below m
 pub record IsChoice (x : CostTables) (l : Choices) (r p m : ℕ) : Type 0 where
   pub optimal : IsOptimal x p
   pub owner : (nth_production x.grammar p).rule ≡ r
-  pub ready : (q : ℕ) → Contains (nth_production x.grammar p).symbols (Rule q) → IsReady x l m q
+  pub below : (q : ℕ) → Contains (nth_production x.grammar p).symbols (Rule q) → IsFreeOrChosenBelow x l m q
 
 -- n rules have choices so far
 pub record Choosing (x : CostTables) (l : Choices) (n : ℕ) : Type 0 where
@@ -41,6 +41,7 @@ pub record Choosing (x : CostTables) (l : Choices) (n : ℕ) : Type 0 where
   pub count : count_by is_some l ≡ n
   pub each : (r p m : ℕ) → rule_choice l r ≡ Some (p, m) → IsChoice x l r p m × (m < n)
 
+-- the size of a rule's tree, if `f` gives the sizes of the trees of symbols in its chosen production: `each`, and those
 abbrev pub tree_size_of : Grammar → ℕ → (Sym → ℕ) → Option (ℕ × ℕ) → ℕ
 tree_size_of g each f None = each
 tree_size_of g each f (Some choice) = sum_by f (nth_production g choice.0).symbols + each
@@ -56,9 +57,11 @@ tree_size g choices each (suc n) (Rule r) = tree_size_of g each (tree_size g cho
 abbrev pub IsInOrder : {X : Type 0} → (X → X → Type 0) → X → List X → Type 0
 IsInOrder R d xs = (i j : ℕ) → i < j → j < length xs → R (slice_index_or xs i d) (slice_index_or xs j d)
 
+-- the symbols of production p
 abbrev pub sequence : CostTables → ℕ → List Sym
 sequence x p = (nth_production x.grammar p).symbols
 
+-- the rule of production p
 abbrev pub owner : CostTables → ℕ → ℕ
 owner x p = (nth_production x.grammar p).rule
 
@@ -88,6 +91,7 @@ left_to_open x l pending = sum_by (tree_size x.grammar l 1 x.grammar.rules) pend
 abbrev pub NotAfter : CostTables → Choices → List Sym → List Sym → Type 0
 NotAfter x l a b = (u v : List ℕ) → ChoicesGive (with_choices x l) a u → ChoicesGive (with_choices x l) b v → lexicographic u v ≡ Greater → ⊥
 
+-- rule r has a choice
 abbrev pub HasChoice : Choices → ℕ → Type 0
 HasChoice l r = (choice : ℕ × ℕ) × (rule_choice l r ≡ Some choice)
 
@@ -112,24 +116,27 @@ pub record Known : Type 0 where
 -- there is a list for this cost, or for this rule
 abbrev pub HasList : {S : Type 0} → (S → ℕ) → Known → Listed S → Type 0
 HasList number k (Base c) = c < k.limit
-HasList number k (ChainingTo r) = number r.0 < k.tables.grammar.rules
+HasList number k (Chain r) = number r.0 < k.tables.grammar.rules
 
 -- whether the rule is known to have only one optimal production
 abbrev pub is_sole : Known → ℕ → Bool
 is_sole k r = slice_index_or k.sole r false
 
+-- rule r has at most one optimal production
 abbrev pub IsSole : CostTables → ℕ → Type 0
 IsSole x r = (p q : ℕ) → IsOptimal x p → IsOptimal x q → owner x p ≡ r → owner x q ≡ r → p ≡ q
 
+-- what is known is true: the rules that `sole` marks have at most one optimal production, each optimal production is a base or a chain
+-- production, and all costs are less than the limit
 pub record IsKnown (k : Known) (n : ℕ) : Type 0 where
   pub generator : IsGenerator k.tables n
   pub grammar : IsGrammar k.tables.grammar
   pub flags : length k.sole ≡ k.tables.grammar.rules
   pub sole : (r : ℕ) → is_sole k r ≡ true → IsSole k.tables r
-  pub kinds : (p : ℕ) → IsOptimal k.tables p → IsBaseProduction k.tables p ⊎ ((q : ℕ) × IsTarget k.tables p q)
+  pub kinds : (p : ℕ) → IsOptimal k.tables p → IsBase k.tables p ⊎ ((q : ℕ) × IsChain k.tables p q)
   pub costs : (r c : ℕ) → cost_answer k.tables r ≡ Some c → c < k.limit
 
--- by its kind, production p is optimal
+-- production p is optimal, as its kind says
 abbrev pub IsOptimalByKind : {S : Type 0} → List (Kind S) → ℕ → Type 0
 IsOptimalByKind kinds p = (p < length kinds) × (slice_index_or kinds p Suboptimal ≡ Suboptimal → ⊥)
 
@@ -148,7 +155,8 @@ pub record Candidates : Type 0 where
   pub sorted : List ℕ
   pub foremost : List (Option ℕ)
 
-abbrev pub candidates_of : {S : Type 0} → (S → ℕ) → Firsts S → Candidates
+-- the candidates and choices of the code
+abbrev pub candidates_of : {S : Type 0} → (S → ℕ) → Chooser S → Candidates
 candidates_of number f = record {
   choices = map (choice_of number) f.choices.items;
   number = f.number;
@@ -166,6 +174,7 @@ chosen_tables x f = with_choices x f.choices
 abbrev pub Waits : Candidates → ℕ → Type 0
 Waits f p = Contains f.ready p ⊎ Contains f.sorted p
 
+-- how many candidates wait
 abbrev pub waiting : Candidates → ℕ
 waiting f = length f.ready + length f.sorted
 
@@ -177,11 +186,11 @@ IsHandled x f q = IsDone x f.choices q ⊎ ((p : ℕ) × Waits f p × GivesNoMor
 abbrev pub IsFloor : Known → Choices → ℕ → ℕ → Type 0
 IsFloor k l c p = (r : ℕ) → HasChoice l r → cost_answer k.tables r ≡ Some c → is_sole k r ≡ false → NotAfter k.tables l (Rule r ∷ []) (sequence k.tables p)
 
--- a candidate: an optimal production that costs c, and each rule in it has a choice or costs nothing
+-- p is a candidate: an optimal production that costs c, in which each rule is free or has a choice
 pub record IsCandidate (k : Known) (l : Choices) (n c p : ℕ) : Type 0 where
   pub optimal : IsOptimal k.tables p
   pub cost : optimal.cost ≡ c
-  pub ready : (q : ℕ) → Contains (sequence k.tables p) (Rule q) → IsReady k.tables l n q
+  pub below : (q : ℕ) → Contains (sequence k.tables p) (Rule q) → IsFreeOrChosenBelow k.tables l n q
   pub floor : IsFloor k l c p
 
 -- the productions that wait are candidates, and `sorted` is in descending lexicographic order
@@ -202,7 +211,7 @@ pub record Nominating (k : Known) (f : Candidates) : Type 0 where
 -- the chain productions that lead to a rule with a choice are handled
 pub record HandlesChains (k : Known) (f : Candidates) : Type 0 where
   pub nominating : Nominating k f
-  pub chains : (p q : ℕ) → IsTarget k.tables p q → HasChoice f.choices q → IsHandled k.tables f p
+  pub chains : (p q : ℕ) → IsChain k.tables p q → HasChoice f.choices q → IsHandled k.tables f p
 
 -- p can be chosen now: it is its rule's only optimal production, or no candidate gives less
 pub record IsNext (k : Known) (f : Candidates) (p : ℕ) : Type 0 where
@@ -238,8 +247,8 @@ abbrev pub left_to_choose : Known → Candidates → ℕ
 left_to_choose k f = (k.tables.grammar.rules - f.number) * (length k.tables.grammar.productions + 1) + waiting f
 
 -- All rules that cost less than c have choices, which give their lexicographically first minimal sentences; no other rule has a choice.
-pub record ChosenBelow (k : Known) (f : Candidates) (c : ℕ) : Type 0 where
+pub record CheaperChosen (k : Known) (f : Candidates) (c : ℕ) : Type 0 where
   pub going : HandlesChains k f
   pub none : waiting f ≡ 0
-  pub base : (p : ℕ) (base : IsBaseProduction k.tables p) → base.optimal.cost < c → IsDone k.tables f.choices p
+  pub base : (p : ℕ) (base : IsBase k.tables p) → base.optimal.cost < c → IsDone k.tables f.choices p
   pub cheaper : (r d : ℕ) → HasChoice f.choices r → cost_answer k.tables r ≡ Some d → d < c

@@ -2,19 +2,19 @@
 use Rattle.std.specs.Prelude.{◌≡◌, ℕ, ◌+◌, ◌<◌, ◌≤◌, List, Option, Some, None, MatchOption, length, slice_index_or}
 use Rattle.cfgindex.specs.declared.idxnewtype.PIdx.{PIdx}
 use Rattle.cfgleast.specs.Generator.{CostTables, cost_answer}
-use Rattle.cfgchoices.specs.Inner.Kinds.{IsBaseProduction, IsTarget}
+use Rattle.cfgchoices.specs.Kinds.{IsBase, IsChain}
 use Rattle.cfgchoices.specs.declared.first.lists.Listed.{Listed}
-use Rattle.cfgchoices.specs.declared.first.lists.Listed.TheVariants.{Base, ChainingTo}
+use Rattle.cfgchoices.specs.declared.first.lists.Listed.TheVariants.{Base, Chain}
 use Rattle.cfgchoices.specs.declared.first.lists.Lists.{Lists}
 
--- a base production that costs this
+-- p is a base production that costs c
 abbrev pub IsBaseAt : CostTables → ℕ → ℕ → Type 0
-IsBaseAt x c p = (base : IsBaseProduction x p) × (base.optimal.cost ≡ c)
+IsBaseAt x c p = (base : IsBase x p) × (base.optimal.cost ≡ c)
 
--- a production is in the list
+-- production p is in the list
 abbrev pub IsIn : {S : Type 0} → (S → ℕ) → CostTables → Listed S → ℕ → Type 0
 IsIn number x (Base c) p = IsBaseAt x c p
-IsIn number x (ChainingTo r) p = IsTarget x p (number r.0)
+IsIn number x (Chain r) p = IsChain x p (number r.0)
 
 -- the first production from number n on of which `Is` is true, if there is one
 abbrev pub IsFirstFrom : {S : Type 0} → (S → ℕ) → (ℕ → Type 0) → ℕ → Option (PIdx S) → Type 0
@@ -29,7 +29,7 @@ pub record AreListed {S : Type 0} (number : S → ℕ) (Is : ℕ → ℕ → Typ
 -- the lists of base productions and of chain productions, from number n on
 pub record AreLists {S : Type 0} (number : S → ℕ) (x : CostTables) (n : ℕ) (lists : Lists S) : Type 0 where
   pub base : AreListed number (IsBaseAt x) n lists.base.items lists.next.items
-  pub chaining : AreListed number (λ r p. IsTarget x p r) n lists.chaining.items lists.next.items
+  pub chain : AreListed number (λ r p. IsChain x p r) n lists.chain.items lists.next.items
   pub costs : (r c : ℕ) → cost_answer x r ≡ Some c → c < length lists.base.items
-  pub rules : length lists.chaining.items ≡ x.grammar.rules
+  pub rules : length lists.chain.items ≡ x.grammar.rules
   pub positions : length lists.next.items ≡ length x.grammar.productions

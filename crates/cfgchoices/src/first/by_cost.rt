@@ -3,11 +3,11 @@
 ghost use Rattle.std.specs.Prelude.{◌≡◌, ◌+◌, ◌<◌, IfOk, OnOk, map};
 ghost use Rattle.cfgleast.specs.Certificate.{choice_of};
 ghost use Rattle.cfgleast.specs.Generator.{IsGeneratorOf, settled_tables, tables_of};
-ghost use Rattle.cfgchoices.specs.Inner.FirstChoices.{AreFirst, AreChosen};
-ghost use Rattle.cfgchoices.specs.Inner.Kinds.{AreKinds};
-ghost use Rattle.cfgchoices.specs.Inner.Candidates.{ChosenBelow, with_choices, chosen_tables, candidates_of};
+ghost use Rattle.cfgchoices.specs.FirstChoices.{AreFirst, AreChosen};
+ghost use Rattle.cfgchoices.specs.Kinds.{AreKinds};
+ghost use Rattle.cfgchoices.specs.Inner.Candidates.{CheaperChosen, with_choices, chosen_tables, candidates_of};
 
-use crate::first::candidates::Firsts;
+use crate::first::candidates::Chooser;
 use crate::first::lists::{Listed, no_productions};
 use crate::first::optimal::OptimalTables;
 use crate::kinds::Kind;
@@ -17,7 +17,7 @@ use cfgtables::Tables;
 use std::alloc::{AllocError, Global};
 use std::collections::VecDeque;
 
-impl<S: Storage> Firsts<S> {
+impl<S: Storage> Chooser<S> {
     /// Chooses for all rules of this cost, after all rules that cost less have their choices.
     ///
     /// # Errors
@@ -28,9 +28,9 @@ impl<S: Storage> Firsts<S> {
         optimal: &OptimalTables<S, T>,
         cost: usize,
     ) -> Result<(), AllocError>
-        requires climbed { ChosenBelow optimal.now (candidates_of S.number self.old) cost }
+        requires climbed { CheaperChosen optimal.now (candidates_of S.number self.old) cost }
         requires within { cost < optimal.now.limit }
-        ensures { OnOk result (ChosenBelow optimal.now (candidates_of S.number self.new) (cost + 1)) }
+        ensures { OnOk result (CheaperChosen optimal.now (candidates_of S.number self.new) (cost + 1)) }
     {
         optimal.invariant_holds();
         self.cost = cost;
@@ -48,7 +48,7 @@ impl<S: Storage> Firsts<S> {
         &mut self,
         optimal: &OptimalTables<S, T>,
     ) -> Result<(), AllocError>
-        requires { ChosenBelow optimal.now (candidates_of S.number self.old) 1 }
+        requires { CheaperChosen optimal.now (candidates_of S.number self.old) 1 }
         ensures walks { OnOk result (AreChosen (chosen_tables optimal.now.tables (candidates_of S.number self.new))) }
         ensures first { OnOk result (AreFirst (chosen_tables optimal.now.tables (candidates_of S.number self.new))) }
     {
@@ -78,7 +78,7 @@ fn choices_by_cost<S: Storage, T: Tables<S>>(
 {
     let choices = no_choices(alloc, rules_len)?;
     let foremost = no_productions(alloc, rules_len)?;
-    let mut firsts = Firsts {
+    let mut chooser = Chooser {
         alloc,
         choices,
         number: 0,
@@ -87,8 +87,8 @@ fn choices_by_cost<S: Storage, T: Tables<S>>(
         sorted: VecDeque::new(alloc),
         foremost,
     };
-    firsts.choose_by_cost(optimal)?;
-    Ok(firsts.choices)
+    chooser.choose_by_cost(optimal)?;
+    Ok(chooser.choices)
 }
 
 /// For each rule that costs something, the production that makes its first minimal sentence, and a number, which is

@@ -2,7 +2,7 @@
 
 ghost use Rattle.std.specs.Prelude.{◌≡◌, ℕ, ◌<◌, ◌≤◌, IfOk, MatchBool, MatchOption, OnOk, false, length};
 ghost use Rattle.std.specs.Prelude.{slice_index_or, true};
-ghost use Rattle.cfgchoices.specs.Inner.Kinds.{IsTarget};
+ghost use Rattle.cfgchoices.specs.Kinds.{IsChain};
 ghost use Rattle.cfgchoices.specs.Inner.Lists.{IsIn};
 ghost use Rattle.cfgchoices.specs.Inner.Candidates.{Adds, HandlesChains, HasList, IsCandidate};
 ghost use Rattle.cfgchoices.specs.Inner.Candidates.{IsDrained, IsHandled, IsKnown};
@@ -19,7 +19,7 @@ use std::collections::VecDeque;
 
 /// Choices of productions, and candidates.
 #[derive(Drop)]
-pub(crate) struct Firsts<S: Storage> {
+pub(crate) struct Chooser<S: Storage> {
     pub(crate) alloc: Global,
     /// For each rule its choice, with the number of choices made before it.
     pub(crate) choices: Vec<Option<(PIdx<S>, u32)>>,
@@ -50,7 +50,7 @@ fn probe(low: usize, high: usize, len: usize) -> usize
     }
 }
 
-impl<S: Storage> Firsts<S> {
+impl<S: Storage> Chooser<S> {
     /// The index at which to insert a production into the sorted candidates: after those that give nothing less.
     ///
     /// # Errors
@@ -239,7 +239,7 @@ impl<S: Storage> Firsts<S> {
         }
         self.choices[usize::from(rule)] = Some((p, self.number));
         self.number += 1;
-        self.nominate_listed(optimal, Listed::ChainingTo(rule))?;
+        self.nominate_listed(optimal, Listed::Chain(rule))?;
         Ok(true)
     }
 

@@ -8,7 +8,7 @@ ghost use Rattle.cfgchoices.specs.Inner.Candidates.{Choosing, FirstTokensAre, Gi
 ghost use Rattle.cfgchoices.specs.Inner.Candidates.{candidates_of, sequence};
 ghost use Rattle.std.specs.Ordering.{is_ne};
 
-use crate::first::candidates::Firsts;
+use crate::first::candidates::Chooser;
 use crate::first::optimal::OptimalTables;
 use cfgindex::{PIdx, Storage, Symbol, TIdx};
 use cfgtables::Tables;
@@ -62,7 +62,7 @@ impl<'a, S: Storage, T: Tables<S>> OptimalTables<'a, S, T> {
     }
 }
 
-impl<S: Storage> Firsts<S> {
+impl<S: Storage> Chooser<S> {
     /// The next token that the choices give for the pending symbols, the last of which comes first.
     ///
     /// # Errors

@@ -3,7 +3,7 @@
 ghost use Rattle.std.specs.Prelude.{◌≡◌, ℕ, ◌+◌, ◌<◌, IfOk, None, Some, length, replicate};
 ghost use Rattle.derivation.specs.CostLists.{rule_cost};
 ghost use Rattle.cfgleast.specs.Generator.{IsGeneratorOf, settled_tables};
-ghost use Rattle.cfgchoices.specs.Inner.Kinds.{AreKinds, IsKind};
+ghost use Rattle.cfgchoices.specs.Kinds.{AreKinds, IsKind};
 ghost use Rattle.cfgchoices.specs.Inner.Lists.{AreLists};
 
 use crate::kinds::Kind;
@@ -18,14 +18,14 @@ pub(crate) enum Listed<S> {
     /// Base productions of this cost.
     Base(usize),
     /// Chain productions that lead to this rule.
-    ChainingTo(RIdx<S>),
+    Chain(RIdx<S>),
 }
 
 /// Linked lists of productions: the first production of each list, and the next one after each production.
 #[derive(Drop)]
 pub(crate) struct Lists<S: Storage> {
     pub(crate) base: Vec<Option<PIdx<S>>>,
-    pub(crate) chaining: Vec<Option<PIdx<S>>>,
+    pub(crate) chain: Vec<Option<PIdx<S>>>,
     pub(crate) next: Vec<Option<PIdx<S>>>,
 }
 
@@ -86,9 +86,9 @@ impl<S: Storage> Lists<S> {
                     self.base[cost as usize] = Some(p);
                 }
             }
-            Kind::ChainsTo(rule) => {
-                self.next[usize::from(p)] = self.chaining[usize::from(rule)];
-                self.chaining[usize::from(rule)] = Some(p);
+            Kind::Chain(rule) => {
+                self.next[usize::from(p)] = self.chain[usize::from(rule)];
+                self.chain[usize::from(rule)] = Some(p);
             }
         }
     }
@@ -114,7 +114,7 @@ impl<S: Storage> Lists<S> {
         tables.invariant_holds();
         let mut lists = Lists {
             base: no_productions(alloc, costs_len(&settled.least))?,
-            chaining: no_productions(alloc, usize::from(tables.rules_len()))?,
+            chain: no_productions(alloc, usize::from(tables.rules_len()))?,
             next: no_productions(alloc, kinds.len())?,
         };
         let mut left = kinds.len();

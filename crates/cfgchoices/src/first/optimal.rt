@@ -5,7 +5,7 @@ ghost use Rattle.std.specs.Prelude.{true};
 ghost use Rattle.cfgtables.specs.Openings.{nth_production};
 ghost use Rattle.cfgtables.specs.NumberedSymbols.{sym_of};
 ghost use Rattle.cfgleast.specs.Generator.{IsGeneratorOf, settled_tables};
-ghost use Rattle.cfgchoices.specs.Inner.Kinds.{AreKinds, IsTarget, production_numbers};
+ghost use Rattle.cfgchoices.specs.Kinds.{AreKinds, IsChain, production_numbers};
 ghost use Rattle.cfgchoices.specs.Inner.Lists.{IsFirstFrom, IsIn, IsBaseAt};
 ghost use Rattle.cfgchoices.specs.Inner.Candidates.{HasList, IsOptimalByKind, IsKnown, is_sole, owner, sequence};
 ghost use Rattle.cfgchoices.specs.declared.kinds.Kind.TheVariants.{Suboptimal};
@@ -164,7 +164,7 @@ impl<'a, S: Storage, T: Tables<S>> OptimalTables<'a, S, T> {
     {
         match listed {
             Listed::Base(cost) => self.lists.base[cost],
-            Listed::ChainingTo(rule) => self.lists.chaining[usize::from(rule)],
+            Listed::Chain(rule) => self.lists.chain[usize::from(rule)],
         }
     }
 
@@ -173,8 +173,8 @@ impl<'a, S: Storage, T: Tables<S>> OptimalTables<'a, S, T> {
         requires { S.number p.0 < length self.now.tables.grammar.productions }
         ensures base { (c : ℕ) → IsBaseAt self.now.tables c (S.number p.0)
             → IsFirstFrom S.number (IsBaseAt self.now.tables c) (S.number p.0 + 1) result }
-        ensures chaining { (r : ℕ) → IsTarget self.now.tables (S.number p.0) r
-            → IsFirstFrom S.number (λ q. IsTarget self.now.tables q r) (S.number p.0 + 1) result }
+        ensures chain { (r : ℕ) → IsChain self.now.tables (S.number p.0) r
+            → IsFirstFrom S.number (λ q. IsChain self.now.tables q r) (S.number p.0 + 1) result }
     {
         self.lists.next[usize::from(p)]
     }

@@ -12,18 +12,18 @@ use Rattle.cfgtables.specs.Openings.{nth_production}
 use Rattle.cfgleast.specs.Generator.{CostTables, cost_answer}
 use Rattle.cfgchoices.specs.FirstSentence.{lexicographic}
 use Rattle.cfgchoices.specs.Splits.{Split}
-use Rattle.cfgchoices.specs.Inner.Kinds.{IsMinimal, IsBaseBelow}
+use Rattle.cfgchoices.specs.Kinds.{IsMinimal, ReachesBase}
 use Rattle.cfgcosts.specs.Sentences.{numbers_of}
 
--- the new list has what was listed before and what satisfies `Is`
+-- the new list has what the old one has, and what satisfies `Is`
 abbrev pub Lists : (ℕ → Type 0) → List ℕ → List ℕ → Type 0
 Lists Is old new = (p : ℕ) → Contains new p ↔ (Contains old p ⊎ Is p)
 
--- the rule, and each rule in a base production below a listed rule, is listed with its cost
+-- the rule, and each rule in a base production that a listed rule reaches, is listed with its cost
 pub record AreRequested (x : CostTables) (r : ℕ) (listed : List (ℕ × ℕ)) : Type 0 where
   pub costs : (c q : ℕ) → Contains listed (c, q) → cost_answer x q ≡ Some c
   pub first : (c : ℕ) × Contains listed (c, r)
-  pub below : (c q p s : ℕ) → Contains listed (c, q) → IsBaseBelow x q p → Contains (nth_production x.grammar p).symbols (Rule s)
+  pub bases : (c q p s : ℕ) → Contains listed (c, q) → ReachesBase x q p → Contains (nth_production x.grammar p).symbols (Rule s)
       → (d : ℕ) × Contains listed (d, s)
 
 -- the numbers of the tokens of words
@@ -34,12 +34,13 @@ words_of number words = map (numbers_of number) words.items
 abbrev pub sentences_in : {S : Type 0} → (S → ℕ) → BTreeMap ℕ (Vec (Vec (TIdx S) Global) Global) → ℕ → List (List ℕ)
 sentences_in number table r = unwrap_or (option_map (words_of number) (get nat_cmp table r)) []
 
+-- w is among the sentences of rule r
 abbrev pub HasSentence : (ℕ → List (List ℕ)) → ℕ → List ℕ → Type 0
 HasSentence sentences r w = Contains (sentences r) w
 
 -- each word of one list followed by each word of the other
 abbrev pub joined : List (List ℕ) → List (List ℕ) → List (List ℕ)
-joined prefixes backs = flat_map (λ prefix. map (λ back. prefix ++ back) backs) prefixes
+joined prefixes suffixes = flat_map (λ prefix. map (λ suffix. prefix ++ suffix) suffixes) prefixes
 
 -- the words of a symbol: the token itself, or the sentences of the rule
 abbrev pub words_of_symbol : (ℕ → List (List ℕ)) → Sym → List (List ℕ)
@@ -47,15 +48,15 @@ words_of_symbol sentences (Token t) = (t ∷ []) ∷ []
 words_of_symbol sentences (Rule r) = sentences r
 
 -- the words of a list's symbols, concatenated
-abbrev pub row_words : (ℕ → List (List ℕ)) → List Sym → List (List ℕ)
-row_words sentences sequence = fold (λ words s. joined words (words_of_symbol sentences s)) ([] ∷ []) sequence
+abbrev pub sequence_words : (ℕ → List (List ℕ)) → List Sym → List (List ℕ)
+sequence_words sentences sequence = fold (λ words s. joined words (words_of_symbol sentences s)) ([] ∷ []) sequence
 
 -- these are now the sentences of the rule, and the other rules keep theirs
 pub record Puts (r : ℕ) (words : List (List ℕ)) (sentences sentences' : ℕ → List (List ℕ)) : Type 0 where
   pub here : sentences' r ≡ words
   pub others : (q : ℕ) → (q ≡ r → ⊥) → sentences' q ≡ sentences q
 
--- one of these productions makes the word of such sentences
+-- one of these productions makes w: it consists of a sentence for each of the production's symbols
 pub record IsMadeBy (g : Grammar) (sentences : ℕ → List (List ℕ)) (positions : List ℕ) (w : List ℕ) : Type 0 where
   pub index : ℕ
   pub among : Contains positions index
@@ -66,6 +67,6 @@ pub record AreMinimal (x : CostTables) (r : ℕ) (words : List (List ℕ)) : Typ
   pub all : (w : List ℕ) → Contains words w ↔ IsMinimal x r w
   pub order : IsStrictlySortedBy lexicographic words
 
--- so are those of each rule in a base production below the rule
+-- the table has the minimal sentences of each rule in a base production that the rule reaches
 abbrev pub IsReadyFor : CostTables → (ℕ → List (List ℕ)) → ℕ → Type 0
-IsReadyFor x sentences r = (p q : ℕ) → IsBaseBelow x r p → Contains (nth_production x.grammar p).symbols (Rule q) → AreMinimal x q (sentences q)
+IsReadyFor x sentences r = (p q : ℕ) → ReachesBase x r p → Contains (nth_production x.grammar p).symbols (Rule q) → AreMinimal x q (sentences q)

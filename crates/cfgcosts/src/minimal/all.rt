@@ -9,7 +9,7 @@ ghost use Rattle.cfgcosts.specs.Inner.Targets.{HasSameSentences};
 ghost use Rattle.cfgcosts.specs.Inner.Minimal.{AreMinimal, IsMadeBy, IsReadyFor, sentences_in, words_of};
 ghost use Rattle.cfgchoices.specs.FirstSentence.{lexicographic};
 ghost use Rattle.cfgcosts.specs.Sentences.{numbers_of};
-ghost use Rattle.cfgchoices.specs.Inner.Kinds.{production_numbers};
+ghost use Rattle.cfgchoices.specs.Kinds.{production_numbers};
 
 use crate::errors::SentenceError;
 use crate::generator::SentenceGenerator;

@@ -3,7 +3,7 @@
 ghost use Rattle.std.specs.Prelude.{◌≡◌, ◌↔◌, ℕ, ◌<◌, Contains, IfOk, OnOk, length};
 ghost use Rattle.cfgtables.specs.Openings.{nth_production};
 ghost use Rattle.search.specs.Reachable.{Reaches};
-ghost use Rattle.cfgchoices.specs.Inner.Kinds.{HasTarget, IsBaseProduction, IsTarget, IsBaseBelow, production_numbers};
+ghost use Rattle.cfgchoices.specs.Kinds.{LeadsTo, IsBase, IsChain, ReachesBase, production_numbers};
 ghost use Rattle.cfgcosts.specs.Inner.Minimal.{Lists};
 
 use crate::generator::SentenceGenerator;
@@ -27,17 +27,18 @@ impl<'a, S: Storage, T: Tables<S>> SentenceGenerator<'a, S, T> {
     ) -> Result<(), AllocError>
         requires index { S.number p.0 < length self.now.grammar.productions }
         requires rules { length search.old.reachable ≡ self.now.grammar.rules }
-        ensures target { OnOk result (Reaches (IsTarget self.now (S.number p.0)) search.old search.new) }
-        ensures base { OnOk result (Lists (λ q. (q ≡ S.number p.0) × IsBaseProduction self.now q)
+        ensures target { OnOk result (Reaches (IsChain self.now (S.number p.0)) search.old search.new) }
+        ensures base { OnOk result (Lists (λ q. (q ≡ S.number p.0) × IsBase self.now q)
             (production_numbers S.number base.old.items) (production_numbers S.number base.new.items)) }
     {
+        self.invariant_holds();
         match self.kinds[usize::from(p)] {
             Kind::Suboptimal => Ok(()),
             Kind::Base => {
                 base.push(p)?;
                 Ok(())
             }
-            Kind::ChainsTo(rule) => {
+            Kind::Chain(rule) => {
                 search.reach(usize::from(rule))?;
                 Ok(())
             }
@@ -57,9 +58,9 @@ impl<'a, S: Storage, T: Tables<S>> SentenceGenerator<'a, S, T> {
     ) -> Result<(), AllocError>
         requires rule { S.number rule.0 < self.now.grammar.rules }
         requires rules { length search.old.reachable ≡ self.now.grammar.rules }
-        ensures targets { OnOk result (Reaches (HasTarget self.now (S.number rule.0)) search.old search.new) }
+        ensures targets { OnOk result (Reaches (LeadsTo self.now (S.number rule.0)) search.old search.new) }
         ensures base { OnOk result (Lists
-            (λ p. ((nth_production self.now.grammar p).rule ≡ S.number rule.0) × IsBaseProduction self.now p)
+            (λ p. ((nth_production self.now.grammar p).rule ≡ S.number rule.0) × IsBase self.now p)
             (production_numbers S.number base.old.items) (production_numbers S.number base.new.items)) }
     {
         for p in self.tables.rule_to_prods(rule) {
@@ -80,7 +81,7 @@ impl<'a, S: Storage, T: Tables<S>> SentenceGenerator<'a, S, T> {
     ) -> Result<Vec<PIdx<S>>, AllocError>
         requires { S.number rule.0 < self.now.grammar.rules }
         ensures { IfOk result (λ base. (p : ℕ) → Contains (production_numbers S.number base.items) p
-            ↔ IsBaseBelow self.now (S.number rule.0) p) }
+            ↔ ReachesBase self.now (S.number rule.0) p) }
     {
         let mut base = Vec::new(alloc);
         let mut search = Search::through_few(alloc, self.tables.rules_len().0.to_usize());

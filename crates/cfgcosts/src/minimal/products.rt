@@ -3,7 +3,7 @@
 ghost use Rattle.std.specs.Prelude.{◌≡◌, ◌++◌, IfOk, OnOk, map};
 ghost use Rattle.cfgtables.specs.NumberedSymbols.{sym_of};
 ghost use Rattle.cfgcosts.specs.Sentences.{numbers_of};
-ghost use Rattle.cfgcosts.specs.Inner.Minimal.{joined, row_words, sentences_in, words_of, words_of_symbol};
+ghost use Rattle.cfgcosts.specs.Inner.Minimal.{joined, sequence_words, sentences_in, words_of, words_of_symbol};
 
 use cfgindex::{Storage, Symbol, TIdx};
 use std::alloc::{AllocError, Global};
@@ -21,17 +21,17 @@ pub(crate) type SentenceTable<S> = BTreeMap<usize, Vec<Vec<TIdx<S>>>>;
 fn join<S: Storage>(
     alloc: Global,
     prefix: &[TIdx<S>],
-    back: &[TIdx<S>],
+    suffix: &[TIdx<S>],
 ) -> Result<Vec<TIdx<S>>, AllocError>
-    ensures { IfOk result (λ word. word.items ≡ prefix.now ++ back.now) }
+    ensures { IfOk result (λ word. word.items ≡ prefix.now ++ suffix.now) }
 {
-    let mut word = Vec::with_capacity(alloc, prefix.len().saturating_add(back.len()))?;
+    let mut word = Vec::with_capacity(alloc, prefix.len().saturating_add(suffix.len()))?;
     word.extend_from_slice(prefix)?;
-    word.extend_from_slice(back)?;
+    word.extend_from_slice(suffix)?;
     Ok(word)
 }
 
-/// Adds the words that are `prefix` followed by one of `backs`.
+/// Adds the words that are `prefix` followed by one of `suffixes`.
 ///
 /// # Errors
 ///
@@ -39,24 +39,24 @@ fn join<S: Storage>(
 fn join_each<S: Storage>(
     alloc: Global,
     mut prefix: Vec<TIdx<S>>,
-    backs: &[Vec<TIdx<S>>],
+    suffixes: &[Vec<TIdx<S>>],
     words: &mut Vec<Vec<TIdx<S>>>,
 ) -> Result<(), AllocError>
     ensures { OnOk result (map (numbers_of S.number) words.new.items ≡ map (numbers_of S.number) words.old.items
-        ++ map (λ back. numbers_of S.number prefix ++ back) (map (numbers_of S.number) backs.now)) }
+        ++ map (λ suffix. numbers_of S.number prefix ++ suffix) (map (numbers_of S.number) suffixes.now)) }
 {
-    let Some((last, others)) = backs.split_last() else {
+    let Some((last, others)) = suffixes.split_last() else {
         return Ok(());
     };
-    for back in others {
-        words.push(join(alloc, &prefix, back)?)?;
+    for suffix in others {
+        words.push(join(alloc, &prefix, suffix)?)?;
     }
     prefix.extend_from_slice(last)?;
     words.push(prefix)?;
     Ok(())
 }
 
-/// The words that are one of `prefixes` followed by one of `backs`.
+/// The words that are one of `prefixes` followed by one of `suffixes`.
 ///
 /// # Errors
 ///
@@ -64,14 +64,14 @@ fn join_each<S: Storage>(
 fn join_all<S: Storage>(
     alloc: Global,
     prefixes: Vec<Vec<TIdx<S>>>,
-    backs: &[Vec<TIdx<S>>],
+    suffixes: &[Vec<TIdx<S>>],
 ) -> Result<Vec<Vec<TIdx<S>>>, AllocError>
     ensures { IfOk result (λ words.
-        words_of S.number words ≡ joined (words_of S.number prefixes) (map (numbers_of S.number) backs.now)) }
+        words_of S.number words ≡ joined (words_of S.number prefixes) (map (numbers_of S.number) suffixes.now)) }
 {
     let mut words = Vec::new(alloc);
     for prefix in prefixes {
-        join_each(alloc, prefix, backs, &mut words)?;
+        join_each(alloc, prefix, suffixes, &mut words)?;
     }
     Ok(words)
 }
@@ -93,7 +93,7 @@ fn push_symbol<S: Storage>(
 {
     match symbol {
         Symbol::Rule(rule) => match table.get(&usize::from(rule)) {
-            Some(backs) => join_all(alloc, words, backs),
+            Some(suffixes) => join_all(alloc, words, suffixes),
             None => Ok(Vec::new(alloc)),
         },
         Symbol::Token(token) => {
@@ -115,7 +115,7 @@ pub(crate) fn made_by_sequence<S: Storage>(
     symbols: &[Symbol<S>],
 ) -> Result<Vec<Vec<TIdx<S>>>, AllocError>
     ensures { IfOk result (λ words.
-        words_of S.number words ≡ row_words (sentences_in S.number table.now) (map (sym_of S.number) symbols.now)) }
+        words_of S.number words ≡ sequence_words (sentences_in S.number table.now) (map (sym_of S.number) symbols.now)) }
 {
     let mut words = Vec::new(alloc);
     words.push(Vec::new(alloc))?;

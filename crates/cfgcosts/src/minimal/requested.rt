@@ -25,7 +25,7 @@ impl<'a, S: Storage, T: Tables<S>> SentenceGenerator<'a, S, T> {
         }
     }
 
-    /// The rule, and the rules in base productions below the rules found so far, each with its cost.
+    /// The rule, and the rules in base productions that the rules found so far reach, each with its cost.
     ///
     /// # Errors
     ///

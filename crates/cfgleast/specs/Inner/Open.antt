@@ -2,10 +2,12 @@
 -- says which rules are settled, and at which cost.
 use Rattle.std.specs.Prelude.{◌≡◌, ℕ, ◌+◌, ◌<◌, ◌≤◌, ◌++◌, min, List, [], ◌∷◌, Option, Some, None, All, Contains, length, take, drop, sum_by, slice_index_or, slice_set}
 use Rattle.std.specs.List.Sorted.{IsPermutation}
-use Rattle.derivation.specs.Grammar.{Sym, Rule, Grammar, IsGrammar}
+use Rattle.derivation.specs.Grammar.{Rule, Grammar, IsGrammar}
 use Rattle.cfgtables.specs.Openings.{nth_production}
 use Rattle.cfgleast.specs.declared.partial.Partial.{Partial}
 use Rattle.derivation.specs.Sums.{sum_of, symbol_cost}
+use Rattle.derivation.specs.CostLists.{rule_cost}
+use Rattle.cfgleast.specs.CutSums.{IsCutSum}
 
 -- the productions that wait for a rule
 abbrev pub waiting_for : List (List Partial) → ℕ → List Partial
@@ -17,72 +19,58 @@ pub record IsAmong (list : List Partial) (p : ℕ) : Type 0 where
   pub among : Contains list entry
   pub is : entry.production ≡ p
 
-module _ (cost : ℕ → ℕ) (settled : ℕ → Option ℕ) where
-  -- what the symbols cost in total, cut down to 65536
-  pub record IsCutSum (symbols : List Sym) (sum : ℕ) : Type 0 where
-    pub total : ℕ
-    pub is : sum_of (symbol_cost cost settled) symbols ≡ Some total
-    pub cut : sum ≡ min total 65536
+module _ (cost : ℕ → ℕ) (settled : ℕ → Option ℕ) (g : Grammar) where
+  -- the production exists, and its first symbols were summed
+  pub record IsPartial (x : Partial) : Type 0 where
+    pub index : x.production < length g.productions
+    pub taken : x.taken ≤ length (nth_production g x.production).symbols
+    pub sum : IsCutSum cost settled (take x.taken (nth_production g x.production).symbols) x.sum
 
-  -- after the symbols that were summed comes a rule that isn't settled
-  pub record StopsAt (symbols : List Sym) (r : ℕ) (x : Partial) : Type 0 where
-    pub taken : x.taken < length symbols
-    pub symbol : slice_index_or symbols x.taken (Rule r) ≡ Rule r
-    pub sum : IsCutSum (take x.taken symbols) x.sum
-    pub unset : settled r ≡ None
+  -- the next symbol is this rule
+  pub record WaitsFor (r : ℕ) (x : Partial) : Type 0 where
+    pub index : x.production < length g.productions
+    pub taken : x.taken < length (nth_production g x.production).symbols
+    pub symbol : slice_index_or (nth_production g x.production).symbols x.taken (Rule r) ≡ Rule r
+    pub sum : IsCutSum cost settled (take x.taken (nth_production g x.production).symbols) x.sum
 
-  module _ (g : Grammar) where
-    -- the production exists, and its first symbols were summed
-    pub record IsPartial (x : Partial) : Type 0 where
-      pub index : x.production < length g.productions
-      pub taken : x.taken ≤ length (nth_production g x.production).symbols
-      pub sum : IsCutSum (take x.taken (nth_production g x.production).symbols) x.sum
+  -- production p entered the queue with its sum, or waits for a rule that isn't settled
+  pub data MovesOn (p : ℕ) (queue queue' : List (ℕ × ℕ)) (waiting waiting' : List (List Partial)) : Type 0 where
+    enters : (c : ℕ) → IsCutSum cost settled (nth_production g p).symbols c → IsPermutation ((c, p) ∷ queue) queue' → waiting' ≡ waiting
+        → MovesOn p queue queue' waiting waiting'
+    waits : (r : ℕ) (x : Partial) → x.production ≡ p → WaitsFor r x → settled r ≡ None → r < length waiting → queue' ≡ queue
+        → waiting' ≡ slice_set waiting r (waiting_for waiting r ++ x ∷ []) → MovesOn p queue queue' waiting waiting'
 
-    -- the next symbol is this rule
-    pub record WaitsFor (r : ℕ) (x : Partial) : Type 0 where
-      pub index : x.production < length g.productions
-      pub taken : x.taken < length (nth_production g x.production).symbols
-      pub symbol : slice_index_or (nth_production g x.production).symbols x.taken (Rule r) ≡ Rule r
-      pub sum : IsCutSum (take x.taken (nth_production g x.production).symbols) x.sum
+  module _ (queue : List (ℕ × ℕ)) (waiting : List (List Partial)) (moving : ℕ → Type 0) where
+    -- where a production is: in the queue, waiting for a rule that isn't settled, past both, or removed from both
+    pub data Phase (p : ℕ) : Type 0 where
+      queued : (c : ℕ) → Contains queue (c, p) → Phase p
+      held : (r : ℕ) (x : Partial) → settled r ≡ None → Contains (waiting_for waiting r) x → x.production ≡ p → Phase p
+      past : (d : ℕ) → settled (nth_production g p).rule ≡ Some d
+          → ((n : ℕ) → sum_of (symbol_cost cost settled) (nth_production g p).symbols ≡ Some n → d ≤ min n 65536) → Phase p
+      moved : moving p → Phase p
 
-    -- production p entered the queue with its sum, or waits for a rule that isn't settled
-    pub data MovesOn (p : ℕ) (queue queue' : List (ℕ × ℕ)) (waiting waiting' : List (List Partial)) : Type 0 where
-      enters : (c : ℕ) → IsCutSum (nth_production g p).symbols c → IsPermutation ((c, p) ∷ queue) queue' → waiting' ≡ waiting
-          → MovesOn p queue queue' waiting waiting'
-      waits : (r : ℕ) (x : Partial) → x.production ≡ p → WaitsFor r x → settled r ≡ None → r < length waiting → queue' ≡ queue
-          → waiting' ≡ slice_set waiting r (waiting_for waiting r ++ x ∷ []) → MovesOn p queue queue' waiting waiting'
+    -- each production is in one of these phases, and what is settled costs at most what is queued
+    pub record AreOpen (floor : ℕ) : Type 0 where
+      pub queued_sum : (c p : ℕ) → Contains queue (c, p) → IsCutSum cost settled (nth_production g p).symbols c
+      pub queued_position : (c p : ℕ) → Contains queue (c, p) → p < length g.productions
+      pub queued_above : (c p : ℕ) → Contains queue (c, p) → floor ≤ c
+      pub held_for : (r : ℕ) (x : Partial) → Contains (waiting_for waiting r) x → WaitsFor r x
+      pub phase : (p : ℕ) → p < length g.productions → Phase p
+      pub settled_below : (r c : ℕ) → settled r ≡ Some c → c ≤ floor
+      pub limit : floor ≤ 65536
 
-    module _ (queue : List (ℕ × ℕ)) (waiting : List (List Partial)) (moving : ℕ → Type 0) where
-      -- where a production is: in the queue, waiting for a rule that isn't settled, past both, or removed from both
-      pub data Phase (p : ℕ) : Type 0 where
-        queued : (c : ℕ) → Contains queue (c, p) → Phase p
-        held : (r : ℕ) (x : Partial) → settled r ≡ None → Contains (waiting_for waiting r) x → x.production ≡ p → Phase p
-        past : (d : ℕ) → settled (nth_production g p).rule ≡ Some d
-            → ((n : ℕ) → sum_of (symbol_cost cost settled) (nth_production g p).symbols ≡ Some n → d ≤ min n 65536) → Phase p
-        moved : moving p → Phase p
+  -- each production is in the queue or waits, or is past both
+  abbrev pub AreAllOpen : List (ℕ × ℕ) → List (List Partial) → Type 0
+  AreAllOpen queue waiting = (floor : ℕ) × AreOpen queue waiting (λ p. ⊥) floor
 
-      -- each production is in one of these phases, and what is settled costs at most what is queued
-      pub record AreOpen (floor : ℕ) : Type 0 where
-        pub queued_sum : (c p : ℕ) → Contains queue (c, p) → IsCutSum (nth_production g p).symbols c
-        pub queued_position : (c p : ℕ) → Contains queue (c, p) → p < length g.productions
-        pub queued_above : (c p : ℕ) → Contains queue (c, p) → floor ≤ c
-        pub held_for : (r : ℕ) (x : Partial) → Contains (waiting_for waiting r) x → WaitsFor r x
-        pub phase : (p : ℕ) → p < length g.productions → Phase p
-        pub settled_below : (r c : ℕ) → settled r ≡ Some c → c ≤ floor
-        pub limit : floor ≤ 65536
-
-    -- each production is in the queue or waits, or is past both
-    abbrev pub AreAllOpen : List (ℕ × ℕ) → List (List Partial) → Type 0
-    AreAllOpen queue waiting = (floor : ℕ) × AreOpen queue waiting (λ p. ⊥) floor
-
-    -- of the productions that waited for a rule, the first i have moved on; the rule is settled, at a cost that is at most what the others
-    -- cost
-    pub record AreWaking (queue : List (ℕ × ℕ)) (waiting : List (List Partial)) (woken : List Partial) (i : ℕ) : Type 0 where
-      pub rule : ℕ
-      pub floor : ℕ
-      pub now : settled rule ≡ Some floor
-      pub for : All (WaitsFor rule) woken
-      pub state : AreOpen queue waiting (IsAmong (drop i woken)) floor
+  -- of the productions that waited for a rule, the first i have moved on; the rule is settled, at a cost that is at most what the others
+  -- cost
+  pub record AreWaking (queue : List (ℕ × ℕ)) (waiting : List (List Partial)) (woken : List Partial) (i : ℕ) : Type 0 where
+    pub rule : ℕ
+    pub floor : ℕ
+    pub now : settled rule ≡ Some floor
+    pub for : All (WaitsFor rule) woken
+    pub state : AreOpen queue waiting (IsAmong (drop i woken)) floor
 
 -- how many productions are in the queue or wait
 abbrev pub count_open : List (ℕ × ℕ) → List (List Partial) → ℕ
@@ -94,3 +82,10 @@ pub record AreInput (g : Grammar) (most : ℕ) (costs : List ℕ) (least : List 
   pub positions : length g.productions ≤ most
   pub tokens : length costs ≡ g.tokens
   pub rules : length least ≡ g.rules
+
+-- the least entry has left the queue
+pub record HasPopped (g : Grammar) (cost : ℕ → ℕ) (least : List (Option ℕ)) (top : ℕ × ℕ) (queue : List (ℕ × ℕ)) (waiting : List (List Partial)) : Type 0 where
+  pub before : List (ℕ × ℕ)
+  pub state : AreAllOpen cost (rule_cost least) g before waiting
+  pub out : IsPermutation before (top ∷ queue)
+  pub cheapest : All (λ (entry : ℕ × ℕ). top.0 ≤ entry.0) queue

@@ -13,5 +13,6 @@ entry_of x = x.0
 abbrev pub sums_cmp : Reverse (ℕ × ℕ) → Reverse (ℕ × ℕ) → Ordering
 sums_cmp x y = ordering_then (nat_cmp y.0.0 x.0.0) (nat_cmp y.0.1 x.0.1)
 
+-- the list is a heap in that order
 abbrev pub IsQueue : List (Reverse (ℕ × ℕ)) → Type 0
 IsQueue xs = IsHeap sums_cmp xs

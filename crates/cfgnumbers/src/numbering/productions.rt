@@ -11,7 +11,7 @@ ghost use Rattle.cfgtree.specs.Sound.{IsSound};
 ghost use Rattle.cfgnumbers.specs.Fits.{LeavesRoom};
 ghost use Rattle.cfgnumbers.specs.Numbered.{added_production, added_productions, file_production, token_index};
 ghost use Rattle.cfgnumbers.specs.Numbered.{file_token, precedence_of_token};
-ghost use Rattle.cfgnumbers.specs.Inner.Resolved.{AreTokens, IsResolved, Resolves};
+ghost use Rattle.cfgnumbers.specs.Resolved.{AreTokens, IsResolved, Resolves};
 ghost use Rattle.cfgnumbers.specs.TablesView.{names, file_of, implicit_in, token_view};
 ghost use Rattle.cfgtables.specs.NumberedSymbols.{sym_of};
 

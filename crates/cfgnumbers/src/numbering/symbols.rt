@@ -8,7 +8,7 @@ ghost use Rattle.cfgtree.specs.Check.{symbol_error};
 ghost use Rattle.cfgnumbers.specs.Fits.{LeavesRoom};
 ghost use Rattle.cfgnumbers.specs.Numbered.{rule_index, rules_before, token_index, file_symbol, file_symbols, spaced};
 ghost use Rattle.cfgnumbers.specs.Numbered.{start_symbols, last_token, token_in};
-ghost use Rattle.cfgnumbers.specs.Inner.Resolved.{IsResolved};
+ghost use Rattle.cfgnumbers.specs.Resolved.{IsResolved};
 ghost use Rattle.cfgnumbers.specs.TablesView.{file_of, implicit_in};
 ghost use Rattle.cfgtables.specs.NumberedSymbols.{sym_of};
 

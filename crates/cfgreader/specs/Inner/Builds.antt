@@ -13,15 +13,11 @@ use Rattle.cfgwords.specs.declared.words.Word.{Word as CodeWord}
 use Rattle.cfgwords.specs.declared.words.Token.{Token as CodeToken}
 use Rattle.cfgast.specs.Items.{Item}
 use Rattle.cfgast.specs.Building.{add}
-use Rattle.cfgast.specs.Syntax.{Syntax, syntax_of}
-use Rattle.cfgast.specs.SyntaxView.{syntax_view, syntax_built, word_view, token_view}
-use Rattle.cfgast.specs.declared.syntax.Syntax.{Syntax as CodeSyntax}
-use Rattle.cfgkinds.specs.declared.kind.YaccKind.{YaccKind}
-use Rattle.constructs.specs.Construct.{Construct, computes}
-use Rattle.constructs.specs.Read.{stop_of}
+use Rattle.cfgast.specs.Syntax.{Syntax}
+use Rattle.cfgast.specs.SyntaxView.{syntax_built, word_view, token_view}
+use Rattle.constructs.specs.Construct.{Construct}
 use Rattle.constructs.specs.Steps as steps
 use Rattle.constructs.specs.Steps.{ReaderKind}
-use Rattle.cfgreader.specs.FileGrammar.{file}
 use Rattle.cfgreader.specs.declared.bodies.Part.{Part as CodePart}
 use Rattle.cfgreader.specs.declared.bodies.Part.TheVariants as code_parts
 use Rattle.cfgreader.specs.declared.bodies.Parts.{Parts as CodeParts}
@@ -92,8 +88,3 @@ abbrev pub IsActionHere : Reader → Reader → Option (Bor (List ℕ) × Span) 
 IsActionHere old new (Some action) = (action_of old.rest.now ≡ Some (action.0.now, new.rest.now))
     × (action_at old.len old.rest.now action.0.now new.rest.now ≡ (action.0.now, action.1)) × (new.len ≡ old.len) × (new.tree ≡ old.tree)
 IsActionHere old new None = (action_of old.rest.now ≡ None) × (new ≡ old)
-
--- what a file says, and what stopped its reading
-abbrev pub IsFile : YaccKind → ℕ → List ℕ → CodeSyntax × Option Fault → Type 0
-IsFile kind len rest (syntax, stop) = (syntax_view syntax ≡ syntax_of (computes (file kind len) rest).items)
-    × (stop ≡ stop_of (computes (file kind len) rest).outcome)

@@ -1,7 +1,7 @@
 use Rattle.std.proofs.Common.{◌+◌, length, refl, sym, subst, ap, ◌∙◌, arith}
 use Rattle.std.proofs.lemmas.List.{length_push}
 use Rattle.cfgleast.specs.Generator.{tables_of}
-use Rattle.cfgchoices.specs.Inner.Kinds.{IsKind}
+use Rattle.cfgchoices.specs.Kinds.{IsKind}
 use Rattle.cfgchoices.specs.declared.kinds.Kind.TheVariants.{Suboptimal}
 use Rattle.cfgleast.proofs.Pushed.{each_push}
 use Rattle.cfgchoices.proofs.Optimal.{targets_are_rules}

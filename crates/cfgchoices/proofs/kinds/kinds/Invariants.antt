@@ -1,6 +1,6 @@
 use Rattle.std.proofs.Common.{◌≡◌, ℕ, ◌<◌, length, get_or}
 use Rattle.cfgleast.specs.Generator.{tables_of}
-use Rattle.cfgchoices.specs.Inner.Kinds.{IsKind}
+use Rattle.cfgchoices.specs.Kinds.{IsKind}
 use Rattle.cfgchoices.specs.declared.kinds.Kind.TheVariants.{Suboptimal}
 use Rattle.cfgchoices.proofs.kinds.kinds.Given as goal
 

@@ -1,6 +1,6 @@
 use Rattle.std.specs.Prelude.{slice_index}
 use Rattle.derivation.specs.Grammar.{HasProduction}
-use Rattle.cfgchoices.proofs.Firsts.{first_of_sequence}
+use Rattle.cfgchoices.proofs.FirstSentences.{first_of_sequence}
 use Rattle.cfgchoices.proofs.Lengths.{productions_paid}
 use Rattle.cfgcosts.proofs.laws.first_sentences_make_the_first.Goals as goal
 

@@ -1,6 +1,6 @@
 use Rattle.std.specs.Prelude.{slice_index}
 use Rattle.derivation.specs.Grammar.{HasProduction}
-use Rattle.cfgchoices.proofs.Firsts.{begins_none}
+use Rattle.cfgchoices.proofs.FirstSentences.{begins_none}
 use Rattle.cfgchoices.proofs.Lengths.{productions_paid}
 use Rattle.cfgcosts.proofs.laws.no_minimal_sentence_begins_another.Goals as goal
 

@@ -1,14 +1,14 @@
 use Rattle.std.proofs.Common.{◌≡◌, ◌+◌, ◌<◌, get_or, length, take, sym, subst, ◌∙◌, arith}
 use Rattle.std.proofs.lemmas.List.{get_or_default, length-map}
 use Rattle.cfgtables.proofs.Slices.{mapped_within, mapped_at, mapped_all}
-use Rattle.cfgchoices.specs.Inner.Kinds.{production_numbers}
+use Rattle.cfgchoices.specs.Kinds.{production_numbers}
 use Rattle.cfgchoices.specs.declared.kinds.Kind.TheVariants.{Suboptimal}
 use Rattle.lemmas.proofs.Options.{None-from_is_some}
 use Rattle.cfgcosts.proofs.OnlyTargets.{OnlyOne, only_ends, only_found, only_suboptimal}
 use Rattle.cfgcosts.proofs.targets.only_target.Given.{Over}
 use Rattle.cfgcosts.proofs.targets.only_target.Goals.{After-from}
 use Rattle.cfgcosts.proofs.targets.only_target.Goals as goal
-use Rattle.cfgcosts.proofs.targets.only_target.Goals.{in-Suboptimal, in-ChainsTo}
+use Rattle.cfgcosts.proofs.targets.only_target.Goals.{in-Suboptimal, in-Chain}
 
 inside : (g : Over) (c : After-from g) → c.from.result < length c.args.kinds.now
 inside g c = subst (λ m. m < length c.args.kinds.now) (sym c.from.ensures) (subst (λ m. g.S.Storage.number c.p-item.result.0 < m) (sym c.requires.kinds)
@@ -35,8 +35,8 @@ loop-p-preserved g c =
     elim c.match-kind.branch [
       | in-Suboptimal w ↦ subst (OnlyOne kinds (take (c.loop-p.p-index + 1) positions)) (sym w.only-is)
           (only_suboptimal kinds positions c.loop-p.p-index p within at c.loop-p.only c.loop-p.invariant (kind ∙ w.in-Suboptimal.is))
-      | in-ChainsTo w ↦ subst (OnlyOne kinds (take (c.loop-p.p-index + 1) positions)) (sym w.only-is)
-          (only_found kinds positions c.loop-p.p-index p within at c.loop-p.only w.in-ChainsTo.target (None-from_is_some c.loop-p.only w.if-is_none.ensures) c.loop-p.invariant (kind ∙ w.in-ChainsTo.is))
+      | in-Chain w ↦ subst (OnlyOne kinds (take (c.loop-p.p-index + 1) positions)) (sym w.only-is)
+          (only_found kinds positions c.loop-p.p-index p within at c.loop-p.only w.in-Chain.target (None-from_is_some c.loop-p.only w.if-is_none.ensures) c.loop-p.invariant (kind ∙ w.in-Chain.is))
     ]
 
 pub returns : goal.returns

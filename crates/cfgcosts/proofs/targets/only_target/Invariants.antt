@@ -1,5 +1,5 @@
 use Rattle.std.proofs.Common.{take}
-use Rattle.cfgchoices.specs.Inner.Kinds.{production_numbers}
+use Rattle.cfgchoices.specs.Kinds.{production_numbers}
 use Rattle.cfgcosts.proofs.OnlyTargets.{OnlyOne}
 use Rattle.cfgcosts.proofs.targets.only_target.Given as goal
 

@@ -6,7 +6,7 @@ use Rattle.cfgtables.specs.Openings.{nth_production}
 use Rattle.cfgleast.specs.Certificate.{choice_of}
 use Rattle.derivation.specs.CostLists.{rule_cost}
 use Rattle.cfgleast.specs.Inner.Open.{AreAllOpen, AreInput}
-use Rattle.cfgleast.specs.Inner.Settled.{AreChosen}
+use Rattle.cfgleast.specs.Settled.{AreSettledSoFar}
 use Rattle.cfgleast.proofs.Settles.{popped_position, popped_again, settles_chosen, settles_woken, settled_if_some, unset_if_none, owner_within}
 use Rattle.cfgleast.proofs.settle.settle_next.Given.{Over}
 use Rattle.cfgleast.proofs.settle.settle_next.Goals.{After-from-rule}
@@ -62,7 +62,7 @@ returns-clause-chosen g c =
     let rule = rule_within g at in
     let within : c.from-rule.result < length least = omega (arith, rule, c.requires.input.rules) in
     let unset = unset_if_none least c.from-rule.result c.index.result.now within c.index.ensures (sym c.is_some.ensures ∙ c.if-is_some.false) in
-    on_ok_weaker {Q = AreChosen grammar (slice_index c.args.costs.now) c.settle.new.self.least.items (map (choice_of g.S.Storage.number) c.settle.new.self.choices.items) c.settle.new.self.number}
+    on_ok_weaker {Q = AreSettledSoFar grammar (slice_index c.args.costs.now) c.settle.new.self.least.items (map (choice_of g.S.Storage.number) c.settle.new.self.choices.items) c.settle.new.self.number}
     c.wake.result (λ _. settles_chosen grammar (slice_index c.args.costs.now) least c.args.top c.args.queue.now c.args.waiting.now c.requires.popped
     choices c.args.settled.now.number c.from-rule.result c.requires.chosen rule unset (sym (owner g at))
     c.settle.new.self.least.items (map (choice_of g.S.Storage.number) c.settle.new.self.choices.items) c.settle.new.self.number

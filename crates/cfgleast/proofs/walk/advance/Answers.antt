@@ -6,7 +6,8 @@ use Rattle.derivation.specs.Grammar.{Sym}
 use Rattle.cfgtables.specs.NumberedSymbols.{sym_of}
 use Rattle.cfgtables.specs.Openings.{nth_production}
 use Rattle.derivation.specs.CostLists.{IsListed, rule_cost}
-use Rattle.cfgleast.specs.Inner.Open.{IsCutSum, StopsAt, MovesOn, enters, waits}
+use Rattle.cfgleast.specs.CutSums.{IsCutSum, StopsAt}
+use Rattle.cfgleast.specs.Inner.Open.{MovesOn, enters, waits}
 use Rattle.derivation.proofs.Listed.{symbols_listed}
 use Rattle.cfgleast.proofs.Walked.{stop_listed, stop_waits}
 use Rattle.cfgleast.proofs.walk.advance.Goals as goal

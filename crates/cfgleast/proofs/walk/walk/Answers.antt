@@ -5,7 +5,7 @@ use Rattle.derivation.specs.Grammar.{Sym, Rule}
 use Rattle.cfgtables.specs.NumberedSymbols.{sym_of}
 use Rattle.derivation.specs.CostLists.{IsListed, rule_cost}
 use Rattle.derivation.proofs.Sequences.{shown_at, shown_within, shown_holds}
-use Rattle.cfgleast.specs.Inner.Open.{IsCutSum}
+use Rattle.cfgleast.specs.CutSums.{IsCutSum}
 use Rattle.cfgleast.proofs.Walked.{cut_more}
 use Rattle.cfgleast.proofs.walk.walk.Goals as goal
 

@@ -2,7 +2,7 @@ use Rattle.std.proofs.Common.{map, take}
 use Rattle.std.specs.List.{slice_index}
 use Rattle.cfgtables.specs.NumberedSymbols.{sym_of}
 use Rattle.derivation.specs.CostLists.{rule_cost}
-use Rattle.cfgleast.specs.Inner.Open.{IsCutSum}
+use Rattle.cfgleast.specs.CutSums.{IsCutSum}
 use Rattle.cfgleast.proofs.walk.walk.Given as goal
 
 abbrev pub invariant-loop-index : goal.invariant-loop-index

@@ -1,8 +1,8 @@
 use Rattle.std.proofs.Common.{◌≡◌, ℕ, zero, suc, ◌∷◌, Option, None, map, replicate, refl, ap, ◌∙◌}
 use Rattle.cfgindex.specs.declared.idxnewtype.PIdx.{PIdx}
-use Rattle.cfgchoices.specs.Inner.Kinds.{production_numbers}
+use Rattle.cfgchoices.specs.Kinds.{production_numbers}
 use Rattle.cfgchoices.specs.Inner.Candidates.{candidates_of, production_number}
-use Rattle.cfgchoices.proofs.ChosenBelow.{climbed_begins}
+use Rattle.cfgchoices.proofs.CheaperChosen.{climbed_begins}
 use Rattle.cfgchoices.proofs.first.by_cost.choices_by_cost.Goals as goal
 
 no_positions : {S : Type 0} (number : S → ℕ) (n : ℕ) → map (production_number number) (replicate {A = Option (PIdx S)} n None) ≡ replicate n None

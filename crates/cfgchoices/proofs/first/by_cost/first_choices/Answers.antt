@@ -1,7 +1,7 @@
 use Rattle.std.proofs.Common.{◌≡◌, ℕ, Option, Result, Vec, Global, IfOk, map, sym, ap, subst, ◌∙◌}
 use Rattle.cfgindex.specs.declared.idxnewtype.PIdx.{PIdx}
 use Rattle.cfgleast.specs.Certificate.{choice_of}
-use Rattle.cfgchoices.specs.Inner.FirstChoices.{AreFirst, AreChosen}
+use Rattle.cfgchoices.specs.FirstChoices.{AreFirst, AreChosen}
 use Rattle.cfgleast.specs.Generator.{CostTables}
 use Rattle.cfgchoices.specs.Inner.Candidates.{with_choices}
 use Rattle.cfgchoices.proofs.first.by_cost.first_choices.Goals as goal

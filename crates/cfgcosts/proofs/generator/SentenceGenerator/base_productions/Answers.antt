@@ -3,8 +3,8 @@ use Rattle.std.proofs.lemmas.List.{length-replicate}
 use Rattle.search.specs.Reachable.{Reaches, SearchState}
 use Rattle.search.proofs.Reaching.{Begun, begun, less_to_do, popped_within}
 use Rattle.cfgleast.specs.Generator.{CostTables}
-use Rattle.cfgchoices.specs.Inner.Kinds.{production_numbers}
-use Rattle.cfgcosts.proofs.BaseBelow.{BaseSearch, base_search_begins, base_search_goes_on, base_search_ends}
+use Rattle.cfgchoices.specs.Kinds.{production_numbers}
+use Rattle.cfgcosts.proofs.ReachedBases.{BaseSearch, base_search_begins, base_search_goes_on, base_search_ends}
 use Rattle.cfgcosts.proofs.generator.SentenceGenerator.base_productions.Goals as goal
 
 pub reach-requires : goal.reach-requires

@@ -1,6 +1,6 @@
 use Rattle.search.proofs.Reaching.{left_to_do}
-use Rattle.cfgchoices.specs.Inner.Kinds.{production_numbers}
-use Rattle.cfgcosts.proofs.BaseBelow.{BaseSearch}
+use Rattle.cfgchoices.specs.Kinds.{production_numbers}
+use Rattle.cfgcosts.proofs.ReachedBases.{BaseSearch}
 use Rattle.cfgcosts.proofs.generator.SentenceGenerator.base_productions.Given as goal
 
 abbrev pub invariant-loop-node : goal.invariant-loop-node

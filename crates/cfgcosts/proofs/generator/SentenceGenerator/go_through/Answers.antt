@@ -4,8 +4,8 @@ use Rattle.search.proofs.Each.{each_none, each_more, each_all, found_mapped}
 use Rattle.cfgtables.specs.Openings.{ArePositionsOf}
 use Rattle.cfgtables.proofs.Slices.{mapped_within, mapped_at, mapped_all}
 use Rattle.cfgleast.specs.Generator.{CostTables}
-use Rattle.cfgchoices.specs.Inner.Kinds.{IsTarget, production_numbers}
-use Rattle.cfgcosts.proofs.BaseBelow.{targets_end, owns_begin, owns_more, owns_end}
+use Rattle.cfgchoices.specs.Kinds.{IsChain, production_numbers}
+use Rattle.cfgcosts.proofs.ReachedBases.{targets_end, owns_begin, owns_more, owns_end}
 use Rattle.cfgcosts.proofs.generator.SentenceGenerator.go_through.Goals as goal
 
 pub rule_to_prods-p-items-requires : goal.rule_to_prods-p-items-requires
@@ -43,7 +43,7 @@ returns g c =
     let positions = production_numbers g.S.Storage.number c.rule_to_prods-p-items.result.now in
     let are = subst (λ (x : CostTables). ArePositionsOf x.grammar rule positions) c.self.view_is c.rule_to_prods-p-items.ensures in
     record {
-      targets = targets_end x positions rule are _ _ (found_mapped (λ p. g.S.Storage.number p.0) (IsTarget x) c.rule_to_prods-p-items.result.now _ _
+      targets = targets_end x positions rule are _ _ (found_mapped (λ p. g.S.Storage.number p.0) (IsChain x) c.rule_to_prods-p-items.result.now _ _
           (each_all _ _ _ _ _ (omega (arith, c.loop-p-test.false, c.loop-p.auto.p-index-end)) c.loop-p.invariant.targets));
       base = owns_end x positions rule are c.loop-p.p-index (simp length-map (omega (arith, c.loop-p-test.false, c.loop-p.auto.p-index-end))) _ _ c.loop-p.invariant.base;
     }

@@ -3,7 +3,7 @@ use Rattle.cfgindex.specs.declared.idxnewtype.RIdx.{RIdx}
 use Rattle.derivation.proofs.Sequences.{item_shown}
 use Rattle.cfgleast.specs.Generator.{CostTables}
 use Rattle.cfgcosts.specs.Inner.Targets.{AreTargets, HasSameSentences, rules_of}
-use Rattle.cfgchoices.specs.Inner.Kinds.{AreKinds}
+use Rattle.cfgchoices.specs.Kinds.{AreKinds}
 use Rattle.cfgcosts.proofs.OnlyTargets.{target_same}
 use Rattle.cfgcosts.proofs.generator.SentenceGenerator.last_target.Goals as goal
 

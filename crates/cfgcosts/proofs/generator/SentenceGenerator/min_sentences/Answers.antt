@@ -4,7 +4,7 @@ use Rattle.std.specs.Result.{result_ok}
 use Rattle.derivation.specs.Grammar.{HasProduction}
 use Rattle.derivation.specs.declared.errors.CostError.TheVariants.{NoSentence, CostTooLarge}
 use Rattle.cfgleast.specs.Generator.{token_cost}
-use Rattle.cfgchoices.proofs.Firsts.{begins_none}
+use Rattle.cfgchoices.proofs.FirstSentences.{begins_none}
 use Rattle.cfgchoices.proofs.Lengths.{productions_paid}
 use Rattle.cfgcosts.specs.Sentences.{numbers_of}
 use Rattle.cfgcosts.proofs.Refused.{known_memory, known_sentence, refused}

@@ -2,8 +2,8 @@ use Rattle.std.proofs.Common.{◌≡◌, ◌<◌, List, ℕ, All, length, arith,
 use Rattle.std.specs.Prelude.{slice_index}
 use Rattle.cfggreatest.specs.GreatestCosts.{AreGreatestCosts}
 use Rattle.cfgleast.specs.Generator.{IsGeneratorOf, tables_of}
-use Rattle.cfgchoices.specs.Inner.FirstChoices.{AreFirst, AreChosen}
-use Rattle.cfgchoices.specs.Inner.Kinds.{AreKinds, HasRulesAsTargets}
+use Rattle.cfgchoices.specs.FirstChoices.{AreFirst, AreChosen}
+use Rattle.cfgchoices.specs.Kinds.{AreKinds, HasRulesAsTargets}
 use Rattle.cfgcosts.specs.Inner.Targets.{AreTargets, rules_of}
 use Rattle.cfgcosts.proofs.generator.SentenceGenerator.new.Given.{Over}
 use Rattle.cfgcosts.proofs.generator.SentenceGenerator.new.Goals.{In_ok-settled}

@@ -7,7 +7,7 @@ use Rattle.cfganalysis.specs.Paths.{HeldIn}
 use Rattle.search.specs.Reachable.{FoundBy, Reaches, SearchState}
 use Rattle.search.proofs.Reaching.{Begun, begun, less_to_do, popped_reachable, popped_within}
 use Rattle.cfgleast.specs.Generator.{CostTables, IsGenerator}
-use Rattle.cfgchoices.specs.Inner.Kinds.{production_numbers}
+use Rattle.cfgchoices.specs.Kinds.{production_numbers}
 use Rattle.cfgcosts.proofs.RequestedRules.{Asking, HasAnswer, answered, asking_begins, asking_goes_on, asking_ends}
 use Rattle.cfgcosts.proofs.generator.SentenceGenerator.requested_rules.Goals as goal
 

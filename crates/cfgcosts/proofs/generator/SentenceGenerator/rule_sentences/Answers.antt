@@ -1,7 +1,7 @@
 use Rattle.std.proofs.Common.{◌↔◌, ◌<◌, ℕ, [], ◌∷◌, ◌++◌, All, Contains, length, map, sym, ap, subst, ◌∙◌, arith}
 use Rattle.std.proofs.lemmas.List.Elements.{All-contains_itself, All-weaker}
 use Rattle.cfgcosts.specs.Inner.Minimal.{AreMinimal}
-use Rattle.cfgchoices.specs.Inner.Kinds.{IsBaseBelow, production_numbers}
+use Rattle.cfgchoices.specs.Kinds.{ReachesBase, production_numbers}
 use Rattle.cfgcosts.specs.Sentences.{numbers_of}
 use Rattle.cfgcosts.proofs.Filled.{all_minimal, free_alone}
 use Rattle.cfgcosts.proofs.generator.SentenceGenerator.rule_sentences.Goals as goal
@@ -27,6 +27,6 @@ returns g c =
     let x = c.args.self.now in
     let (n, is) = c.invariant_holds.ensures.generator in
     let r = number c.args.rule.0 in
-    let base = subst (λ l. (p : ℕ) → Contains (production_numbers number l) p ↔ IsBaseBelow x r p) (sym c.deref.ensures.value) c.in_ok-base.ensures in
+    let base = subst (λ l. (p : ℕ) → Contains (production_numbers number l) p ↔ ReachesBase x r p) (sym c.deref.ensures.value) c.in_ok-base.ensures in
     all_minimal x n is c.invariant_holds.ensures.grammar r c.args.cost c.requires.known _ (production_numbers number c.deref.result.now) (omega (arith, c.if-cost-eq0.false)) c.requires.ready base _
     c.made_words.result c.made_words.ensures.all c.made_words.ensures.order

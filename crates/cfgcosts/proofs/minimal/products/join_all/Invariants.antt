@@ -8,5 +8,5 @@ invariant-loop-prefix g l =
     let numbers = numbers_of g.S.Storage.number in
     record {
       given : l.fn.prefixes.items ≡ l.yielded ++ l.prefix-iterator.rest.items;
-      words : map numbers l.words.items ≡ joined (map numbers l.yielded) (map numbers l.backs);
+      words : map numbers l.words.items ≡ joined (map numbers l.yielded) (map numbers l.suffixes);
     }

@@ -5,7 +5,7 @@ use Rattle.std.proofs.lemmas.Iterator.Consumers.{YieldsList-end}
 use Rattle.cfgast.specs.Syntax.{Production}
 use Rattle.cfgast.specs.declared.production.Production as source
 use Rattle.cfgnumbers.specs.Numbered.{file_production}
-use Rattle.cfgnumbers.specs.Inner.Resolved.{Resolves}
+use Rattle.cfgnumbers.specs.Resolved.{Resolves}
 use Rattle.cfgnumbers.specs.TablesView.{file_of, implicit_in}
 use Rattle.lemmas.proofs.Roads.{item_holds, more_shown}
 use Rattle.cfgnumbers.proofs.RowLemmas.{production_seen, productions_road}

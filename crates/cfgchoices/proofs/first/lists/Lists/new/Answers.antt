@@ -3,7 +3,7 @@ use Rattle.std.proofs.lemmas.List.{get_or_default, length-replicate}
 use Rattle.derivation.specs.CostLists.{rule_cost}
 use Rattle.cfgleast.specs.Generator.{tables_of}
 use Rattle.cfgleast.proofs.Generated.{answered_some}
-use Rattle.cfgchoices.specs.Inner.Kinds.{IsTarget, IsKind}
+use Rattle.cfgchoices.specs.Kinds.{IsChain, IsKind}
 use Rattle.cfgchoices.specs.Inner.Lists.{AreLists, IsBaseAt}
 use Rattle.cfgchoices.specs.declared.kinds.Kind.TheVariants.{Suboptimal}
 use Rattle.cfgchoices.proofs.Listed.{listed_none}
@@ -16,13 +16,13 @@ loop-left-init g c =
     let n = length c.args.kinds.now in
     let all = c.requires.kinds.all in
     let base = c.in_ok-no_productions.ensures in
-    let chaining = c.in_ok-no_productions-2.ensures in record {
+    let chain = c.in_ok-no_productions-2.ensures in record {
       lists = record {
         base = listed_none number (IsBaseAt x) n _ c.in_ok-no_productions.field-0.items c.in_ok-no_productions-3.field-0.items (λ k p i. subst (λ m. p < m) (sym all) i.0.optimal.index) base;
-        chaining = listed_none number (λ r p. IsTarget x p r) n _ c.in_ok-no_productions-2.field-0.items c.in_ok-no_productions-3.field-0.items (λ k p i. subst (λ m. p < m) (sym all) i.optimal.index) chaining;
+        chain = listed_none number (λ r p. IsChain x p r) n _ c.in_ok-no_productions-2.field-0.items c.in_ok-no_productions-3.field-0.items (λ k p i. subst (λ m. p < m) (sym all) i.optimal.index) chain;
         costs = λ r d e. subst (λ m. d < m) (sym (ap length base ∙ length-replicate c.costs_len.result None))
             (c.costs_len.ensures r d (subst (λ l. rule_cost l r ≡ Some d) (sym c.deref.ensures.value) (answered_some (rule_cost x.least r) d e).0));
-        rules = ap length chaining ∙ length-replicate c.from.result None ∙ c.from.ensures ∙ c.rules_len.ensures.value;
+        rules = ap length chain ∙ length-replicate c.from.result None ∙ c.from.ensures ∙ c.rules_len.ensures.value;
         positions = ap length c.in_ok-no_productions-3.ensures ∙ length-replicate n None ∙ all;
       };
       left = omega arith;

@@ -1,6 +1,6 @@
 use Rattle.std.proofs.Common.{◌≡◌, ◌<◌, ◌+◌, None, get_or, sym, ap, subst, ◌∙◌, arith}
 use Rattle.std.proofs.lemmas.List.{get_or_default}
-use Rattle.cfgchoices.specs.Inner.Kinds.{IsTarget}
+use Rattle.cfgchoices.specs.Kinds.{IsChain}
 use Rattle.cfgchoices.specs.Inner.Lists.{AreLists, IsFirstFrom, IsBaseAt}
 use Rattle.cfgchoices.specs.Inner.Candidates.{Known}
 use Rattle.cfgchoices.proofs.first.optimal.OptimalTables.next.Given.{Over}
@@ -22,8 +22,8 @@ returns-clause-base g c =
     let at = (goal.at.returns-clause-base g c).After-index in
     λ k base. subst (IsFirstFrom g.S.Storage.number (IsBaseAt c.args.self.now.tables k) (p + 1)) (read g at) ((lists g at).base.after k p (omega arith) base)
 
-pub returns-clause-chaining : goal.returns-clause-chaining
-returns-clause-chaining g c =
+pub returns-clause-chain : goal.returns-clause-chain
+returns-clause-chain g c =
     let p = g.S.Storage.number c.args.p.0 in
-    let at = (goal.at.returns-clause-chaining g c).After-index in
-    λ r target. subst (IsFirstFrom g.S.Storage.number (λ q. IsTarget c.args.self.now.tables q r) (p + 1)) (read g at) ((lists g at).chaining.after r p (omega arith) target)
+    let at = (goal.at.returns-clause-chain g c).After-index in
+    λ r target. subst (IsFirstFrom g.S.Storage.number (λ q. IsChain c.args.self.now.tables q r) (p + 1)) (read g at) ((lists g at).chain.after r p (omega arith) target)

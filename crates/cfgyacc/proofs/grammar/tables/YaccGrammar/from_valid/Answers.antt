@@ -7,7 +7,7 @@ use Rattle.cfgtree.specs.WellFormed.{IsWellFormed}
 use Rattle.cfgtree.specs.Sound.{IsSound}
 use Rattle.cfgnumbers.specs.Fits.{LeavesRoom}
 use Rattle.cfgnumbers.specs.Numbered.{added_productions, added_rules, file_production, file_rule, file_token}
-use Rattle.cfgnumbers.specs.Inner.Resolved.{AreTokens, IsResolved}
+use Rattle.cfgnumbers.specs.Resolved.{AreTokens, IsResolved}
 use Rattle.cfgnumbers.specs.TablesView.{file_of, implicit_in}
 use Rattle.cfgnumbers.specs.WellNumbered.{IsWellNumbered}
 use Rattle.cfgyacc.proofs.Built.{built, of_both, well_numbered}
