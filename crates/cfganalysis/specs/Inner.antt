@@ -6,4 +6,5 @@ pub mod Work
 pub mod Growth
 pub mod GrowingFirsts
 pub mod GrowingFollows
+pub mod GrowingProductive
 pub mod Bounds

@@ -3,4 +3,5 @@ pub mod Table
 pub mod Firsts
 pub mod Follows
 pub mod Paths
+pub mod ProductiveRules
 pub mod Inner

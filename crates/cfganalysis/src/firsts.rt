@@ -126,7 +126,7 @@ fn note_symbol<S: Storage>(
 /// # Errors
 ///
 /// Out of memory.
-pub fn note_rules<S: Storage>(
+pub(crate) fn note_rules<S: Storage>(
     production: usize,
     symbols: &[Symbol<S>],
     users: &mut Users,

@@ -12,7 +12,7 @@ use cfgindex::{RIdx, Storage, Symbol};
 use std::alloc::AllocError;
 
 /// Sets of tokens, one for each rule, that grow by what productions give.
-pub trait Analysis<S: Storage> {
+pub(crate) trait Analysis<S: Storage> {
     // These are sets of the grammar, and what they say is true.
     ghost holds: { Grammar → Self → Type 0 };
 

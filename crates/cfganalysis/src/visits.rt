@@ -106,7 +106,7 @@ fn visit_next<S: Storage, P: Productions<S>, A: Analysis<S>>(
 /// # Errors
 ///
 /// Out of memory.
-pub fn visit_all<S: Storage, P: Productions<S>, A: Analysis<S>>(
+pub(crate) fn visit_all<S: Storage, P: Productions<S>, A: Analysis<S>>(
     alloc: Global,
     productions: &mut P,
     analysis: &mut A,

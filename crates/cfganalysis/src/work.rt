@@ -9,7 +9,7 @@ use cfgindex::ListTable;
 use std::alloc::{AllocError, Global};
 
 /// For each rule, the numbers of the productions that depend on it: what they give depends on the rule's set.
-pub type Users = ListTable<usize>;
+pub(crate) type Users = ListTable<usize>;
 
 /// Notes that a production depends on the rule.
 ///
