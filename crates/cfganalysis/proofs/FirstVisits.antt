@@ -11,11 +11,11 @@ use Rattle.derivation.proofs.Firsts.{nullable_map, begins_map, closed_first, clo
 use Rattle.search.proofs.Bits.{bit_put, bits_on-fewer, bits_on-set}
 use Rattle.cfgtables.proofs.Located.{owner}
 use Rattle.cfganalysis.specs.Firsts.{FirstSets, AreFirsts, IsAmongFirsts, IsNullableRule, nullable_bit}
-use Rattle.cfganalysis.specs.Inner.GrowingFirsts.{AreNullableBy, is_nullable_symbol, AreSoundFirsts, CoverFirstsOf, BeginsBy, no_firsts, with_nullable, HasNoMoreFirsts, count_firsts}
+use Rattle.cfganalysis.specs.Inner.GrowingFirsts.{AreNullableBy, is_nullable_symbol, AreSoundFirsts, CoverFirstsOf, BeginsBy, no_firsts, with_nullable, HasNoMoreFirsts, HoldsRule, count_firsts}
 use Rattle.cfganalysis.specs.Table.{IsTable, Joins, bits_on}
-use Rattle.cfganalysis.specs.Growth.{HoldsRule, CoversEach, AddsProduction}
+use Rattle.cfganalysis.specs.Inner.Growth.{CoversEach, AddsProduction}
 use Rattle.cfganalysis.proofs.Joins.{bit-no_bits, IsTable-no_bits, count_of-fewer}
-use Rattle.cfganalysis.specs.Waiting.{Waits, NoneWaits}
+use Rattle.cfganalysis.specs.Inner.Waiting.{Waits, NoneWaits}
 
 module _ (E : ℕ → Type 0) (F : ℕ → ℕ → Type 0) where
   pub begins_prefix : (a b : List Sym) (t : ℕ) → Begins E F a t → Begins E F (a ++ b) t

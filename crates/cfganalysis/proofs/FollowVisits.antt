@@ -12,8 +12,8 @@ use Rattle.search.proofs.Bits.{bit_put}
 use Rattle.cfganalysis.specs.Table.{HasBit, count_of, IsTable, Joins, no_bits, with_bit}
 use Rattle.cfganalysis.specs.Firsts.{AreFirsts, IsAmongFirsts, IsNullableRule, FirstSets}
 use Rattle.cfganalysis.specs.Inner.GrowingFollows.{FollowSets, AreSoundFollows, HasNoMoreFollows, CoverFollowsOf, IsOwner, CoversFollowIn, After, Puts, PutsAfter, count_follows}
-use Rattle.cfganalysis.specs.Growth.{AddsProduction, CoversEach}
-use Rattle.cfganalysis.specs.Waiting.{waits, Waits, NoneWaits}
+use Rattle.cfganalysis.specs.Inner.Growth.{AddsProduction, CoversEach}
+use Rattle.cfganalysis.specs.Inner.Waiting.{waits, Waits, NoneWaits}
 use Rattle.cfganalysis.proofs.Joins.{count_of-fewer, bit-no_bits, IsTable-no_bits, joins_bit}
 use Rattle.cfganalysis.specs.Follows.{AreFollows}
 

@@ -5,6 +5,7 @@ pub mod FirstVisits
 pub mod Joins
 pub mod Flat
 pub mod FollowVisits
+pub mod ProductiveVisits
 pub mod Gathering
 pub mod Fitting
 pub mod References

@@ -9,8 +9,8 @@ use Rattle.lemmas.proofs.Elements.{get_or-set}
 use Rattle.lemmas.proofs.Taken.{contains_taken}
 use Rattle.search.proofs.Bits.{bit_put}
 use Rattle.derivation.specs.Grammar.{Sym, Rule, Token}
-use Rattle.cfganalysis.specs.Waiting.{Waits, NoneWaits, WaitsNoMore}
-use Rattle.cfganalysis.specs.Work.{users_of, Notes, DependsOnGrown, Queues}
+use Rattle.cfganalysis.specs.Inner.Waiting.{Waits, NoneWaits, WaitsNoMore}
+use Rattle.cfganalysis.specs.Inner.Work.{users_of, Notes, DependsOnGrown, Queues}
 
 -- a production was noted with one rule
 pub notes_one : (users : List (List ℕ)) (rule p : ℕ) → rule < length users

@@ -6,7 +6,7 @@ use Rattle.std.proofs.lemmas.List.Sums.{sum_by-cons, sum_by_push, sum_by-set, co
 use Rattle.std.proofs.lemmas.Option.{get_or_from_slice_get}
 use Rattle.lemmas.proofs.Elements.{get_or-replicate_default, within_from_get_or, set-slice_get}
 use Rattle.cfganalysis.specs.Table.{bits_on}
-use Rattle.cfganalysis.specs.Waiting.{waits, Waits, NoneWaits, IsStack}
+use Rattle.cfganalysis.specs.Inner.Waiting.{waits, Waits, NoneWaits, IsStack}
 use Rattle.search.proofs.Bits.{bits_on-set}
 
 -- one bit fewer

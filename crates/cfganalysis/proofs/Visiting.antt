@@ -7,10 +7,10 @@ use Rattle.std.proofs.lemmas.List.Sums.{count_by-le-length}
 use Rattle.lemmas.proofs.Elements.{get_or-replicate_default, within_from_get_or}
 use Rattle.derivation.specs.Grammar.{Grammar, Production, IsGrammar}
 use Rattle.cfgtables.specs.Openings.{AreOpenedAtMost, nth_production, OpensOne}
-use Rattle.cfganalysis.specs.Growth.{CoversEach, AddsProduction, AddsInto, Visited, left_to_do}
+use Rattle.cfganalysis.specs.Inner.Growth.{CoversEach, AddsProduction, AddsInto, Visited, left_to_do}
 use Rattle.cfganalysis.specs.Table.{bits_on}
-use Rattle.cfganalysis.specs.Waiting.{waits, Waits, NoneWaits, WaitsNoMore}
-use Rattle.cfganalysis.specs.Work.{users_of, Notes, Queues}
+use Rattle.cfganalysis.specs.Inner.Waiting.{waits, Waits, NoneWaits, WaitsNoMore}
+use Rattle.cfganalysis.specs.Inner.Work.{users_of, Notes, Queues}
 use Rattle.cfgtables.proofs.Located.{same_production, at_position}
 use Rattle.lemmas.proofs.Contained.{contains_none}
 use Rattle.cfganalysis.proofs.Stacking.{bits_on-clear, bits_on-none}

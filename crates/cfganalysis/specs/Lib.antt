@@ -3,7 +3,5 @@ pub mod Table
 pub mod Firsts
 pub mod Follows
 pub mod Paths
-pub mod Waiting
-pub mod Work
-pub mod Growth
+pub mod ProductiveRules
 pub mod Inner

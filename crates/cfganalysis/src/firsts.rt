@@ -6,15 +6,15 @@ ghost use Rattle.derivation.specs.Grammar.{Grammar, IsGrammar, IsSymbolOf, Rule}
 ghost use Rattle.cfganalysis.specs.Firsts.{AreFirsts, FitsGrammar, IsAmongFirsts, IsNullableRule};
 ghost use Rattle.cfganalysis.specs.Firsts.{nullable_bit, with_first};
 ghost use Rattle.cfganalysis.specs.Inner.GrowingFirsts.{BeginsBy, HasNoMoreFirsts, CoverFirstsOf};
-ghost use Rattle.cfganalysis.specs.Inner.GrowingFirsts.{AreSoundFirsts};
+ghost use Rattle.cfganalysis.specs.Inner.GrowingFirsts.{AreSoundFirsts, HoldsRule};
 ghost use Rattle.cfganalysis.specs.Inner.GrowingFirsts.{count_firsts, is_nullable_symbol, no_firsts, with_nullable};
 ghost use Rattle.cfgtables.specs.Openings.{AreOpenedAtMost, most_openings};
-ghost use Rattle.cfganalysis.specs.Growth.{HoldsRule, CanNote, CanAddProduction, AddsProduction, shown};
+ghost use Rattle.cfganalysis.specs.Inner.Growth.{CanNote, CanAddProduction, AddsProduction, shown};
 ghost use Rattle.cfgtables.specs.NumberedSymbols.{sym_of};
 ghost use Rattle.cfganalysis.specs.Table.{Joins, row_of};
 ghost use Rattle.cfganalysis.specs.Inner.Bounds.{firsts_bounded};
-ghost use Rattle.cfganalysis.specs.Waiting.{Waits};
-ghost use Rattle.cfganalysis.specs.Work.{Notes};
+ghost use Rattle.cfganalysis.specs.Inner.Waiting.{Waits};
+ghost use Rattle.cfganalysis.specs.Inner.Work.{Notes};
 
 use crate::bits::BitTable;
 use crate::growth::Analysis;
@@ -126,7 +126,7 @@ fn note_symbol<S: Storage>(
 /// # Errors
 ///
 /// Out of memory.
-pub fn note_rules<S: Storage>(
+pub(crate) fn note_rules<S: Storage>(
     production: usize,
     symbols: &[Symbol<S>],
     users: &mut Users,

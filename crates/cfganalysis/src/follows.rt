@@ -9,12 +9,12 @@ ghost use Rattle.cfganalysis.specs.Inner.GrowingFollows.{LookaheadHas, Gathers, 
 ghost use Rattle.cfganalysis.specs.Inner.GrowingFollows.{CoverFollowsOf, IsLookaheadOf, IsGathered, IsOwner, Puts};
 ghost use Rattle.cfganalysis.specs.Inner.GrowingFollows.{PutsAfter, AreSoundFollows, LookaheadBefore, count_follows};
 ghost use Rattle.cfgtables.specs.Openings.{AreOpenedAtMost, most_openings};
-ghost use Rattle.cfganalysis.specs.Growth.{CanNote, CanAddProduction, AddsProduction, shown};
+ghost use Rattle.cfganalysis.specs.Inner.Growth.{CanNote, CanAddProduction, AddsProduction, shown};
 ghost use Rattle.cfgtables.specs.NumberedSymbols.{sym_of};
 ghost use Rattle.cfganalysis.specs.Table.{HasBit, no_bits, row_of, with_bit};
 ghost use Rattle.cfganalysis.specs.Inner.Bounds.{follows_bounded};
-ghost use Rattle.cfganalysis.specs.Waiting.{NoneWaits, Waits};
-ghost use Rattle.cfganalysis.specs.Work.{Notes};
+ghost use Rattle.cfganalysis.specs.Inner.Waiting.{NoneWaits, Waits};
+ghost use Rattle.cfganalysis.specs.Inner.Work.{Notes};
 
 use crate::bits::BitTable;
 use crate::firsts::YaccFirsts;

@@ -2,9 +2,9 @@
 
 ghost use Rattle.std.specs.Prelude.{◌≡◌, ℕ, ◌+◌, ◌*◌, ◌<◌, ◌≤◌, length, Contains, IfOk};
 ghost use Rattle.derivation.specs.Grammar.{Grammar, Production, IsGrammar};
-ghost use Rattle.cfganalysis.specs.Growth.{CanNote, CanAddProduction, AddsProduction, AddsInto, shown};
-ghost use Rattle.cfganalysis.specs.Waiting.{NoneWaits, Waits};
-ghost use Rattle.cfganalysis.specs.Work.{Notes, users_of};
+ghost use Rattle.cfganalysis.specs.Inner.Growth.{CanNote, CanAddProduction, AddsProduction, AddsInto, shown};
+ghost use Rattle.cfganalysis.specs.Inner.Waiting.{NoneWaits, Waits};
+ghost use Rattle.cfganalysis.specs.Inner.Work.{Notes, users_of};
 
 use crate::waiting::Waiting;
 use crate::work::{Users, Work};
@@ -12,7 +12,7 @@ use cfgindex::{RIdx, Storage, Symbol};
 use std::alloc::AllocError;
 
 /// Sets of tokens, one for each rule, that grow by what productions give.
-pub trait Analysis<S: Storage> {
+pub(crate) trait Analysis<S: Storage> {
     // These are sets of the grammar, and what they say is true.
     ghost holds: { Grammar → Self → Type 0 };
 

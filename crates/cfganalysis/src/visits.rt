@@ -3,9 +3,9 @@
 
 ghost use Rattle.std.specs.Prelude.{◌≡◌, ℕ, ◌+◌, ◌-◌, ◌^◌, ◌<◌, length, IfOk, MatchBool, OnErr, OnOk};
 ghost use Rattle.derivation.specs.Grammar.{IsGrammar};
-ghost use Rattle.cfganalysis.specs.Growth.{CanVisit, CoversEach, Visited, left_to_do};
+ghost use Rattle.cfganalysis.specs.Inner.Growth.{CanVisit, CoversEach, Visited, left_to_do};
 ghost use Rattle.cfgtables.specs.Openings.{AreOpenedAtMost, OpensOne, most_openings};
-ghost use Rattle.cfganalysis.specs.Waiting.{NoneWaits};
+ghost use Rattle.cfganalysis.specs.Inner.Waiting.{NoneWaits};
 
 use crate::growth::{Analysis, add_production};
 use crate::work::Work;
@@ -106,7 +106,7 @@ fn visit_next<S: Storage, P: Productions<S>, A: Analysis<S>>(
 /// # Errors
 ///
 /// Out of memory.
-pub fn visit_all<S: Storage, P: Productions<S>, A: Analysis<S>>(
+pub(crate) fn visit_all<S: Storage, P: Productions<S>, A: Analysis<S>>(
     alloc: Global,
     productions: &mut P,
     analysis: &mut A,

@@ -1,7 +1,7 @@
 //! A stack that contains each number at most once.
 
 ghost use Rattle.std.specs.Prelude.{◌≡◌, ◌<◌, true, false, length, replicate, slice_set, IfOk, MatchOption};
-ghost use Rattle.cfganalysis.specs.Waiting.{NoneWaits, WaitsNoMore};
+ghost use Rattle.cfganalysis.specs.Inner.Waiting.{NoneWaits, WaitsNoMore};
 
 use cfgindex::Vob;
 use std::alloc::{AllocError, Global};
@@ -9,14 +9,14 @@ use std::marker::Model;
 
 /// Numbers below a bound that wait; the last one added comes first. Adding a number that waits already changes nothing.
 #[derive(Drop)]
-pub struct Waiting {
+pub(crate) struct Waiting {
     bits: Vob,
     stack: Vec<usize>,
 }
 
 impl Model for Waiting {
     ghost use Rattle.std.specs.Prelude.{◌≤◌, List, Bool, length, vec_capacity};
-    ghost use Rattle.cfganalysis.specs.Waiting.{IsStack};
+    ghost use Rattle.cfganalysis.specs.Inner.Waiting.{IsStack};
 
     ghost Value = { List Bool };
 
@@ -31,7 +31,7 @@ impl Waiting {
     /// # Errors
     ///
     /// Out of memory.
-    pub fn new(alloc: Global, bound: usize) -> Result<Self, AllocError>
+    pub(crate) fn new(alloc: Global, bound: usize) -> Result<Self, AllocError>
         ensures { IfOk result (λ x. x ≡ replicate bound false) }
     {
         Ok(Waiting {
@@ -41,7 +41,7 @@ impl Waiting {
     }
 
     /// Pushes the number, unless it waits already.
-    pub fn put(&mut self, number: usize)
+    pub(crate) fn put(&mut self, number: usize)
         requires { number < length self.old }
         ensures { self.new ≡ slice_set self.old number true }
     {
@@ -51,7 +51,7 @@ impl Waiting {
     }
 
     /// Pops the number that was pushed last.
-    pub fn next(&mut self) -> Option<usize>
+    pub(crate) fn next(&mut self) -> Option<usize>
         ensures { MatchOption result (NoneWaits self.old × (self.new ≡ self.old))
             (λ n. WaitsNoMore n self.old self.new) }
     {

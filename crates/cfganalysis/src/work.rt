@@ -1,15 +1,15 @@
 //! A work list: the productions that an analysis has to visit again.
 
 ghost use Rattle.std.specs.Prelude.{◌≡◌, ◌<◌, ℕ, [], false, length, replicate, Contains, IfOk};
-ghost use Rattle.cfganalysis.specs.Waiting.{NoneWaits, Waits};
-ghost use Rattle.cfganalysis.specs.Work.{Queues, Notes, users_of};
+ghost use Rattle.cfganalysis.specs.Inner.Waiting.{NoneWaits, Waits};
+ghost use Rattle.cfganalysis.specs.Inner.Work.{Queues, Notes, users_of};
 
 use crate::waiting::Waiting;
 use cfgindex::ListTable;
 use std::alloc::{AllocError, Global};
 
 /// For each rule, the numbers of the productions that depend on it: what they give depends on the rule's set.
-pub type Users = ListTable<usize>;
+pub(crate) type Users = ListTable<usize>;
 
 /// Notes that a production depends on the rule.
 ///

@@ -8,11 +8,12 @@ use Rattle.derivation.specs.Grammar.{Grammar, Sym, IsGrammar, HasProduction}
 use Rattle.derivation.specs.Sentence.{Sentence, cost_of}
 use Rattle.derivation.specs.Costs.{Least, Minimal}
 use Rattle.derivation.specs.Tree as trees
+use Rattle.derivation.specs.Productive.{Unproductive}
 use Rattle.derivation.proofs.Costs.{least_is_one, minimal_costs_least}
 use Rattle.derivation.proofs.Trees.{derivation_from_trees, trees_from_derivation}
 use Rattle.cfgtables.specs.Openings.{OpensOne, nth_production}
 use Rattle.cfgtables.proofs.Located.{same_production}
-use Rattle.cfgleast.specs.Generator.{CostTables, IsGenerator, IsLeastProduction, token_cost, HasNone}
+use Rattle.cfgleast.specs.Generator.{CostTables, IsGenerator, IsLeastProduction, token_cost}
 use Rattle.cfgchoices.specs.Splits.{Split, done, part}
 use Rattle.cfgchoices.proofs.Lengths.{sentence_length}
 use Rattle.cfgchoices.proofs.Splits.{Split-map}
@@ -110,8 +111,8 @@ module _ {x y : CostTables} (grammar : IsGrammar x.grammar) (is : (n : ℕ) × I
   pub few_still : (n many : ℕ) → n ≤ 1 + many * y.grammar.rules → n ≤ 1 + many * x.grammar.rules
   few_still n many h = subst (λ (g : Grammar). n ≤ 1 + many * g.rules) same h
 
-  pub none_still : {A : Type 0} (r : ℕ) → A ↔ HasNone (HasProduction y.grammar) r → A ↔ HasNone (HasProduction x.grammar) r
-  none_still {A} r h = subst (λ g. A ↔ HasNone (HasProduction g) r) same h
+  pub none_still : {A : Type 0} (r : ℕ) → A ↔ Unproductive (HasProduction y.grammar) r → A ↔ Unproductive (HasProduction x.grammar) r
+  none_still {A} r h = subst (λ g. A ↔ Unproductive (HasProduction g) r) same h
 
   pub none_free_still : (opened : ℕ → ℕ) → OpensNoneFree y.grammar (token_cost y) opened → OpensNoneFree x.grammar (token_cost x) opened
   none_free_still opened free p within least =

@@ -6,7 +6,7 @@ use Rattle.cfgindex.specs.declared.idxnewtype.TIdx.{TIdx}
 use Rattle.derivation.specs.Grammar.{Sym}
 use Rattle.derivation.specs.Sentence.{cost_of}
 use Rattle.derivation.specs.Costs.{Greatest, Minimal, Unbounded}
-use Rattle.cfgleast.specs.Generator.{HasNone}
+use Rattle.derivation.specs.Productive.{Unproductive}
 use Rattle.cfgchoices.specs.FirstSentence.{lexicographic}
 use Rattle.derivation.specs.declared.errors.CostError.{CostError}
 use Rattle.cfgcosts.specs.declared.errors.SentenceError.{SentenceError}
@@ -30,7 +30,7 @@ numbers_of number word = map (λ t. number t.0) word.items
 
 -- the greatest cost of a rule, if it is at most 65535; or that its costs are unbounded; or why there is neither
 pub record ReturnsGreatest (P : ℕ → List Sym → Type 0) (cost : ℕ → ℕ) (r : ℕ) (answer : Result (Option ℕ) CostError) : Type 0 where
-  pub none : (answer ≡ Err costs.NoSentence) ↔ HasNone P r
+  pub none : (answer ≡ Err costs.NoSentence) ↔ Unproductive P r
   pub unbounded : (answer ≡ Ok None) ↔ Unbounded P cost r
   pub greatest : (c : ℕ) → (answer ≡ Ok (Some c)) ↔ (Greatest P cost r c × (c ≤ 65535))
   pub too_large : (answer ≡ Err costs.CostTooLarge) ↔ ((n : ℕ) × Greatest P cost r n × (65535 < n))

@@ -9,8 +9,9 @@ ghost use Rattle.derivation.specs.Grammar.{HasProduction, IsGrammar};
 ghost use Rattle.derivation.specs.Costs.{Greatest, Least, Unbounded};
 ghost use Rattle.derivation.specs.Cycles.{ReachesGrowingCycle};
 ghost use Rattle.derivation.specs.CostLists.{rule_cost};
+ghost use Rattle.derivation.specs.Productive.{Unproductive};
 ghost use Rattle.cfgleast.specs.Certificate.{IsCovered, IsReached, choice_of, rule_choice};
-ghost use Rattle.cfgleast.specs.Generator.{HasNone, IsGenerator, IsLeastProduction, IsTooLarge};
+ghost use Rattle.cfgleast.specs.Generator.{IsGenerator, IsLeastProduction, IsTooLarge};
 ghost use Rattle.cfgleast.specs.Generator.{choice_answer, cost_answer, token_cost};
 
 use crate::targets::last_targets;
@@ -153,7 +154,7 @@ impl<'a, S: Storage, T: Tables<S>> SentenceGenerator<'a, S, T> {
         ensures found { (c : ℕ) → Least (HasProduction self.now.grammar) (token_cost self.now) (S.number rule.0) c
             → c ≤ 65535 → result ≡ Ok c }
         ensures none { (result ≡ Err CostError.NoSentence)
-            ↔ HasNone (HasProduction self.now.grammar) (S.number rule.0) }
+            ↔ Unproductive (HasProduction self.now.grammar) (S.number rule.0) }
         ensures too_large { (result ≡ Err CostError.CostTooLarge)
             ↔ IsTooLarge (HasProduction self.now.grammar) (token_cost self.now) (S.number rule.0) }
         ensures answer { result_ok result ≡ cost_answer self.now (S.number rule.0) }
@@ -175,7 +176,7 @@ impl<'a, S: Storage, T: Tables<S>> SentenceGenerator<'a, S, T> {
     pub fn max_sentence_cost(&self, rule: RIdx<S>) -> Result<Option<u16>, CostError>
         requires { S.number rule.0 < self.now.grammar.rules }
         ensures none { (result ≡ Err CostError.NoSentence)
-            ↔ HasNone (HasProduction self.now.grammar) (S.number rule.0) }
+            ↔ Unproductive (HasProduction self.now.grammar) (S.number rule.0) }
         ensures unbounded { (result ≡ Ok None)
             ↔ Unbounded (HasProduction self.now.grammar) (token_cost self.now) (S.number rule.0) }
         ensures cycle { (result ≡ Ok None)
@@ -195,7 +196,7 @@ impl<'a, S: Storage, T: Tables<S>> SentenceGenerator<'a, S, T> {
         requires { S.number rule.0 < self.now.grammar.rules }
         ensures production { IfSome result (λ choice.
             IsLeastProduction self.now.grammar (token_cost self.now) (S.number rule.0) (S.number choice.0.0)) }
-        ensures none { (result ≡ None) ↔ (HasNone (HasProduction self.now.grammar) (S.number rule.0)
+        ensures none { (result ≡ None) ↔ (Unproductive (HasProduction self.now.grammar) (S.number rule.0)
             ⊎ IsTooLarge (HasProduction self.now.grammar) (token_cost self.now) (S.number rule.0)) }
         ensures answer { choice_of S.number result ≡ choice_answer self.now (S.number rule.0) }
     {

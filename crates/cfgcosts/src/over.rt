@@ -4,7 +4,8 @@ ghost use Rattle.std.specs.Prelude.{◌≡◌, ◌↔◌, ℕ, ◌+◌, ◌*◌,
 ghost use Rattle.derivation.specs.Grammar.{HasProduction};
 ghost use Rattle.derivation.specs.Sentence.{cost_of};
 ghost use Rattle.derivation.specs.Costs.{Least};
-ghost use Rattle.cfgleast.specs.Generator.{HasNone, IsTooLarge, token_cost};
+ghost use Rattle.derivation.specs.Productive.{Unproductive};
+ghost use Rattle.cfgleast.specs.Generator.{IsTooLarge, token_cost};
 ghost use Rattle.cfgchoices.specs.FirstSentence.{FirstMinimal};
 ghost use Rattle.cfgcosts.specs.DerivedBy.{IsDerivedBy, OpensNoneFree};
 
@@ -44,7 +45,7 @@ pub fn min_sentence_over<'a, S: Storage, T: Tables<S>, P: Productions<S>>(
     ensures within { IfOk result (λ sentence.
         All (λ t. t + 1 < generator.now.grammar.tokens) (map (λ t. S.number t.0) sentence.items)) }
     ensures none { (result ≡ Err SentenceError.NoSentence)
-        ↔ HasNone (HasProduction generator.now.grammar) (S.number rule.0) }
+        ↔ Unproductive (HasProduction generator.now.grammar) (S.number rule.0) }
     ensures too_large { (result ≡ Err SentenceError.CostTooLarge)
         ↔ IsTooLarge (HasProduction generator.now.grammar) (token_cost generator.now) (S.number rule.0) }
     ensures content { P.content productions.new ≡ P.content productions.old }

@@ -4,7 +4,8 @@ ghost use Rattle.std.specs.Prelude.{◌≡◌, ◌↔◌, ℕ, ◌+◌, ◌<◌,
 ghost use Rattle.std.specs.Prelude.{OnErr, Some, length, map};
 ghost use Rattle.derivation.specs.Grammar.{HasProduction};
 ghost use Rattle.derivation.specs.Sentence.{cost_of};
-ghost use Rattle.cfgleast.specs.Generator.{HasNone, IsTooLarge, cost_answer, token_cost};
+ghost use Rattle.derivation.specs.Productive.{Unproductive};
+ghost use Rattle.cfgleast.specs.Generator.{IsTooLarge, cost_answer, token_cost};
 ghost use Rattle.cfgchoices.specs.FirstSentence.{FirstMinimal};
 ghost use Rattle.cfgcosts.specs.Inner.Walk.{HasStopped, HasWalked};
 
@@ -77,7 +78,7 @@ impl<'a, S: Storage, T: Tables<S>> SentenceGenerator<'a, S, T> {
         ensures stopped { result ≡ Err SentenceError.OutOfMemory → HasStopped self.now.grammar (token_cost self.now)
             (S.number rule.0) (O.has_opened source.new) }
         ensures none { (result ≡ Err SentenceError.NoSentence)
-            ↔ HasNone (HasProduction self.now.grammar) (S.number rule.0) }
+            ↔ Unproductive (HasProduction self.now.grammar) (S.number rule.0) }
         ensures too_large { (result ≡ Err SentenceError.CostTooLarge)
             ↔ IsTooLarge (HasProduction self.now.grammar) (token_cost self.now) (S.number rule.0) }
         ensures refused { (result ≡ Err SentenceError.NoSentence) ⊎ (result ≡ Err SentenceError.CostTooLarge)
@@ -103,7 +104,7 @@ impl<'a, S: Storage, T: Tables<S>> SentenceGenerator<'a, S, T> {
         ensures within { IfOk result (λ sentence.
             All (λ t. t + 1 < self.now.grammar.tokens) (map (λ t. S.number t.0) sentence.items)) }
         ensures none { (result ≡ Err SentenceError.NoSentence)
-            ↔ HasNone (HasProduction self.now.grammar) (S.number rule.0) }
+            ↔ Unproductive (HasProduction self.now.grammar) (S.number rule.0) }
         ensures too_large { (result ≡ Err SentenceError.CostTooLarge)
             ↔ IsTooLarge (HasProduction self.now.grammar) (token_cost self.now) (S.number rule.0) }
     {

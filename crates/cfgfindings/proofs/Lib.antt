@@ -1,6 +1,6 @@
 pub mod FirstAlike
 pub mod TargetTexts
-pub mod Lacking
+pub mod RulesAmong
 pub mod Marking
 pub mod Needs
 pub mod OwnCycles

@@ -7,14 +7,14 @@ use Rattle.cfgrammar.proofs.Contained.{contains_one}
 use Rattle.cfgrammar.proofs.Elements.{get_or-set}
 use Rattle.cfgrammar.proofs.Turns.{more_taken}
 use Rattle.cfgrammar.specs.Grammar.{HasProduction, Production, Rule, Sym}
-use Rattle.cfgrammar.specs.Generator.{HasNone}
+use Rattle.cfgrammar.specs.Productive.{Unproductive}
 use Rattle.cfgrammar.specs.Numbered.{Numbered, core}
 use Rattle.cfgrammar.specs.Openings.{nth_production}
 use Rattle.cfgrammar.specs.Sentence.{Sentence}
 use Rattle.cfgrammar.specs.StepLists.{HasStep}
 use Rattle.cfgrammar.specs.Step.{Step}
 use Rattle.cfgfindings.specs.SinkGroups.{Needs}
-use Rattle.cfgfindings.specs.Inner.SinkGroups.{AreNeeds, AreNeedsBelow, IsLackingIn, NeedsBy, Puts, StepsTo}
+use Rattle.cfgfindings.specs.Inner.SinkGroups.{AreNeeds, AreNeedsBelow, IsNeededIn, NeedsBy, Puts, StepsTo}
 use Rattle.cfgfindings.proofs.Read.{has_read, production_there}
 
 puts_none : (Put : ℕ → ℕ → Type 0) (steps : List (List Step)) → ((a b : ℕ) → Put a b → ⊥) → Puts Put steps steps
@@ -105,24 +105,24 @@ module _ (old new : List (List Step)) (rule : ℕ) (step : Step) (within : rule 
 
 module _ (g : Numbered) where
   abbrev IsUnproductive : ℕ → Type 0
-  IsUnproductive = HasNone (HasProduction (core g))
+  IsUnproductive = Unproductive (HasProduction (core g))
 
-  -- steps to what is lacking among the first symbols, and then to the next one if it is lacking
-  more_lacking : {A : Type 0} (f : A → Sym) (xs : List A) (n : ℕ) (x : A) → n < length xs → x ≡ get_or xs n x → (rule : ℕ) (Next : ℕ → Type 0)
+  -- steps to the unproductive rules among the first symbols, and then to the next one if it is such a rule
+  more_needed : {A : Type 0} (f : A → Sym) (xs : List A) (n : ℕ) (x : A) → n < length xs → x ≡ get_or xs n x → (rule : ℕ) (Next : ℕ → Type 0)
       → ((b : ℕ) → Next b → (f x ≡ Rule b) × IsUnproductive b) → ((b : ℕ) → f x ≡ Rule b → IsUnproductive b → Next b) → (old mid new : List (List Step))
-      → Puts (λ a b. (a ≡ rule) × IsLackingIn g (map f (take n xs)) b) old mid → Puts (λ a b. (a ≡ rule) × Next b) mid new
-      → Puts (λ a b. (a ≡ rule) × IsLackingIn g (map f (take (n + 1) xs)) b) old new
-  more_lacking f xs n x lt is rule Next next known old mid new before put = puts_as _ _ old new to from (puts_then _ _ old mid new before put)
+      → Puts (λ a b. (a ≡ rule) × IsNeededIn g (map f (take n xs)) b) old mid → Puts (λ a b. (a ≡ rule) × Next b) mid new
+      → Puts (λ a b. (a ≡ rule) × IsNeededIn g (map f (take (n + 1) xs)) b) old new
+  more_needed f xs n x lt is rule Next next known old mid new before put = puts_as _ _ old new to from (puts_then _ _ old mid new before put)
     where
       same : map f (take (n + 1) xs) ≡ map f (take n xs) ++ f x ∷ []
       same = more_taken f xs n x lt is
 
-      to : (a b : ℕ) → ((a ≡ rule) × IsLackingIn g (map f (take n xs)) b) ⊎ ((a ≡ rule) × Next b) → (a ≡ rule) × IsLackingIn g (map f (take (n + 1) xs)) b
+      to : (a b : ℕ) → ((a ≡ rule) × IsNeededIn g (map f (take n xs)) b) ⊎ ((a ≡ rule) × Next b) → (a ≡ rule) × IsNeededIn g (map f (take (n + 1) xs)) b
       to a b (inl h) = (
         h.0,
         record {
           holds = subst (λ l. Contains l (Rule b)) (sym same) (Contains-append_left (map f (take n xs)) (f x ∷ []) (Rule b) h.1.holds);
-          needed_none = h.1.needed_none;
+          needed = h.1.needed;
         },
       )
       to a b (inr h) = (
@@ -130,37 +130,37 @@ module _ (g : Numbered) where
         record {
           holds = subst (λ l. Contains l (Rule b)) (sym same)
               (subst (λ y. Contains (map f (take n xs) ++ y ∷ []) (Rule b)) (sym (next b h.1).0) (Contains-push (map f (take n xs)) (Rule b)));
-          needed_none = (next b h.1).1;
+          needed = (next b h.1).1;
         },
       )
 
-      from : (a b : ℕ) → (a ≡ rule) × IsLackingIn g (map f (take (n + 1) xs)) b → ((a ≡ rule) × IsLackingIn g (map f (take n xs)) b) ⊎ ((a ≡ rule) × Next b)
+      from : (a b : ℕ) → (a ≡ rule) × IsNeededIn g (map f (take (n + 1) xs)) b → ((a ≡ rule) × IsNeededIn g (map f (take n xs)) b) ⊎ ((a ≡ rule) × Next b)
       from a b h = elim (Contains-append_cases (map f (take n xs)) (f x ∷ []) (Rule b) (subst (λ l. Contains l (Rule b)) same h.1.holds)) [
-        | inl i ↦ inl (h.0, record { holds = i; needed_none = h.1.needed_none })
-        | inr i ↦ inr (h.0, known b (contains_one (f x) (Rule b) i) h.1.needed_none)
+        | inl i ↦ inl (h.0, record { holds = i; needed = h.1.needed })
+        | inr i ↦ inr (h.0, known b (contains_one (f x) (Rule b) i) h.1.needed)
       ]
 
   module _ {A : Type 0} (f : A → Sym) (xs : List A) (n : ℕ) (x : A) (lt : n < length xs) (is : x ≡ get_or xs n x) (rule : ℕ) (old mid new : List (List Step)) where
-    -- the next one is lacking, and a step to it is put
-    pub lacking_put : (q : ℕ) → f x ≡ Rule q → IsUnproductive q → (step : Step) → step.rule ≡ q → rule < length mid → q < length mid
+    -- the next one is an unproductive rule, and a step to it is put
+    pub needed_put : (q : ℕ) → f x ≡ Rule q → IsUnproductive q → (step : Step) → step.rule ≡ q → rule < length mid → q < length mid
         → new ≡ slice_set mid rule (get_or mid rule [] ++ step ∷ [])
-        → Puts (λ a b. (a ≡ rule) × IsLackingIn g (map f (take n xs)) b) old mid → Puts (λ a b. (a ≡ rule) × IsLackingIn g (map f (take (n + 1) xs)) b) old new
-    lacking_put q at none step to within to_within put before = more_lacking f xs n x lt is rule (λ b. b ≡ step.rule) next known old mid new before
+        → Puts (λ a b. (a ≡ rule) × IsNeededIn g (map f (take n xs)) b) old mid → Puts (λ a b. (a ≡ rule) × IsNeededIn g (map f (take (n + 1) xs)) b) old new
+    needed_put q at none step to within to_within put before = more_needed f xs n x lt is rule (λ b. b ≡ step.rule) next known old mid new before
         (puts_one mid new rule step within (subst (λ k. k < length mid) (sym to) to_within) put)
       where
         next : (b : ℕ) → b ≡ step.rule → (f x ≡ Rule b) × IsUnproductive b
         next b e = let same : q ≡ b = sym to ∙ sym e in (at ∙ ap Rule same, subst IsUnproductive same none)
 
         known : (b : ℕ) → f x ≡ Rule b → IsUnproductive b → b ≡ step.rule
-        known b here needed_none = sym (same_rule (sym at ∙ here)) ∙ sym to
+        known b here needed = sym (same_rule (sym at ∙ here)) ∙ sym to
           where
             same_rule : Rule q ≡ Rule b → q ≡ b
             same_rule e = cc
 
-    -- the next one isn't lacking
-    pub lacking_left_out : ((q : ℕ) → f x ≡ Rule q → IsUnproductive q → ⊥) → new ≡ mid
-        → Puts (λ a b. (a ≡ rule) × IsLackingIn g (map f (take n xs)) b) old mid → Puts (λ a b. (a ≡ rule) × IsLackingIn g (map f (take (n + 1) xs)) b) old new
-    lacking_left_out not same before = more_lacking f xs n x lt is rule (λ b. ⊥) (λ b h. absurd h) not old mid new before
+    -- the next one is no unproductive rule
+    pub needed_left_out : ((q : ℕ) → f x ≡ Rule q → IsUnproductive q → ⊥) → new ≡ mid
+        → Puts (λ a b. (a ≡ rule) × IsNeededIn g (map f (take n xs)) b) old mid → Puts (λ a b. (a ≡ rule) × IsNeededIn g (map f (take (n + 1) xs)) b) old new
+    needed_left_out not same before = more_needed f xs n x lt is rule (λ b. ⊥) (λ b h. absurd h) not old mid new before
         (subst (Puts (λ a b. (a ≡ rule) × ⊥) mid) (sym same) (puts_none (λ a b. (a ≡ rule) × ⊥) mid (λ a b h. h.1)))
 
   abbrev IsBelow : ℕ → ℕ → ℕ → ℕ → Type 0
@@ -234,13 +234,13 @@ module _ (g : Numbered) where
       to : (a b : ℕ) → IsBelow (length g.rules) (length g.productions) a b → IsUnproductive a × ((b ≡ a) ⊎ Needs (HasProduction (core g)) a b)
       to a b (inl (lt, none, same)) = (none, inl same)
       to a b (inr (p, lt, by)) = (
-        by.none,
+        by.unproductive,
         inr (record {
-          none = by.none;
+          unproductive = by.unproductive;
           symbols = (nth_production (core g) p).symbols;
           has = subst (λ r. HasProduction (core g) r (nth_production (core g) p).symbols) by.owner (has_read g p lt);
           holds = by.needs.holds;
-          needed_none = by.needs.needed_none;
+          needed = by.needs.needed;
         }),
       )
 
@@ -254,7 +254,7 @@ module _ (g : Numbered) where
             production_there g p there,
             record {
               owner = ap (λ (x : Production). x.rule) production;
-              none = none;
-              needs = record { holds = subst (λ (x : Production). Contains x.symbols (Rule b)) (sym production) needs.holds; needed_none = needs.needed_none };
+              unproductive = none;
+              needs = record { holds = subst (λ (x : Production). Contains x.symbols (Rule b)) (sym production) needs.holds; needed = needs.needed };
             },
           )

@@ -8,7 +8,7 @@ use Rattle.search.specs.Reachable.{led, seed}
 use Rattle.cfgrammar.proofs.Elements.{get_or-replicate_default}
 use Rattle.cfgrammar.proofs.Taken.{contains_taken}
 use Rattle.cfgrammar.specs.Grammar.{HasProduction}
-use Rattle.cfgrammar.specs.Generator.{HasNone}
+use Rattle.cfgrammar.specs.Productive.{Unproductive}
 use Rattle.cfgrammar.specs.Numbered.{Numbered, core}
 use Rattle.cfgrammar.specs.CyclicGroup.{CyclicGroup}
 use Rattle.cfgrammar.specs.CyclicGroups.{AreGroups, IsGroup, IsGroupOf, IsInGroup, IsInOneGroup, LeadsTo, OnCommonCycle}
@@ -47,7 +47,7 @@ module _ (g : Numbered) (steps : List (List Step)) (are : AreNeeds g steps) wher
   Depends = DependsOn (HasProduction (core g))
 
   abbrev IsUnproductive : ℕ → Type 0
-  IsUnproductive = HasNone (HasProduction (core g))
+  IsUnproductive = Unproductive (HasProduction (core g))
 
   depends_itself : (a : ℕ) → Depends a a
   depends_itself a = seed refl
@@ -59,7 +59,7 @@ module _ (g : Numbered) (steps : List (List Step)) (are : AreNeeds g steps) wher
   -- what an unproductive rule depends on is unproductive
   unproductive_too : {a b : ℕ} → IsUnproductive a → Depends a b → IsUnproductive b
   unproductive_too none (seed same) = subst IsUnproductive (sym same) none
-  unproductive_too none (led there needs) = needs.needed_none
+  unproductive_too none (led there needs) = needs.needed
 
   -- a rule depends on those that its steps lead to
   depends_on_next : (a b : ℕ) → a < length g.rules → StepsTo steps a b → Depends a b
@@ -87,7 +87,7 @@ module _ (g : Numbered) (steps : List (List Step)) (are : AreNeeds g steps) wher
   leads_on {a = a} lt none (led {a = x} {b = b} there needs) =
       let on = leads_on lt none there in
       let inside = subst (λ n. x < n) are.entries (leads_to_within steps are.within a x on) in
-      leads_to_through (HasStep steps) a x b on (by_one x b ((are.are x b inside).1 (needs.none, inr needs)))
+      leads_to_through (HasStep steps) a x b on (by_one x b ((are.are x b inside).1 (needs.unproductive, inr needs)))
 
   module _ (first : ℕ) (lt : first < length steps) (rules : List ℕ) (cycle : List Step) (group : IsGroup (HasStep steps) first rules cycle)
       (r : ℕ) (has : Contains rules r) where
@@ -127,10 +127,10 @@ module _ (g : Numbered) (steps : List (List Step)) (are : AreNeeds g steps) wher
         stays (seed same) = subst (Contains rules) (sym same) has
         stays (led {a = x} {b = q} there needs) =
             let c = stays there in
-            closed x q c ((are.are x q (subst (λ n. x < n) are.entries (member x c).inside)).1 (needs.none, inr needs))
+            closed x q c ((are.are x q (subst (λ n. x < n) are.entries (member x c).inside)).1 (needs.unproductive, inr needs))
 
         sink : IsInSinkGroup (HasProduction (core g)) r
-        sink = record { none = (member r has).none; back = λ q d. depends_through (member q (stays d)).back (member r has).there }
+        sink = record { unproductive = (member r has).none; back = λ q d. depends_through (member q (stays d)).back (member r has).there }
 
     -- and if one of its rules is in a sink group, no step leads out of it
     pub sink_closed : IsInSinkGroup (HasProduction (core g)) r → IsClosed steps rules
@@ -242,7 +242,7 @@ module _ (g : Numbered) (steps : List (List Step)) (are : AreNeeds g steps) (law
   sink_or_not : (r : ℕ) → r < length g.rules → (found : Option ℕ) → IsFirstOf steps groups (length groups) r found
       → MatchOption found (IsInSinkGroup (HasProduction (core g)) r → ⊥) (IsSinkGroupOf g groups r)
   sink_or_not r lt None none = λ sink.
-      let itself = leads_on g steps are (subst (λ n. r < n) (sym are.entries) lt) sink.none (depends_itself g steps are r) in
+      let itself = leads_on g steps are (subst (λ n. r < n) (sym are.entries) lt) sink.unproductive (depends_itself g steps are r) in
       let one = law steps groups r are_groups (record { there = itself; back = itself }) in
       let group = one.within.group in
       none one.first (slice_get_within groups one.first (Some group) one.within.is) (record {

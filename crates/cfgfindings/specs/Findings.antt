@@ -4,14 +4,13 @@ use Rattle.std.specs.Prelude.{◌≡◌, ◌↔◌, ◌⊎◌, ℕ, ◌+◌, ◌
 use Rattle.std.specs.List.Sorted.{IsPermutation, IsSortedByKey, IsStableByKey, IsStrictlyIncreasing}
 use Rattle.std.specs.Ordering.{nat_cmp}
 use Rattle.cfgrammar.specs.Grammar.{Sym, Rule, Token, HasProduction}
-use Rattle.cfgrammar.specs.Sentence.{Sentence}
 use Rattle.cfgrammar.specs.UnitPaths.{DerivesRule, IsCyclic}
 use Rattle.cfgrammar.specs.StepPaths.{IsShortestCycle}
 use Rattle.cfgrammar.specs.UnitSteps.{IsStep}
 use Rattle.cfgrammar.specs.Uses.{IsUsable}
 use Rattle.cfgrammar.specs.Step.{Step}
 use Rattle.cfgrammar.specs.Span.{Span}
-use Rattle.cfgrammar.specs.Generator.{HasNone}
+use Rattle.cfgrammar.specs.Productive.{Productive, Unproductive}
 use Rattle.cfgrammar.specs.Syntax.{Production, Rule as SyntaxRule, Syntax}
 use Rattle.cfgrammar.specs.Precedence.{Precedence}
 use Rattle.cfgrammar.specs.Unused.{IsStart, IsUnused, RuleName, TokenName, entry_token, name_of}
@@ -35,10 +34,10 @@ module _ (g : Numbered) where
   abbrev pub rules_added : ℕ
   rules_added = if is_some g.implicit_rule then 3 else 1
 
-  -- a rule of the file that has no sentence
+  -- an unproductive rule of the file
   pub record IsUnproductiveRule (r : ℕ) : Type 0 where
     pub ours : rules_added ≤ r
-    pub none : HasNone (HasProduction (core g)) r
+    pub unproductive : Unproductive (HasProduction (core g)) r
 
   -- if the rule is in a sink group, exactly the other rules of the file in its group, in ascending order; otherwise none
   pub record AreOthers (r : ℕ) (others : List ℕ) : Type 0 where
@@ -49,27 +48,25 @@ module _ (g : Numbered) where
   -- a production of the file that no sentence of its rule uses, although the rule has one
   pub record IsUnusable (p : ℕ) : Type 0 where
     pub ours : p < g.start_production
-    pub sentence : List ℕ
-    pub is : Sentence (HasProduction (core g)) (nth_production (core g) p).rule sentence
+    pub productive : Productive (HasProduction (core g)) (nth_production (core g) p).rule
     pub unused : IsUsable (HasProduction (core g)) (nth_production (core g) p).rule (nth_production (core g) p).symbols → ⊥
 
   -- the first unproductive rule among the symbols
-  pub record IsFirstWithout (symbols : List Sym) (q : ℕ) : Type 0 where
+  pub record IsFirstUnproductive (symbols : List Sym) (q : ℕ) : Type 0 where
     pub prefix : List Sym
     pub back : List Sym
     pub holds : symbols ≡ prefix ++ Rule q ∷ back
-    pub none : HasNone (HasProduction (core g)) q
-    pub before : (r : ℕ) → Contains prefix (Rule r) → HasNone (HasProduction (core g)) r → ⊥
+    pub unproductive : Unproductive (HasProduction (core g)) q
+    pub before : (r : ℕ) → Contains prefix (Rule r) → Unproductive (HasProduction (core g)) r → ⊥
 
   abbrev pub ReportsUnusable : ℕ → Option ShownFinding → Type 0
-  ReportsUnusable p (Some finding) = IsUnusable p × (q : ℕ) × IsFirstWithout (nth_production (core g) p).symbols q × (finding ≡ unusable g p q)
+  ReportsUnusable p (Some finding) = IsUnusable p × (q : ℕ) × IsFirstUnproductive (nth_production (core g) p).symbols q × (finding ≡ unusable g p q)
   ReportsUnusable p None = IsUnusable p → ⊥
 
   -- a rule of the file that is productive, but reachable only through unusable productions
   pub record IsUselessRule (r : ℕ) : Type 0 where
     pub ours : rules_added ≤ r
-    pub sentence : List ℕ
-    pub is : Sentence (HasProduction (core g)) r sentence
+    pub productive : Productive (HasProduction (core g)) r
     pub useless : IsUseless (core g) (Rule r)
 
   abbrev pub ReportsUselessRule : ℕ → Option ShownFinding → Type 0
@@ -223,7 +220,7 @@ pub record AreReportedInTurn (s : Syntax) (g : Numbered) (reported : List ShownF
   pub unused_rules : List ShownFinding
   pub unused_tokens : List ShownFinding
   pub shadowed : List ShownFinding
-  pub without : List ShownFinding
+  pub unproductive_rules : List ShownFinding
   pub unusable_rules : List ShownFinding
   pub unusable_productions : List ShownFinding
   pub useless_rules : List ShownFinding
@@ -234,7 +231,7 @@ pub record AreReportedInTurn (s : Syntax) (g : Numbered) (reported : List ShownF
   pub are_unused_rules : ReportsBelow (ReportsUnusedRule s) (length s.rules) unused_rules
   pub are_unused_tokens : ReportsBelow (ReportsUnusedToken s) (length s.tokens) unused_tokens
   pub are_shadowed : ReportsBelow (ReportsShadowedRule s) (length s.rules) shadowed
-  pub are_without : ReportsBelow (ReportsNoSentence s g) (length g.rules) without
+  pub are_unproductive_rules : ReportsBelow (ReportsNoSentence s g) (length g.rules) unproductive_rules
   pub are_unusable_rules : ReportsBelow (ReportsUnusableRule s g) (length g.rules) unusable_rules
   pub are_unusable_productions : ReportsBelow (ReportsUnusable g) g.start_production unusable_productions
   pub are_useless_rules : ReportsBelow (ReportsUselessRule g) (length g.rules) useless_rules
@@ -243,8 +240,8 @@ pub record AreReportedInTurn (s : Syntax) (g : Numbered) (reported : List ShownF
   pub are_repeats : ReportsBelow (ReportsRepeated g) g.start_production repeats
   pub are_precedences : ReportsBelow (ReportsUnusedPrecedence s) (length s.tables.precedences) precedences
   pub is : reported ≡ unused_rules ++ (unused_tokens ++ (shadowed
-      ++ (without ++ (unusable_rules ++ (unusable_productions ++ (useless_rules ++ (useless_tokens ++ (cycles ++ (repeats ++ (precedences
-      ++ (map repeated_token s.repeated_tokens ++ map overridden_precedence s.overridden_precedences)))))))))))
+      ++ (unproductive_rules ++ (unusable_rules ++ (unusable_productions ++ (useless_rules ++ (useless_tokens ++ (cycles ++ (repeats
+      ++ (precedences ++ (map repeated_token s.repeated_tokens ++ map overridden_precedence s.overridden_precedences)))))))))))
 
 -- the same findings sorted by offset; those at the same offset stay in their order
 pub record AreByOffset (reported all : List ShownFinding) : Type 0 where

@@ -2,16 +2,16 @@
 use Rattle.std.specs.Prelude.{◌≡◌, ℕ, List, Contains}
 use Rattle.search.specs.Reachable.{Reachable}
 use Rattle.cfgrammar.specs.Grammar.{Sym, Rule}
-use Rattle.cfgrammar.specs.Generator.{HasNone}
+use Rattle.cfgrammar.specs.Productive.{Unproductive}
 
 module _ (P : ℕ → List Sym → Type 0) where
   -- both rules are unproductive, and a production of the first contains the second
   pub record Needs (a b : ℕ) : Type 0 where
-    pub none : HasNone P a
+    pub unproductive : Unproductive P a
     pub symbols : List Sym
     pub has : P a symbols
     pub holds : Contains symbols (Rule b)
-    pub needed_none : HasNone P b
+    pub needed : Unproductive P b
 
   -- a rule depends on itself, and on what it needs in any number of steps
   abbrev pub DependsOn : ℕ → ℕ → Type 0
@@ -20,5 +20,5 @@ module _ (P : ℕ → List Sym → Type 0) where
   -- The rule is unproductive, and not because of another: each rule that it depends on depends on it. These are its sink group: no rule
   -- of it needs one outside.
   pub record IsInSinkGroup (r : ℕ) : Type 0 where
-    pub none : HasNone P r
+    pub unproductive : Unproductive P r
     pub back : (q : ℕ) → DependsOn r q → DependsOn q r

@@ -7,7 +7,7 @@ ghost use Rattle.cfgrammar.specs.CyclicGroups.{AreGroups};
 ghost use Rattle.cfgrammar.specs.NumberedSymbols.{sym_of};
 ghost use Rattle.cfgrammar.specs.StepLists.{AreWithin, HasStep};
 ghost use Rattle.cfgfindings.specs.Inner.SinkGroups.{AreFirsts, AreGroupOf, AreNeeds, AreNeedsBelow, IsSet, LeadTo, Puts};
-ghost use Rattle.cfgfindings.specs.Inner.SinkGroups.{AllLeadTo, IsLackingIn, IsMarked, NeedsBy};
+ghost use Rattle.cfgfindings.specs.Inner.SinkGroups.{AllLeadTo, IsNeededIn, IsMarked, NeedsBy};
 
 use crate::sentences::Unproductive;
 use cfgrammar::laws::cyclic_rules_are_in_one_group;
@@ -95,7 +95,7 @@ fn own_steps(alloc: Global, unproductive: &Unproductive<'_>) -> Result<Steps, Al
     let rules = usize::from(grammar.rules_len());
     let mut steps = Steps::new(alloc, rules)?;
     for rule in 0..rules {
-        if unproductive.misses(RIdx(to_storage(rule))) {
+        if unproductive.contains(RIdx(to_storage(rule))) {
             steps.push(rule, step_to(rule))?;
         }
     }
@@ -116,8 +116,8 @@ fn push_needs(
     grammar.invariant_holds();
     let production = PIdx(to_storage(production));
     let rule = grammar.prod_to_rule(production);
-    if unproductive.misses(rule) {
-        push_lacking(
+    if unproductive.contains(rule) {
+        push_needed(
             needs,
             unproductive,
             usize::from(rule),
@@ -128,7 +128,7 @@ fn push_needs(
 }
 
 /// Adds steps from the rule to the unproductive ones among the symbols.
-fn push_lacking(
+fn push_needed(
     needs: &mut Steps,
     unproductive: &Unproductive<'_>,
     rule: usize,
@@ -137,12 +137,12 @@ fn push_lacking(
     requires rule { rule < length needs.old }
     requires entries { length needs.old ≡ length unproductive.now.rules }
     requires within { All (IsSymbolWithin (λ s. s) unproductive.now) symbols.now }
-    ensures { OnOk result (Puts (λ a b. (a ≡ rule) × IsLackingIn unproductive.now (map (sym_of (λ s. s)) symbols.now) b)
+    ensures { OnOk result (Puts (λ a b. (a ≡ rule) × IsNeededIn unproductive.now (map (sym_of (λ s. s)) symbols.now) b)
         needs.old needs.new) }
 {
     for symbol in symbols {
         if let Symbol::Rule(needed) = symbol {
-            if unproductive.misses(*needed) {
+            if unproductive.contains(*needed) {
                 needs.push(rule, step_to(usize::from(*needed)))?;
             }
         }

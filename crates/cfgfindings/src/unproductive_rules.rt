@@ -1,4 +1,4 @@
-//! Rules without a sentence.
+//! Unproductive rules.
 
 ghost use Rattle.std.specs.Prelude.{◌≡◌, ◌++◌, ◌&&◌, ◌==◌, ◌<◌, ◌≤◌, ◌∷◌, ℕ, IfOk, List, Some, length, map, not};
 ghost use Rattle.std.specs.Prelude.{MatchBool, MatchOption, OnOk, nat_le, string_bytes};
@@ -32,14 +32,16 @@ pub(crate) fn push_unproductive(
     ast: &GrammarAST,
     unproductive: &Unproductive<'_>,
 ) -> Result<(), AllocError>
-    ensures { OnOk result ((without unusable : List ShownFinding)
-        × ReportsBelow (ReportsNoSentence (syntax ast.now) unproductive.now) (length unproductive.now.rules) without
-        × ReportsBelow (ReportsUnusableRule (syntax ast.now) unproductive.now) (length unproductive.now.rules) unusable
-        × (all.new.items ≡ all.old.items ++ (without ++ unusable))) }
+    ensures { OnOk result ((unproductive_rules unusable_rules : List ShownFinding)
+        × ReportsBelow (ReportsNoSentence (syntax ast.now) unproductive.now) (length unproductive.now.rules)
+        unproductive_rules
+        × ReportsBelow (ReportsUnusableRule (syntax ast.now) unproductive.now) (length unproductive.now.rules)
+        unusable_rules
+        × (all.new.items ≡ all.old.items ++ (unproductive_rules ++ unusable_rules))) }
 {
     let count = usize::from(unproductive.grammar().rules_len());
     let sink_groups = &SinkGroups::new(alloc, unproductive)?;
-    push_reported(alloc, all, &RulesWithout { ast, sink_groups }, count)?;
+    push_reported(alloc, all, &UnproductiveRules { ast, sink_groups }, count)?;
     push_reported(alloc, all, &UnusableRules { ast, sink_groups }, count)
 }
 
@@ -53,7 +55,7 @@ fn unproductive_name<'a>(unproductive: &'a Unproductive<'_>, number: usize) -> O
     let grammar = unproductive.grammar();
     grammar.invariant_holds();
     let rule = RIdx(to_storage(number));
-    if number < rules_added(grammar) || !unproductive.misses(rule) {
+    if number < rules_added(grammar) || !unproductive.contains(rule) {
         return None;
     }
     Some(grammar.rule_name_str(rule))
@@ -127,12 +129,12 @@ fn others_of(
 
 /// Reports each sink group, as the finding for its first rule, and the unproductive start rule.
 #[derive(Drop)]
-struct RulesWithout<'a, 'g> {
+struct UnproductiveRules<'a, 'g> {
     ast: &'a GrammarAST,
     sink_groups: &'g SinkGroups<'g>,
 }
 
-impl<'a, 'g> Reporter for RulesWithout<'a, 'g> {
+impl<'a, 'g> Reporter for UnproductiveRules<'a, 'g> {
     ghost use Rattle.std.specs.Prelude.{length};
     ghost use Rattle.cfgrammar.specs.TreeView.{syntax};
     ghost use Rattle.cfgfindings.specs.Findings.{ReportsNoSentence};

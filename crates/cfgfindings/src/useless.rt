@@ -64,7 +64,7 @@ fn has_no_useless(unproductive: &Unproductive<'_>) -> bool
     let grammar = unproductive.grammar();
     usable_productions_hold_sentences();
     grammar.invariant_holds();
-    unproductive.is_empty() || unproductive.misses(grammar.start_rule_idx())
+    unproductive.is_empty() || unproductive.contains(grammar.start_rule_idx())
 }
 
 /// A grammar whose start rule is productive, and what it reaches: by all productions, and by usable ones.
@@ -128,7 +128,7 @@ impl<'a> Reporter for UselessRules<'a> {
         let grammar = reached.unproductive.grammar();
         grammar.invariant_holds();
         let rule = RIdx(to_storage(number));
-        if number < rules_added(grammar) || reached.unproductive.misses(rule) {
+        if number < rules_added(grammar) || reached.unproductive.contains(rule) {
             return Ok(None);
         }
         if !reached.is_useless(Symbol::Rule(rule)) {

@@ -14,7 +14,7 @@ use Rattle.cfggreatest.specs.GreatestCosts.{Means}
 use Rattle.cfggreatest.specs.Inner.AtLeast.{HasWord, IsAbove}
 use Rattle.cfggreatest.specs.Inner.Groups.{AreGroups, IsLast}
 use Rattle.cfggreatest.specs.Inner.Known.{AreTrue, IsProductiveSymbol, count_new, is_unproductive, is_inside, is_outside, known_of, no_rule}
-use Rattle.cfggreatest.specs.Inner.Productive.{HaveSentences, is_productive}
+use Rattle.cfganalysis.specs.ProductiveRules.{AreProductiveRules}
 use Rattle.cfggreatest.specs.Inner.Sums.{IsGroup}
 use Rattle.cfggreatest.specs.Inner.Walk.{CanSettle, GoesOn, IsEdge, IsEdgeTo, IsLedOut, IsWalk, IsWayOut, Steps, SettlesNoMore, first_known, left_to_do}
 use Rattle.cfggreatest.specs.declared.sums.Known.{Known}
@@ -102,28 +102,29 @@ joined g index rule old new walk out e j no_more = record {
 }
 
 -- before the first step
-pub first_walk : (g : Grammar) (bits : List Bool) (rules : ℕ) (x : Walk) → IsGrammar g → rules ≡ g.rules → HaveSentences g bits → length x.known.items ≡ rules
-    → ((r : ℕ) → r < rules → known_of x.known.items r ≡ first_known (is_productive bits r)) → x.path.items ≡ [] → x.starts.items ≡ [] → x.edges.items ≡ []
+pub first_walk : (g : Grammar) (bits : List Bool) (rules : ℕ) (x : Walk) → IsGrammar g → rules ≡ g.rules → AreProductiveRules g bits → length x.known.items ≡ rules
+    → ((r : ℕ) → r < rules → known_of x.known.items r ≡ first_known (get_or bits r false)) → x.path.items ≡ [] → x.starts.items ≡ [] → x.edges.items ≡ []
     → IsWalk g x × ((cost : ℕ → ℕ) → AreTrue g cost x.known.items)
 first_walk g bits rules x is e have len each path starts edges = (
   record {
     grammar = is;
     rules = len ∙ e;
-    have_words = λ r alive. have.say.have_words r (is_on (is_productive bits r) (ap is_unproductive (sym (at r)) ∙ alive));
-    positions = λ r index here. absurd (is_closed index (is_productive bits r) (sym (at r) ∙ here));
+    have_words = λ r alive. let word = (have.productive r).0 (is_on (get_or bits r false) (ap is_unproductive (sym (at r)) ∙ alive)) in
+        (word.0, trees_from_derivation (HasProduction g) (Rule r ∷ []) word.0 word.1);
+    positions = λ r index here. absurd (is_closed index (get_or bits r false) (sym (at r) ∙ here));
     path = λ i lt. absurd (omega (arith, lt, ap length path));
     groups = subst (λ l. AreGroups (IsAbove (HasProduction g)) l x.starts.items) (sym path) (subst (AreGroups (IsAbove (HasProduction g)) []) (sym starts) (no_groups (IsAbove (HasProduction g))));
     edges = subst (All (IsEdge g)) (sym edges) (All-nil (IsEdge g));
   },
-  λ cost r answer settled. let h = is_settled answer (is_productive bits r) (sym (at r) ∙ settled) in
-      subst (Means (HasProduction g) cost r) h.1 (λ w s. have.none r h.0 w (trees_from_derivation (HasProduction g) (Rule r ∷ []) w s)),
+  λ cost r answer settled. let h = is_settled answer (get_or bits r false) (sym (at r) ∙ settled) in
+      subst (Means (HasProduction g) cost r) h.1 (λ w s. true≢false (sym ((have.productive r).1 (w, s)) ∙ h.0)),
 )
   where
-    at : (r : ℕ) → known_of x.known.items r ≡ first_known (is_productive bits r)
+    at : (r : ℕ) → known_of x.known.items r ≡ first_known (get_or bits r false)
     at r = elim (cases_lt r rules) [
       | inl lt ↦ each r lt
       | inr past ↦ get_or_past x.known.items r no_rule (omega (arith, past, len))
-          ∙ ap first_known (sym (get_or_past bits r false (let all = have.say.rules in omega (arith, past, all, e))))
+          ∙ ap first_known (sym (get_or_past bits r false (let all = have.rules in omega (arith, past, all, e))))
     ]
 
     is_on : (b : Bool) → is_unproductive (first_known b) ≡ false → b ≡ true

@@ -3,8 +3,8 @@
 ghost use Rattle.std.specs.Prelude.{◌≡◌, ◌≤◌, All, IfOk, length, slice_index};
 ghost use Rattle.cfggreatest.specs.GreatestCosts.{AreGreatestCosts};
 
-use crate::productive::Productive;
 use crate::walk::Walk;
+use cfganalysis::productive_rules;
 use cfgindex::Storage;
 use cfgtables::Tables;
 use derivation::CostError;
@@ -29,7 +29,7 @@ pub fn greatest_costs<S: Storage, T: Tables<S>>(
     requires positive { All (λ c. 1 ≤ c) costs.now }
     ensures { IfOk result (λ x. AreGreatestCosts (T.grammar grm.now) (slice_index costs.now) x.items) }
 {
-    let productive = Productive::new(alloc, grm)?;
+    let productive = productive_rules(alloc, grm)?;
     let rules_len = grm.rules_len().0.to_usize();
     let mut walk = Walk::new(alloc, &productive, rules_len)?;
     let mut results = Vec::new(alloc);

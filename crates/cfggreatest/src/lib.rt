@@ -3,7 +3,6 @@
 
 pub mod greatest;
 pub mod laws;
-mod productive;
 mod sums;
 mod walk;
 

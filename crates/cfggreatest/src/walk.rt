@@ -7,17 +7,16 @@ ghost use Rattle.std.specs.Prelude.{Result, false, true};
 ghost use Rattle.std.specs.Prelude.{length, map, slice_index};
 ghost use Rattle.derivation.specs.Grammar.{Grammar, HasProduction, IsGrammar, Rule};
 ghost use Rattle.cfgtables.specs.NumberedSymbols.{sym_of};
+ghost use Rattle.cfganalysis.specs.ProductiveRules.{AreProductiveRules};
 ghost use Rattle.cfggreatest.specs.GreatestCosts.{Means};
 ghost use Rattle.cfggreatest.specs.Inner.Groups.{IsLast};
 ghost use Rattle.cfggreatest.specs.Inner.Known.{AreTrue, is_unproductive, is_inside, is_outside, known_of};
 ghost use Rattle.cfggreatest.specs.Inner.AtLeast.{HasWord};
-ghost use Rattle.cfggreatest.specs.Inner.Productive.{HaveSentences};
 ghost use Rattle.cfggreatest.specs.Inner.Walk.{CanSettle, GoesOn, IsEdge, IsEdgeTo, IsLedOut, IsWalk};
 ghost use Rattle.cfggreatest.specs.Inner.Walk.{IsWayOut, Steps, first_known};
 
-use crate::productive::Productive;
 use crate::sums::{Known, Stop, are_productive, group_sums};
-use cfgindex::{RIdx, Storage, Symbol, to_storage};
+use cfgindex::{RIdx, Storage, Symbol, Vob, to_storage};
 use cfgtables::Tables;
 use derivation::CostError;
 use std::alloc::{AllocError, Global};
@@ -104,15 +103,15 @@ impl Walk {
     /// Out of memory.
     pub(crate) fn new(
         alloc: Global,
-        productive: &Productive,
+        productive: &Vob,
         rules: usize,
     ) -> Result<Self, AllocError>
-        ensures { IfOk result (λ x. (g : Grammar) → IsGrammar g → rules ≡ g.rules → HaveSentences g productive.now
+        ensures { IfOk result (λ x. (g : Grammar) → IsGrammar g → rules ≡ g.rules → AreProductiveRules g productive.now
             → IsWalk g x × ((cost : ℕ → ℕ) → AreTrue g cost x.known.items)) }
     {
         let mut known = Vec::new(alloc);
         for rule in 0..rules {
-            known.push(first_known(productive.has(rule)))?;
+            known.push(first_known(productive.get(rule).unwrap_or(false)))?;
         }
         Ok(Walk {
             known,

@@ -14,8 +14,9 @@ use Rattle.derivation.specs.declared.errors.CostError.{CostError}
 use Rattle.derivation.specs.declared.errors.CostError.TheVariants.{NoSentence, CostTooLarge}
 use Rattle.derivation.specs.Sums.{sum_of, symbol_cost}
 use Rattle.derivation.specs.CostLists.{rule_cost}
+use Rattle.derivation.specs.Productive.{Unproductive}
 use Rattle.cfgleast.specs.Certificate.{IsCovered, IsReached, IsChosenBelow, IsShown, claim_of, choice_of, rule_choice}
-use Rattle.cfgleast.specs.Generator.{CostTables, IsGenerator, ReturnsLeast, HasNone, IsLeastProduction, IsTooLarge, up_to_limit, where_some, cost_answer, choice_answer, token_cost}
+use Rattle.cfgleast.specs.Generator.{CostTables, IsGenerator, ReturnsLeast, IsLeastProduction, IsTooLarge, up_to_limit, where_some, cost_answer, choice_answer, token_cost}
 use Rattle.derivation.proofs.Sums.{plus_parts, plus_both}
 use Rattle.derivation.proofs.Sequences.{item_shown}
 use Rattle.cfgleast.proofs.Gains.{HasCost, all_have_costs, sum_kept}
@@ -77,7 +78,7 @@ module _ (x : CostTables) (n : ℕ) (is : IsGenerator x n) where
 
   -- a rule whose cost is returned has a choice
   pub choice_none : {S : Type 0} (value : S → ℕ) (r c : ℕ) (entry : Option (PIdx S × ℕ)) → Some c ≡ cost_answer x r → rule_choice x.choices r ≡ choice_of value entry
-      → (entry ≡ None) ↔ (HasNone (HasProduction x.grammar) r ⊎ IsTooLarge (HasProduction x.grammar) (token_cost x) r)
+      → (entry ≡ None) ↔ (Unproductive (HasProduction x.grammar) r ⊎ IsTooLarge (HasProduction x.grammar) (token_cost x) r)
   choice_none value r c entry answer shown =
       let known = answered_some (rule_cost x.least r) c (sym answer) in
       let small = known.1 in
@@ -158,6 +159,6 @@ module _ (x : CostTables) (n : ℕ) (is : IsGenerator x n) where
           go (Some c) e = reached_cost r c e
 
 -- why no cost is returned
-pub refused : (P : ℕ → List Sym → Type 0) (cost : ℕ → ℕ) (r : ℕ) (e : CostError) → ReturnsLeast P cost r (Err e) → HasNone P r ⊎ IsTooLarge P cost r
+pub refused : (P : ℕ → List Sym → Type 0) (cost : ℕ → ℕ) (r : ℕ) (e : CostError) → ReturnsLeast P cost r (Err e) → Unproductive P r ⊎ IsTooLarge P cost r
 refused P cost r NoSentence h = inl (h.none.0 refl)
 refused P cost r CostTooLarge h = inr (h.too_large.0 refl)

@@ -4,6 +4,7 @@ use Rattle.cfgindex.specs.declared.idxnewtype.PIdx.{PIdx}
 use Rattle.derivation.specs.Grammar.{Sym, Token, Grammar, HasProduction}
 use Rattle.derivation.specs.Derivation.{Derives}
 use Rattle.derivation.specs.Sentence.{Sentence, cost_of}
+use Rattle.derivation.specs.Productive.{Productive, Unproductive}
 use Rattle.derivation.specs.Costs.{Least, Minimal}
 use Rattle.cfgtables.specs.Openings.{nth_production}
 use Rattle.derivation.specs.declared.errors.CostError.{CostError}
@@ -50,19 +51,15 @@ cost_answer x r = up_to_limit (rule_cost x.least r)
 abbrev pub choice_answer : CostTables → ℕ → Option (ℕ × ℕ)
 choice_answer x r = where_some (cost_answer x r) (rule_choice x.choices r)
 
--- a rule has no sentence
-abbrev pub HasNone : (ℕ → List Sym → Type 0) → ℕ → Type 0
-HasNone P r = (w : List ℕ) → Sentence P r w → ⊥
-
 -- a rule has a sentence, and each costs more than 65535
 abbrev pub IsTooLarge : (ℕ → List Sym → Type 0) → (ℕ → ℕ) → ℕ → Type 0
-IsTooLarge P cost r = ((w : List ℕ) × Sentence P r w) × ((w : List ℕ) → Sentence P r w → 65535 < cost_of cost w)
+IsTooLarge P cost r = Productive P r × ((w : List ℕ) → Sentence P r w → 65535 < cost_of cost w)
 
 -- the least cost of a rule, if it is at most 65535, or why there is none
 pub record ReturnsLeast (P : ℕ → List Sym → Type 0) (cost : ℕ → ℕ) (r : ℕ) (result : Result ℕ CostError) : Type 0 where
   pub least : IfOk result (Least P cost r)
   pub found : (c : ℕ) → Least P cost r c → c ≤ 65535 → result ≡ Ok c
-  pub none : (result ≡ Err NoSentence) ↔ HasNone P r
+  pub none : (result ≡ Err NoSentence) ↔ Unproductive P r
   pub too_large : (result ≡ Err CostTooLarge) ↔ IsTooLarge P cost r
 
 -- a production of a rule, whose symbols derive a sentence such that no other costs less

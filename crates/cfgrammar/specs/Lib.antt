@@ -26,6 +26,7 @@ pub use Rattle.derivation.specs.Derivation
 pub use Rattle.derivation.specs.Concatenation
 pub use Rattle.derivation.specs.Tree
 pub use Rattle.derivation.specs.Sentence
+pub use Rattle.derivation.specs.Productive
 pub use Rattle.derivation.specs.First
 pub use Rattle.derivation.specs.Follow
 pub use Rattle.derivation.specs.Path
@@ -48,6 +49,7 @@ pub use Rattle.cfganalysis.specs.Table
 pub use Rattle.cfganalysis.specs.Firsts
 pub use Rattle.cfganalysis.specs.Follows
 pub use Rattle.cfganalysis.specs.Paths
+pub use Rattle.cfganalysis.specs.ProductiveRules
 pub use Rattle.cfgleast.specs.Certificate
 pub use Rattle.cfgleast.specs.Generator
 pub use Rattle.cfgchoices.specs.Splits

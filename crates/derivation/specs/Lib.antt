@@ -3,6 +3,7 @@ pub mod Derivation
 pub mod Concatenation
 pub mod Tree
 pub mod Sentence
+pub mod Productive
 pub mod First
 pub mod Follow
 pub mod Path

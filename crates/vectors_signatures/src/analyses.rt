@@ -1,4 +1,4 @@
-//! FIRST and FOLLOW.
+//! FIRST and FOLLOW, and productive rules.
 
 ghost use Rattle.std.specs.Prelude.{◌-◌, ◌^◌, ◌<◌, length};
 ghost use Rattle.cfgrammar.specs.Numbered.{core};
@@ -23,6 +23,11 @@ pub fn sets<S: Storage>(
         [grammar.firsts(alloc), YaccFirsts::new(alloc, grammar)],
         [grammar.follows(alloc), YaccFollows::new(alloc, grammar)],
     )
+}
+
+/// The productive rules of a grammar, as a bit for each rule.
+pub fn productive<S: Storage>(alloc: Global, grammar: &YaccGrammar<S>) -> Result<Vob, AllocError> {
+    grammar.productive_rules(alloc)
 }
 
 /// The FIRST sets, from productions that are opened and counted.

@@ -1,6 +1,6 @@
 -- FIRST sets while they are computed. A production gives its rule the tokens that its symbols begin with, and makes it nullable if they
 -- all are.
-use Rattle.std.specs.Prelude.{ℕ, ◌+◌, Bool, true, false, List, replicate, slice_set}
+use Rattle.std.specs.Prelude.{ℕ, ◌+◌, Bool, true, false, List, Contains, replicate, slice_set}
 use Rattle.derivation.specs.Grammar.{Sym, Rule, Token, Grammar, Production, HasProduction}
 use Rattle.derivation.specs.First.{First, Nullable}
 use Rattle.derivation.specs.FirstSets.{AreNullable, Begins, Covers}
@@ -16,6 +16,10 @@ pub record AreSoundFirsts (g : Grammar) (x : FirstSets) : Type 0 where
 -- the sets contain all that the production gives
 abbrev pub CoverFirstsOf : FirstSets → Production → Type 0
 CoverFirstsOf x p = Covers (IsNullableRule x) (IsAmongFirsts x) p.rule p.symbols
+
+-- rule r is in the production; what the production gives depends on r's set
+abbrev pub HoldsRule : Production → ℕ → Type 0
+HoldsRule p r = Contains p.symbols (Rule r)
 
 -- the rule's set gained no token, and the rule didn't become nullable
 pub record HasNoMoreFirsts (r : ℕ) (old new : FirstSets) : Type 0 where

@@ -7,7 +7,7 @@ use Rattle.derivation.specs.FirstSets.{AreNullable, Begins}
 use Rattle.derivation.specs.FollowSets.{CoversFollow}
 use Rattle.cfganalysis.specs.Table.{Table, IsTable, HasBit, Joins, count_of}
 use Rattle.cfgtables.specs.NumberedSymbols.{sym_of}
-use Rattle.cfganalysis.specs.Waiting.{Waits}
+use Rattle.cfganalysis.specs.Inner.Waiting.{Waits}
 use Rattle.cfganalysis.specs.Firsts.{FirstSets, FitsGrammar, AreFirsts, IsAmongFirsts, IsNullableRule}
 use Rattle.cfganalysis.specs.declared.follows.Lookahead.{Lookahead}
 use Rattle.cfganalysis.specs.declared.follows.Lookahead.TheVariants as prefixes

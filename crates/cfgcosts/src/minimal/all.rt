@@ -4,7 +4,8 @@ ghost use Rattle.std.specs.Prelude.{◌≡◌, ◌↔◌, ℕ, ◌<◌, [], ◌+
 ghost use Rattle.std.specs.List.Sorted.{IsStrictlySortedBy};
 ghost use Rattle.derivation.specs.Grammar.{HasProduction};
 ghost use Rattle.derivation.specs.Costs.{Minimal};
-ghost use Rattle.cfgleast.specs.Generator.{HasNone, IsTooLarge, cost_answer, token_cost};
+ghost use Rattle.derivation.specs.Productive.{Unproductive};
+ghost use Rattle.cfgleast.specs.Generator.{IsTooLarge, cost_answer, token_cost};
 ghost use Rattle.cfgcosts.specs.Inner.Targets.{HasSameSentences};
 ghost use Rattle.cfgcosts.specs.Inner.Minimal.{AreMinimal, IsMadeBy, IsReadyFor, sentences_in, words_of};
 ghost use Rattle.cfgchoices.specs.FirstSentence.{lexicographic};
@@ -127,7 +128,7 @@ impl<'a, S: Storage, T: Tables<S>> SentenceGenerator<'a, S, T> {
             → Contains (map (numbers_of S.number) sentences.items) w
             → Contains (map (numbers_of S.number) sentences.items) (w ++ rest) → rest ≡ []) }
         ensures none { (result ≡ Err SentenceError.NoSentence)
-            ↔ HasNone (HasProduction self.now.grammar) (S.number rule.0) }
+            ↔ Unproductive (HasProduction self.now.grammar) (S.number rule.0) }
         ensures too_large { (result ≡ Err SentenceError.CostTooLarge)
             ↔ IsTooLarge (HasProduction self.now.grammar) (token_cost self.now) (S.number rule.0) }
     {

@@ -2,7 +2,7 @@
 use Rattle.std.specs.Prelude.{◌≡◌, ◌↔◌, ◌⊎◌, ℕ, ◌<◌, List, All, Contains, Option, None, Some, MatchOption, get_or, length, slice_get}
 use Rattle.std.specs.List.Sorted.{IsStrictlyIncreasing}
 use Rattle.cfgrammar.specs.Grammar.{HasProduction, Sym, Rule}
-use Rattle.cfgrammar.specs.Generator.{HasNone}
+use Rattle.cfgrammar.specs.Productive.{Unproductive}
 use Rattle.cfgrammar.specs.Numbered.{Numbered, core}
 use Rattle.cfgrammar.specs.Openings.{nth_production}
 use Rattle.cfgrammar.specs.CyclicGroup.{CyclicGroup}
@@ -25,29 +25,29 @@ pub record Puts (Put : ℕ → ℕ → Type 0) (old new : List (List Step)) : Ty
 
 module _ (g : Numbered) where
   -- the rule is unproductive, and among the symbols
-  pub record IsLackingIn (symbols : List Sym) (b : ℕ) : Type 0 where
+  pub record IsNeededIn (symbols : List Sym) (b : ℕ) : Type 0 where
     pub holds : Contains symbols (Rule b)
-    pub needed_none : HasNone (HasProduction (core g)) b
+    pub needed : Unproductive (HasProduction (core g)) b
 
   -- by this production rule a needs rule b
   pub record NeedsBy (p a b : ℕ) : Type 0 where
     pub owner : (nth_production (core g) p).rule ≡ a
-    pub none : HasNone (HasProduction (core g)) a
-    pub needs : IsLackingIn (nth_production (core g) p).symbols b
+    pub unproductive : Unproductive (HasProduction (core g)) a
+    pub needs : IsNeededIn (nth_production (core g) p).symbols b
 
   -- a step from each unproductive one of the first `rules` rules to itself, steps by the first `productions` productions, and no others
   pub record AreNeedsBelow (rules productions : ℕ) (steps : List (List Step)) : Type 0 where
     pub entries : length steps ≡ length g.rules
     pub within : AreWithin steps
     pub are : (a b : ℕ) → StepsTo steps a b
-        ↔ (((a < rules) × HasNone (HasProduction (core g)) a × (b ≡ a)) ⊎ ((p : ℕ) × (p < productions) × NeedsBy p a b))
+        ↔ (((a < rules) × Unproductive (HasProduction (core g)) a × (b ≡ a)) ⊎ ((p : ℕ) × (p < productions) × NeedsBy p a b))
 
   -- a step from each unproductive rule to itself, steps to the rules that it needs, and no others
   pub record AreNeeds (steps : List (List Step)) : Type 0 where
     pub entries : length steps ≡ length g.rules
     pub within : AreWithin steps
     pub are : (a b : ℕ) → a < length g.rules
-        → StepsTo steps a b ↔ (HasNone (HasProduction (core g)) a × ((b ≡ a) ⊎ Needs (HasProduction (core g)) a b))
+        → StepsTo steps a b ↔ (Unproductive (HasProduction (core g)) a × ((b ≡ a) ⊎ Needs (HasProduction (core g)) a b))
 
   -- if the rule is in a sink group, exactly the rules of its group, in ascending order; otherwise none
   pub record AreGroupOf (r : ℕ) (rules : List ℕ) : Type 0 where

@@ -5,14 +5,15 @@ ghost use Rattle.derivation.specs.Grammar.{HasProduction};
 ghost use Rattle.derivation.specs.Path.{Path};
 ghost use Rattle.cfganalysis.specs.Firsts.{AreFirsts};
 ghost use Rattle.cfganalysis.specs.Follows.{AreFollows};
+ghost use Rattle.cfganalysis.specs.ProductiveRules.{AreProductiveRules};
 ghost use Rattle.cfgleast.specs.Generator.{token_cost};
 ghost use Rattle.cfgindex.specs.declared.idxnewtype.TIdx.{TIdx};
 ghost use Rattle.cfgnumbers.specs.Numbered.{core};
 
 use super::SentenceGenerator;
 use super::tables::YaccGrammar;
-use cfganalysis::{CountedTables, Tables, YaccFirsts, YaccFollows, has_path};
-use cfgindex::{PIdx, RIdx, Storage, Symbol, TIdx};
+use cfganalysis::{CountedTables, Tables, YaccFirsts, YaccFollows, has_path, productive_rules};
+use cfgindex::{PIdx, RIdx, Storage, Symbol, TIdx, Vob};
 use std::alloc::{AllocError, Global};
 
 impl<S: Storage> Tables<S> for YaccGrammar<S> {
@@ -83,6 +84,18 @@ impl<S: Storage> YaccGrammar<S> {
         ensures { IfOk result (AreFollows (core self.now)) }
     {
         YaccFollows::new(alloc, self)
+    }
+
+    /// The productive rules of the grammar, as a bit for each rule: those that derive a list of tokens, which may be
+    /// empty.
+    ///
+    /// # Errors
+    ///
+    /// Out of memory.
+    pub fn productive_rules(&self, alloc: Global) -> Result<Vob, AllocError>
+        ensures { IfOk result (AreProductiveRules (core self.now)) }
+    {
+        productive_rules(alloc, self)
     }
 
     /// Whether one rule leads to another in one or more references: one of its productions contains the other rule, or

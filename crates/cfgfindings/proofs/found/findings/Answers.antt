@@ -18,7 +18,7 @@ joined a0 a1 a2 a3 a4 a5 a6 a7 a8 n t h w v u x y l r p d e0 e1 e2 e3 e4 e5 e6 e
 pub returns : goal.returns
 returns c =
     let (rules, tokens, shadowed, are_rules, are_tokens, are_shadowed, unused_is) = c.in_ok-push_unused.ensures in
-    let (without, unusable_rules, are_without, are_unusable_rules, unproductive_is) = c.in_ok-push_unproductive.ensures in
+    let (unproductive_rules, unusable_rules, are_unproductive_rules, are_unusable_rules, unproductive_is) = c.in_ok-push_unproductive.ensures in
     let (unusable_productions, are_unusable_productions, unusable_is) = c.in_ok-push_unusable.ensures in
     let (useless_rules, useless_tokens, are_useless_rules, are_useless_tokens, useless_is) = c.in_ok-push_useless.ensures in
     let (cycles, are_cycles, cycles_is) = c.in_ok-push_cycles.ensures in
@@ -29,10 +29,10 @@ returns c =
     let before = c.push_declarations.new.all.items in
     let after = c.sort_by_key.new.self.items in
     let reported : List ShownFinding = rules ++ (tokens ++ (shadowed
-    ++ (without ++ (unusable_rules ++ (unusable_productions ++ (useless_rules ++ (useless_tokens ++ (cycles ++ (repeats ++ (precedences ++ declared)))))))))) in
+    ++ (unproductive_rules ++ (unusable_rules ++ (unusable_productions ++ (useless_rules ++ (useless_tokens ++ (cycles ++ (repeats ++ (precedences ++ declared)))))))))) in
     let is : before ≡ reported = joined c.new-all.result.items c.push_unused.new.all.items c.push_unproductive.new.all.items c.push_unusable.new.all.items
     c.push_useless.new.all.items c.push_cycles.new.all.items c.push_repeats.new.all.items c.push_precedences.new.all.items before
-    rules tokens shadowed without unusable_rules unusable_productions useless_rules useless_tokens cycles repeats precedences declared
+    rules tokens shadowed unproductive_rules unusable_rules unusable_productions useless_rules useless_tokens cycles repeats precedences declared
     c.new-all.ensures.items unused_is unproductive_is unusable_is useless_is cycles_is repeats_is precedences_is c.in_ok-push_declarations.ensures in
     let sorted = c.in_ok-sort_by_key.ensures.sorted offset_of (always_returns_same _ _ _ (λ a r f called. search rules)) in
     let stable = c.in_ok-sort_by_key.ensures.stable offset_of (always_returns_same _ _ _ (λ a r f called. search rules)) in
@@ -42,7 +42,7 @@ returns c =
         unused_rules = rules;
         unused_tokens = tokens;
         shadowed = shadowed;
-        without = without;
+        unproductive_rules = unproductive_rules;
         unusable_rules = unusable_rules;
         unusable_productions = unusable_productions;
         useless_rules = useless_rules;
@@ -53,7 +53,7 @@ returns c =
         are_unused_rules = are_rules;
         are_unused_tokens = are_tokens;
         are_shadowed = are_shadowed;
-        are_without = subst (λ (g : Numbered). ReportsBelow (ReportsNoSentence (syntax c.args.ast.now) g) (length g.rules) without) seen are_without;
+        are_unproductive_rules = subst (λ (g : Numbered). ReportsBelow (ReportsNoSentence (syntax c.args.ast.now) g) (length g.rules) unproductive_rules) seen are_unproductive_rules;
         are_unusable_rules = subst (λ (g : Numbered). ReportsBelow (ReportsUnusableRule (syntax c.args.ast.now) g) (length g.rules) unusable_rules) seen are_unusable_rules;
         are_unusable_productions = subst (λ (g : Numbered). ReportsBelow (ReportsUnusable g) g.start_production unusable_productions) seen are_unusable_productions;
         are_useless_rules = subst (λ (g : Numbered). ReportsBelow (ReportsUselessRule g) (length g.rules) useless_rules) seen are_useless_rules;

@@ -3,7 +3,7 @@ use Rattle.cfgrammar.specs.Numbered.{Numbered}
 use Rattle.cfgfindings.specs.Inner.SinkGroups.{AreNeedsBelow}
 use Rattle.cfgfindings.proofs.Needs.{rule_left_out, rule_put}
 use Rattle.cfgfindings.proofs.sink_groups.own_steps.Goals as goal
-use Rattle.cfgfindings.proofs.sink_groups.own_steps.Goals.{then-misses+in_ok-push, else-misses}
+use Rattle.cfgfindings.proofs.sink_groups.own_steps.Goals.{then-contains+in_ok-push, else-contains}
 
 pub loop-rule-preserved : goal.loop-rule-preserved
 loop-rule-preserved c =
@@ -13,11 +13,11 @@ loop-rule-preserved c =
     let before = c.loop-rule.invariant in
     let seen = ap (λ (n : Numbered). length n.rules) c.grammar-grammar.ensures in
     let within : rule < length mid = omega (arith, c.loop-rule-test.true, c.from-rules.ensures, c.rules_len.ensures, seen, before.entries) in
-    elim c.if-misses.branch [
-      | then-misses+in_ok-push w ↦
-          rule_put g rule c.to_storage.result c.to_storage.ensures w.if-misses.ensures mid c.if-misses.steps w.step_to.result w.step_to.ensures within
+    elim c.if-contains.branch [
+      | then-contains+in_ok-push w ↦
+          rule_put g rule c.to_storage.result c.to_storage.ensures w.if-contains.ensures mid c.if-contains.steps w.step_to.result w.step_to.ensures within
           (w.steps-is ∙ w.in_ok-push.ensures.ok) before
-      | else-misses w ↦ rule_left_out g rule c.to_storage.result c.to_storage.ensures w.if-misses.ensures mid c.if-misses.steps w.steps-is before
+      | else-contains w ↦ rule_left_out g rule c.to_storage.result c.to_storage.ensures w.if-contains.ensures mid c.if-contains.steps w.steps-is before
     ]
 
 pub returns : goal.returns

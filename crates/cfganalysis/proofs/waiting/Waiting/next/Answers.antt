@@ -1,5 +1,5 @@
 use Rattle.std.proofs.Common.{false, length, arith, sym, ap, subst, length-set}
-use Rattle.cfganalysis.specs.Waiting.{IsStack}
+use Rattle.cfganalysis.specs.Inner.Waiting.{IsStack}
 use Rattle.cfganalysis.proofs.Stacking.{last_within, stack_next}
 use Rattle.cfganalysis.proofs.waiting.Waiting.next.Goals as goal
 

@@ -1,5 +1,5 @@
 use Rattle.std.proofs.Common.{◌≡◌, ◌<◌, [], ◌∷◌, ◌++◌, List, Bool, ℕ, false, true, length, slice_get, Some, MatchBool, arith, sym, ap, subst, length-set}
-use Rattle.cfganalysis.specs.Waiting.{IsStack}
+use Rattle.cfganalysis.specs.Inner.Waiting.{IsStack}
 use Rattle.cfganalysis.proofs.Stacking.{stack_room, stack_put, stack_again}
 use Rattle.cfganalysis.proofs.waiting.Waiting.put.Goals as goal
 

@@ -1,5 +1,5 @@
 use Rattle.std.proofs.Common.{◌<◌, subst, sym, Contains}
-use Rattle.cfganalysis.specs.Work.{users_of}
+use Rattle.cfganalysis.specs.Inner.Work.{users_of}
 use Rattle.cfganalysis.proofs.work.Work.let_users_wait.Goals as goal
 
 pub queue_users-requires-clause-within : goal.queue_users-requires-clause-within

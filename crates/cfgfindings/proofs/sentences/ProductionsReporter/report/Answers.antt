@@ -26,8 +26,8 @@ prod_to_rule-requires c = stored c.args.self.now.0.now c.grammar-grammar.result.
 pub prod-requires : goal.prod-requires
 prod-requires c = stored c.args.self.now.0.now c.grammar-grammar.result.now c.grammar-grammar.ensures c.args.number c.start_prod-start.result.0 c.start_prod-start.ensures.value c.start_prod-start.ensures.within c.requires c.to_storage.result c.to_storage.ensures
 
-pub first_without-requires : goal.first_without-requires
-first_without-requires c = subst (λ g. All (IsSymbolWithin (λ s. s) g) c.prod.result.now) c.grammar-grammar.ensures c.prod.ensures.within
+pub first_among-requires : goal.first_among-requires
+first_among-requires c = subst (λ g. All (IsSymbolWithin (λ s. s) g) c.prod.result.now) c.grammar-grammar.ensures c.prod.ensures.within
 
 pub rule_name_str-name-requires : goal.rule_name_str-name-requires
 rule_name_str-name-requires c = subst (λ (g : Numbered). c.in-Some.rule.0 < length g.rules) (sym c.grammar-grammar.ensures) c.in-Some.ensures.within
@@ -68,7 +68,7 @@ returns c =
     let name = c.rule_name_str-name.result.now in
     let span = c.prod_span-span.result in
     let text : string_bytes c.in_ok-text.text ≡ codes "Unusable production: rule '" ++ (name ++ codes "' has no sentence") = c.in_ok-text.ensures.ok in (
-      is_unusable g law p within symbols held rule owner c.requires c.if-misses.ensures q c.in-Some.ensures.first,
+      is_unusable g law p within symbols held rule owner c.requires c.if-contains.ensures q c.in-Some.ensures.first,
       q,
       first_read g law p within symbols held q c.in-Some.ensures.first,
       c.in_ok-at.ensures ∙ ap (shown_at UnusableProduction span) text

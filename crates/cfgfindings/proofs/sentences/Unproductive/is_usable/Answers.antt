@@ -9,8 +9,8 @@ use Rattle.cfgfindings.proofs.sentences.Unproductive.is_usable.Goals as goal
 pub prod-requires : goal.prod-requires
 prod-requires c = subst (λ (g : Numbered). c.args.production.0 < length g.productions) (sym c.self.view_is) c.requires
 
-pub first_without-requires : goal.first_without-requires
-first_without-requires c = subst (λ g. All (IsSymbolWithin (λ s. s) g) c.prod.result.now) c.self.view_is c.prod.ensures.within
+pub first_among-requires : goal.first_among-requires
+first_among-requires c = subst (λ g. All (IsSymbolWithin (λ s. s) g) c.prod.result.now) c.self.view_is c.prod.ensures.within
 
 pub returns-in-Some : goal.returns-in-Some
 returns-in-Some c =

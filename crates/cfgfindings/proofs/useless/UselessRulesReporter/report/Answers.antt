@@ -21,12 +21,11 @@ returns c =
     let span = c.rule_name_span-span.result in
     let added : rules_added g ≡ c.rules_added.result = ap rules_added (sym view) ∙ sym c.rules_added.ensures in
     let productive = subst (λ (n : Numbered). UnproductiveOrNot n r false) c.reached.view_is
-    (subst (λ r. UnproductiveOrNot c.reached.inside.unproductive.now r false) same c.if-misses.ensures) in
+    (subst (λ r. UnproductiveOrNot c.reached.inside.unproductive.now r false) same c.if-contains.ensures) in
     let text : string_bytes c.in_ok-text.text ≡ codes "Rule '" ++ (name ++ codes "' is reached only through unusable productions") = c.in_ok-text.ensures.ok in (
       record {
         ours = omega (arith, added, c.if-number-rules_added.false);
-        sentence = productive.0;
-        is = productive.1;
+        productive = productive;
         useless = subst (λ r. IsUseless (core g) (Rule r)) same (c.if-not-is_useless.ensures.0 refl);
       },
       c.in_ok-at.ensures ∙ ap (shown_at UselessSymbol span) text

@@ -1,0 +1,125 @@
+//! Productive rules: those that have a sentence.
+
+ghost use Rattle.std.specs.Prelude.{◌≡◌, IfOk, MatchBool, length, map};
+ghost use Rattle.cfgtables.specs.NumberedSymbols.{sym_of};
+ghost use Rattle.cfganalysis.specs.Inner.Growth.{CanNote, CanAddProduction, AddsProduction, shown};
+ghost use Rattle.cfganalysis.specs.Inner.GrowingFirsts.{HoldsRule};
+ghost use Rattle.cfganalysis.specs.Inner.GrowingProductive.{AreProductiveSymbols, AreSoundProductive};
+ghost use Rattle.cfganalysis.specs.Inner.GrowingProductive.{CoverProductiveOf, IsNoMoreProductive};
+ghost use Rattle.cfganalysis.specs.Inner.GrowingProductive.{is_productive_symbol, productive_bounded};
+ghost use Rattle.cfganalysis.specs.Inner.Waiting.{Waits};
+ghost use Rattle.cfganalysis.specs.Inner.Work.{Notes};
+ghost use Rattle.cfganalysis.specs.ProductiveRules.{AreProductiveRules};
+ghost use Rattle.cfganalysis.specs.Table.{bits_on};
+
+use crate::firsts::note_rules;
+use crate::growth::Analysis;
+use crate::visits::visit_all;
+use crate::waiting::Waiting;
+use crate::work::Users;
+use cfgindex::{RIdx, Storage, Symbol, Vob};
+use cfgtables::{CountedTables, Productions, Tables};
+use std::alloc::{AllocError, Global};
+use std::marker::Model;
+
+/// The productive rules of a grammar, as a bit for each rule.
+///
+/// # Errors
+///
+/// Out of memory.
+pub fn productive_rules<S: Storage, T: Tables<S>>(
+    alloc: Global,
+    tables: &T,
+) -> Result<Vob, AllocError>
+    ensures { IfOk result (AreProductiveRules (T.grammar tables.now)) }
+{
+    let mut productions = CountedTables::new(alloc, tables)?;
+    let rules = productions.rules_len().0.to_usize();
+    let _tokens = productions.tokens_len().0.to_usize();
+    let mut productive = GrowingProductive {
+        bits: Vob::from_elem(alloc, false, rules)?,
+    };
+    visit_all(alloc, &mut productions, &mut productive)?;
+    Ok(productive.bits)
+}
+
+/// The productive rules found so far.
+#[derive(Drop)]
+struct GrowingProductive {
+    bits: Vob,
+}
+
+impl Model for GrowingProductive {
+    ghost use Rattle.std.specs.Prelude.{List, Bool};
+
+    ghost Value = { List Bool };
+
+    ghost view = { λ x. x.bits };
+}
+
+impl GrowingProductive {
+    /// Whether the symbol is a token or a productive rule.
+    fn has_symbol<S: Storage>(&self, symbol: Symbol<S>) -> bool
+        ensures { result ≡ is_productive_symbol self.now (sym_of S.number symbol) }
+    {
+        match symbol {
+            Symbol::Rule(rule) => self.bits.get(usize::from(rule)).unwrap_or(false),
+            Symbol::Token(_) => true,
+        }
+    }
+
+    /// Whether all symbols are tokens or productive rules.
+    fn has_all<S: Storage>(&self, symbols: &[Symbol<S>]) -> bool
+        ensures { MatchBool result (AreProductiveSymbols self.now (map (sym_of S.number) symbols.now))
+            (AreProductiveSymbols self.now (map (sym_of S.number) symbols.now) → ⊥) }
+    {
+        for symbol in symbols {
+            if !self.has_symbol(*symbol) {
+                return false;
+            }
+        }
+        true
+    }
+}
+
+impl<S: Storage> Analysis<S> for GrowingProductive {
+    ghost holds = { AreSoundProductive };
+
+    ghost covers = { CoverProductiveOf };
+
+    ghost bits = { bits_on };
+
+    ghost depends_on = { HoldsRule };
+
+    ghost no_more = { IsNoMoreProductive };
+
+    ghost bounded = { productive_bounded };
+
+    fn note(
+        &self,
+        production: usize,
+        _rule: RIdx<S>,
+        symbols: &[Symbol<S>],
+        users: &mut Users,
+    ) -> Result<(), AllocError>
+        requires { CanNote users.old (shown S.number _rule symbols.now) }
+        ensures { IfOk result (λ _. Notes production (HoldsRule (shown S.number _rule symbols.now))
+            users.old users.new) }
+    {
+        note_rules(production, symbols, users)
+    }
+
+    fn visit(&mut self, rule: RIdx<S>, symbols: &[Symbol<S>], gained: &mut Waiting)
+        requires { CanAddProduction AreSoundProductive self.old gained.old (shown S.number rule symbols.now) }
+        ensures takes { AddsProduction AreSoundProductive CoverProductiveOf bits_on HoldsRule IsNoMoreProductive
+            (shown S.number rule symbols.now) self.old self.new (Waits gained.new) }
+        ensures rules { length gained.new ≡ length gained.old }
+    {
+        if !self.has_all(symbols) {
+            return;
+        }
+        if self.bits.set(usize::from(rule), true) {
+            gained.put(usize::from(rule));
+        }
+    }
+}

@@ -1,5 +1,0 @@
-use Rattle.cfgtables.proofs.Located.{all_symbols}
-use Rattle.cfggreatest.proofs.productive.ProductiveAnalysis.note.Goals as goal
-
-pub note_rules-requires : goal.note_rules-requires
-note_rules-requires g c = (c.requires.0, c.requires.2, all_symbols c.requires.0 _ c.requires.1 c.requires.3)
