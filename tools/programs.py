@@ -263,6 +263,8 @@ def write(path, text, mode=0o644):
     with open(f"{path}.{os.getpid()}", "wb") as it:
         it.write(text)
     os.chmod(it.name, mode)
+    if os.path.isdir(path):
+        remove(path)
     os.replace(it.name, path)
 
 
