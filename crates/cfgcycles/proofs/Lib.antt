@@ -8,9 +8,7 @@ pub mod Members
 pub mod Nullable
 pub mod OneGroup
 pub mod Outcomes
-pub mod PathGroups
 pub mod Paths
 pub mod Positions
 pub mod Putting
 pub mod Reaching
-pub mod Searching

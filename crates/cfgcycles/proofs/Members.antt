@@ -1,4 +1,4 @@
--- The rules of components, the steps between them, and the groups of cyclic rules that these give.
+-- The steps inside components, and the groups of cyclic rules that these give.
 use Rattle.std.proofs.Common.{◌≡◌, ℕ, zero, suc, ◌+◌, ◌<◌, ◌≤◌, inl, inr, List, [], ◌∷◌, ◌++◌, Option, Some, None, Contains, get_or, length, replicate, slice_get, slice_index, slice_set, take, arith, refl, sym, ap, ◌∙◌, subst, get_or-set_same, get_or-set_other, length-append}
 use Rattle.std.specs.List.Sorted.{IsStrictlyIncreasing}
 use Rattle.std.proofs.lemmas.Bool.{cases_eq, cases_lt}
@@ -13,22 +13,12 @@ use Rattle.cfgcycles.specs.declared.step_paths.Step.{Step}
 use Rattle.cfgcycles.specs.CyclicGroups.{IsGroup, IsGroupOf, LeadsTo, OnCommonCycle}
 use Rattle.cfgcycles.specs.StepLists.{AreWithin, HasStep}
 use Rattle.cfgcycles.specs.StepPaths.{Leads}
-use Rattle.cfgcycles.specs.Inner.Components.{AreComponents, Reaches}
-use Rattle.cfgcycles.specs.Inner.Members.{AreInner, AreMembers, IsGroupAmong}
+use Rattle.search.specs.Components.{AreComponents, AreMembers}
+use Rattle.cfgcycles.specs.Inner.Components.{Reaches, StepsTo}
+use Rattle.cfgcycles.specs.Inner.Members.{AreInner, IsGroupAmong}
 use Rattle.cfgcycles.specs.Inner.Putting.{ArePut}
 use Rattle.cfgcycles.proofs.Putting.{put_as, put_none, put_one, put_then}
-use Rattle.cfgcycles.proofs.Reaching.{leads_through, reaches_by, reaches_itself, reaches_through}
-
-ascending_push : (xs : List ℕ) (x : ℕ) → IsStrictlyIncreasing xs → ((y : ℕ) → Contains xs y → y < x) → IsStrictlyIncreasing (xs ++ x ∷ [])
-ascending_push xs x ascending below k lt = elim (cases_lt (k + 1) (length xs)) [
-  | inl within ↦ subst (λ y. y < slice_index (xs ++ x ∷ []) (k + 1)) (sym (get_or_append_left xs (x ∷ []) 0 k (omega (arith, within))))
-      (subst (λ y. slice_index xs k < y) (sym (get_or_append_left xs (x ∷ []) 0 (k + 1) within)) (ascending k within))
-  | inr past ↦
-      let end : length xs ≡ k + 1 = omega (arith, past, lt, length_push xs x) in
-      let last : k < length xs = omega (arith, end) in
-      subst (λ y. y < slice_index (xs ++ x ∷ []) (k + 1)) (sym (get_or_append_left xs (x ∷ []) 0 k last))
-      (subst (λ y. slice_index xs k < y) (sym (get_or_push xs x 0 (k + 1) end)) (below (slice_index xs k) (Contains-get_or xs k 0 last)))
-]
+use Rattle.cfgcycles.proofs.Reaching.{leads_through, path_there, reached_along, reaches_by, reaches_itself, reaches_through}
 
 -- the first of ascending numbers is the least
 head_least : (xs : List ℕ) → IsStrictlyIncreasing xs → (x : ℕ) → Contains xs x → slice_index xs 0 ≤ x
@@ -44,54 +34,11 @@ head_least xs ascending x (k, within, at) = subst (λ y. slice_index xs 0 ≤ y)
         let next : slice_index xs k < slice_index xs (suc k) = let e : k + 1 ≡ suc k = omega arith in subst (λ n. slice_index xs k < slice_index xs n) e (ascending k (omega (arith, lt))) in
         omega (arith, before, next)
 
--- the rules with this root, and one more
-abbrev pub longer_list : List (List ℕ) → ℕ → ℕ → List ℕ
-longer_list members root rule = get_or members root [] ++ rule ∷ []
-
--- one more rule is added to those with its root
-pub one_member : (roots : List ℕ) (members new : List (List ℕ)) (rule root : ℕ) → slice_index roots rule ≡ root → root < length members
-    → new ≡ slice_set members root (longer_list members root rule) → ((r : ℕ) → AreMembers roots rule r (get_or members r []))
-    → (r : ℕ) → AreMembers roots (rule + 1) r (get_or new r [])
-one_member roots members new rule root of within is are r = subst (λ l. AreMembers roots (rule + 1) r (get_or l r [])) (sym is) (elim (cases_eq r root) [
-  | inl same ↦ subst (λ n. AreMembers roots (rule + 1) n (get_or (slice_set members root (longer_list members root rule)) n [])) (sym same)
-      (subst (AreMembers roots (rule + 1) root) (sym (get_or-set_same members root (longer_list members root rule) [] within)) longer)
-  | inr other ↦ subst (AreMembers roots (rule + 1) r) (sym (get_or-set_other members root r (longer_list members root rule) [] other)) (record {
-    ascending = (are r).ascending;
-    all = λ k. (
-      (λ c. let w = ((are r).all k).0 c in (omega (arith, w.0), w.1)),
-      (λ h. elim (cases_lt k rule) [
-        | inl lt ↦ ((are r).all k).1 (lt, h.1)
-        | inr past ↦
-            let this : rule ≡ k = omega (arith, past, h.0) in
-            absurd (other (sym h.1 ∙ ap (slice_index roots) (sym this) ∙ of))
-      ]),
-    );
-  })
-])
-  where
-    longer : AreMembers roots (rule + 1) root (longer_list members root rule)
-    longer = record {
-      ascending = ascending_push (get_or members root []) rule (are root).ascending (λ y c. (((are root).all y).0 c).0);
-      all = λ k. (
-        (λ c. elim (Contains-push_cases (get_or members root []) rule k c) [
-          | inl old ↦ let w = ((are root).all k).0 old in (omega (arith, w.0), w.1)
-          | inr this ↦ subst (λ n. (n < rule + 1) × (slice_index roots n ≡ root)) this (omega arith, of)
-        ]),
-        (λ h. elim (cases_lt k rule) [
-          | inl lt ↦ Contains-append_left (get_or members root []) (rule ∷ []) k (((are root).all k).1 (lt, h.1))
-          | inr past ↦ let this : rule ≡ k = omega (arith, past, h.0) in subst (Contains (longer_list members root rule)) this (Contains-push (get_or members root []) rule)
-        ]),
-      );
-    }
-
--- the rules with the root that was read
-pub members_at : (roots read : List ℕ) (n rule root : ℕ) (members : List (List ℕ)) (list : List ℕ) → read ≡ roots → length roots ≡ n → rule < length roots
-    → root ≡ get_or roots rule root → list ≡ get_or members root [] → ((r : ℕ) → AreMembers read (length read) r (get_or members r []))
-    → AreMembers roots n (slice_index roots rule) list
-members_at roots read n rule root members list same long lt at is are =
-    subst (AreMembers roots n (slice_index roots rule)) (sym (is ∙ ap (λ r. get_or members r []) (at ∙ get_or_default roots rule root 0 lt)))
-    (subst (λ k. AreMembers roots k (slice_index roots rule) (get_or members (slice_index roots rule) [])) long
-    (subst (λ l. AreMembers l (length l) (slice_index roots rule) (get_or members (slice_index roots rule) [])) same (are (slice_index roots rule))))
+-- the rules with the number that was read
+pub members_at : (numbers : List ℕ) (n rule number : ℕ) (members : List (List ℕ)) (list : List ℕ) → rule < length numbers → number ≡ get_or numbers rule number
+    → list ≡ get_or members number [] → ((c : ℕ) → AreMembers numbers n c (get_or members c [])) → AreMembers numbers n (slice_index numbers rule) list
+members_at numbers n rule number members list lt at is are = subst (AreMembers numbers n (slice_index numbers rule))
+    (sym (is ∙ ap (λ c. get_or members c []) (at ∙ get_or_default numbers rule number 0 lt))) (are (slice_index numbers rule))
 
 -- what is true of each entry below, and of one more
 pub one_more_entry : {A : Type 0} (Is : ℕ → A → Type 0) (table now : List A) (none entry : A) (rule : ℕ) → now ≡ table ++ entry ∷ [] → length table ≡ rule
@@ -104,9 +51,9 @@ one_more_entry Is table now none entry rule is long below here k less = subst (�
 ])
 
 -- the steps of one rule, one by one
-module _ (roots : List ℕ) (rule : ℕ) (path : List Step) where
+module _ (numbers : List ℕ) (rule : ℕ) (path : List Step) where
   abbrev IsSame : Step → Type 0
-  IsSame step = slice_index roots rule ≡ slice_index roots step.rule
+  IsSame step = slice_index numbers rule ≡ slice_index numbers step.rule
 
   pub inner_put : (old : List (List Step)) (step : Step) → rule < length old → IsSame step
       → ArePut (λ a s. (a ≡ rule) × (s ≡ step) × IsSame s) old (slice_set old rule (get_or old rule [] ++ step ∷ []))
@@ -139,31 +86,31 @@ module _ (steps : List (List Step)) where
     | inr past ↦ absurd (contains_none step (subst (λ l. Contains l step) (get_or_past steps rule [] past) h))
   ]
 
-  module _ (roots : List ℕ) where
+  module _ (numbers : List ℕ) where
     -- the steps of the first rules
     abbrev pub AreFirstInner : ℕ → List (List Step) → Type 0
-    AreFirstInner i = ArePut (λ a step. (a < i) × HasStep steps a step × (slice_index roots a ≡ slice_index roots step.rule)) (replicate (length steps) [])
+    AreFirstInner i = ArePut (λ a step. (a < i) × HasStep steps a step × (slice_index numbers a ≡ slice_index numbers step.rule)) (replicate (length steps) [])
 
     pub next_inner : (i : ℕ) (path : List Step) (mid new : List (List Step)) → path ≡ get_or steps i [] → AreFirstInner i mid
-        → ArePut (λ a step. (a ≡ i) × Contains path step × (slice_index roots i ≡ slice_index roots step.rule)) mid new → AreFirstInner (i + 1) new
+        → ArePut (λ a step. (a ≡ i) × Contains path step × (slice_index numbers i ≡ slice_index numbers step.rule)) mid new → AreFirstInner (i + 1) new
     next_inner i path mid new is before here = put_as _ _ (replicate (length steps) []) new
         (λ a step h. elim h [
           | inl w ↦ (omega (arith, w.0), w.1, w.2)
           | inr w ↦ (
             omega (arith, w.0),
             subst (λ n. HasStep steps n step) (sym w.0) (subst (λ l. Contains l step) is w.1),
-            ap (slice_index roots) w.0 ∙ w.2,
+            ap (slice_index numbers) w.0 ∙ w.2,
           )
         ])
         (λ a step h. elim (cases_lt a i) [
           | inl lt ↦ inl (lt, h.1, h.2)
           | inr past ↦
               let this : a ≡ i = omega (arith, past, h.0) in
-              inr (this, subst (λ l. Contains l step) (sym is) (subst (λ n. HasStep steps n step) this h.1), ap (slice_index roots) (sym this) ∙ h.2)
+              inr (this, subst (λ l. Contains l step) (sym is) (subst (λ n. HasStep steps n step) this h.1), ap (slice_index numbers) (sym this) ∙ h.2)
         ])
         (put_then _ _ (replicate (length steps) []) mid new before here)
 
-    pub all_inner : (i : ℕ) (inner : List (List Step)) → AreFirstInner i inner → length steps ≤ i → AreInner steps roots inner
+    pub all_inner : (i : ℕ) (inner : List (List Step)) → AreFirstInner i inner → length steps ≤ i → AreInner steps numbers inner
     all_inner i inner first end rule step = (
       (λ h. elim ((first.steps rule step).0 h) [
         | inl none ↦ absurd (contains_none step (subst (λ l. Contains l step) (get_or-replicate_default (length steps) rule []) none))
@@ -172,14 +119,15 @@ module _ (steps : List (List Step)) where
       (λ h. let lt = has_list rule step h.0 in (first.steps rule step).1 (inr (omega (arith, lt, end), h.0, h.1))),
     )
 
-    module _ (inner : List (List Step)) (within : AreWithin steps) (are : AreComponents (HasStep steps) (length steps) roots) (among : AreInner steps roots inner) where
+    module _ (inner : List (List Step)) (within : AreWithin steps) (lists : List (List ℕ)) (are : AreComponents (StepsTo steps) (length steps) numbers lists)
+        (among : AreInner steps numbers inner) where
       inner_leads : (a : ℕ) (path : List Step) (b : ℕ) → Leads (HasStep inner) a path b → Leads (HasStep steps) a path b
       inner_leads a [] b l = l
       inner_leads a (step ∷ path) b l = (((among a step).0 l.0).0, inner_leads step.rule path b l.1)
 
-      same_root : (a : ℕ) (path : List Step) (b : ℕ) → Leads (HasStep inner) a path b → slice_index roots a ≡ slice_index roots b
-      same_root a [] b l = ap (slice_index roots) l
-      same_root a (step ∷ path) b l = ((among a step).0 l.0).1 ∙ same_root step.rule path b l.1
+      same_number : (a : ℕ) (path : List Step) (b : ℕ) → Leads (HasStep inner) a path b → slice_index numbers a ≡ slice_index numbers b
+      same_number a [] b l = ap (slice_index numbers) l
+      same_number a (step ∷ path) b l = ((among a step).0 l.0).1 ∙ same_number step.rule path b l.1
 
       inside : (a : ℕ) (path : List Step) (b : ℕ) → Leads (HasStep steps) a path b → a < length steps → b < length steps
       inside a [] b l lt = subst (λ n. n < length steps) l lt
@@ -191,14 +139,14 @@ module _ (steps : List (List Step)) where
       stays rule a (step ∷ path) l there =
           let on = reaches_by (HasStep steps) a step l.0 in
           let back = reaches_through (HasStep steps) step.rule rule a (path, l.1) there in (
-            (among a step).1 (l.0, are.different a step.rule (has_list a step l.0) (within a step l.0) on back),
+            (among a step).1 (l.0, (are.same a step.rule (has_list a step l.0) (within a step l.0)).1 (reached_along steps a step.rule on, reached_along steps step.rule a back)),
             stays rule step.rule path l.1 (reaches_through (HasStep steps) rule a step.rule there on),
           )
 
-      module _ (rule : ℕ) (lt : rule < length steps) (rules : List ℕ) (members : AreMembers roots (length steps) (slice_index roots rule) rules) where
+      module _ (rule : ℕ) (lt : rule < length steps) (rules : List ℕ) (members : AreMembers numbers (length steps) (slice_index numbers rule) rules) where
         pub reached_member : (other : ℕ) → Reaches (HasStep inner) rule other → Contains rules other
         reached_member other r = (members.all other).1
-            (inside rule r.0 other (inner_leads rule r.0 other r.1) lt, sym (same_root rule r.0 other r.1))
+            (inside rule r.0 other (inner_leads rule r.0 other r.1) lt, sym (same_number rule r.0 other r.1))
 
         pub member_within : (other : ℕ) → Contains rules other → other < length steps
         member_within other c = ((members.all other).0 c).0
@@ -207,8 +155,8 @@ module _ (steps : List (List Step)) where
         together : LeadsTo (HasStep steps) rule rule → (other : ℕ) → Contains rules other → OnCommonCycle (HasStep steps) rule other
         together cycle other c =
             let w = (members.all other).0 c in
-            let there = are.same rule other lt w.0 (sym w.1) in
-            let back = are.same other rule w.0 lt w.1 in
+            let there = path_there steps rule other ((are.same rule other lt w.0).0 (sym w.1)).0 in
+            let back = path_there steps other rule ((are.same other rule w.0 lt).0 w.1).0 in
             record {
               there = record {
                 path = cycle.path ++ there.0;
@@ -225,7 +173,8 @@ module _ (steps : List (List Step)) where
         joined : (other : ℕ) → OnCommonCycle (HasStep steps) rule other → Contains rules other
         joined other h = (members.all other).1 (
           inside rule h.there.path other h.there.leads lt,
-          are.different other rule (inside rule h.there.path other h.there.leads lt) lt (h.back.path, h.back.leads) (h.there.path, h.there.leads),
+          (are.same other rule (inside rule h.there.path other h.there.leads lt) lt).1
+              (reached_along steps other rule (h.back.path, h.back.leads), reached_along steps rule other (h.there.path, h.there.leads)),
         )
 
         own : Contains rules rule

@@ -1,19 +1,19 @@
 //! Groups of rules that are on common cycles.
 
-ghost use Rattle.std.specs.Prelude.{◌≡◌, ◌↔◌, ℕ, ◌<◌, List, [], None, Some, Contains, get_or, length, replicate};
+ghost use Rattle.std.specs.Prelude.{◌≡◌, ℕ, ◌<◌, List, None, Some, Contains, length, replicate};
 ghost use Rattle.std.specs.Prelude.{slice_get, slice_index, IfOk, MatchOption, OnOk};
 ghost use Rattle.cfgcycles.specs.CyclicGroups.{AreGroups};
 ghost use Rattle.cfgcycles.specs.StepLists.{AreWithin, HasStep};
 ghost use Rattle.cfgcycles.specs.StepPaths.{IsCycle, IsShortestCycle};
 ghost use Rattle.cfgcycles.specs.Inner.Components.{Reaches};
-ghost use Rattle.cfgcycles.specs.Inner.Members.{AreInner, AreMembers, IsGroupAmong};
+ghost use Rattle.cfgcycles.specs.Inner.Members.{AreInner, IsGroupAmong};
 ghost use Rattle.cfgcycles.specs.Inner.Putting.{ArePut};
 ghost use Rattle.cfgcycles.specs.declared.step_paths.Step.{Step};
 
-use crate::components::components;
 use crate::shortest::{Layers, find_cycle};
+use crate::step_edges::StepEdges;
 use crate::step_paths::{Step, Steps};
-use cfgindex::ListTable;
+use search::Components;
 use std::alloc::{AllocError, Global};
 
 /// Rules that are on a common cycle with the first of them, and a shortest cycle of that one.
@@ -35,61 +35,47 @@ pub fn cyclic_groups(alloc: Global, steps: &Steps) -> Result<Vec<Option<CyclicGr
     requires { AreWithin steps.now }
     ensures { IfOk result (λ groups. AreGroups (HasStep steps.now) (length steps.now) groups.items) }
 {
-    let roots = components(alloc, steps)?;
-    let members = members_of(alloc, &roots)?;
-    let inner = inner_steps(alloc, steps, &roots)?;
+    let components = Components::of(alloc, &StepEdges { steps }, steps.len())?;
+    let inner = inner_steps(alloc, steps, &components.numbers)?;
     let mut layers = Layers::new(alloc, &inner)?;
     let mut groups = Vec::new(alloc);
     for rule in 0..steps.len() {
-        let group = group_of(alloc, &mut layers, rule, members.of(roots[rule]))?;
+        let members = components.members.of(components.numbers[rule]);
+        let group = group_of(alloc, &mut layers, rule, members)?;
         groups.push(group)?;
     }
     Ok(groups)
 }
 
-/// For each rule the rules whose root it is, in ascending order.
-fn members_of(alloc: Global, roots: &[usize]) -> Result<ListTable<usize>, AllocError>
-    requires { (rule : ℕ) → rule < length roots.now → slice_index roots.now rule < length roots.now }
-    ensures lists { IfOk result (λ members. length members ≡ length roots.now) }
-    ensures members { IfOk result (λ members. (root : ℕ) → AreMembers roots.now (length roots.now) root
-        (get_or members root [])) }
-{
-    let mut members = ListTable::new(alloc, roots.len())?;
-    for rule in 0..roots.len() {
-        members.push(roots[rule], rule)?;
-    }
-    Ok(members)
-}
-
-/// The steps that lead to rules with the same root.
-fn inner_steps(alloc: Global, steps: &Steps, roots: &[usize]) -> Result<Steps, AllocError>
+/// The steps that lead to rules of the same component.
+fn inner_steps(alloc: Global, steps: &Steps, numbers: &[usize]) -> Result<Steps, AllocError>
     requires within { AreWithin steps.now }
-    requires roots { length roots.now ≡ length steps.now }
+    requires numbers { length numbers.now ≡ length steps.now }
     ensures lists { IfOk result (λ inner. length inner ≡ length steps.now) }
-    ensures inner { IfOk result (AreInner steps.now roots.now) }
+    ensures inner { IfOk result (AreInner steps.now numbers.now) }
 {
     let mut inner = Steps::new(alloc, steps.len())?;
     for rule in 0..steps.len() {
-        put_inner(&mut inner, rule, steps.of(rule), roots)?;
+        put_inner(&mut inner, rule, steps.of(rule), numbers)?;
     }
     Ok(inner)
 }
 
-/// Adds those of the rule's steps that lead to rules with the same root.
+/// Adds those of the rule's steps that lead to rules of its component.
 fn put_inner(
     inner: &mut Steps,
     rule: usize,
     path: &[Step],
-    roots: &[usize],
+    numbers: &[usize],
 ) -> Result<(), AllocError>
     requires rule { rule < length inner.old }
-    requires within { (step : Step) → Contains path.now step → step.rule < length roots.now }
-    requires roots { length roots.now ≡ length inner.old }
+    requires within { (step : Step) → Contains path.now step → step.rule < length numbers.now }
+    requires numbers { length numbers.now ≡ length inner.old }
     ensures { OnOk result (ArePut (λ a step. (a ≡ rule) × Contains path.now step
-        × (slice_index roots.now rule ≡ slice_index roots.now step.rule)) inner.old inner.new) }
+        × (slice_index numbers.now rule ≡ slice_index numbers.now step.rule)) inner.old inner.new) }
 {
     for step in path {
-        if roots[rule] == roots[step.rule] {
+        if numbers[rule] == numbers[step.rule] {
             inner.push(rule, *step)?;
         }
     }

@@ -1,10 +1,10 @@
 //! Cyclic rules, and the paths of unit steps that show it.
 #![tactic(auto)]
 
-mod components;
 mod groups;
 pub mod laws;
 mod shortest;
+mod step_edges;
 pub mod step_paths;
 mod stepping;
 

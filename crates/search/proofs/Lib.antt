@@ -1,4 +1,9 @@
 pub mod Bits
-pub mod Keys
-pub mod Reaching
 pub mod Each
+pub mod Keys
+pub mod Members
+pub mod Outcomes
+pub mod PathGroups
+pub mod Pushing
+pub mod Reaching
+pub mod Walking

@@ -1,7 +1,7 @@
 //! A search along edges.
 
 ghost use Rattle.std.specs.Prelude.{◌≡◌, ◌↔◌, ℕ, ◌<◌, ◌++◌, ◌∷◌, [], Contains, false, length, slice_index_or};
-ghost use Rattle.std.specs.Prelude.{IfOk, MatchOption, OnOk};
+ghost use Rattle.std.specs.Prelude.{IfOk, MatchOption, OnOk, slice_set};
 ghost use Rattle.search.specs.Reachable.{IsReachableIn, Reachable, Reaches, unsearched};
 
 use crate::edges::Edges;
@@ -38,6 +38,18 @@ impl Search<Bits> {
             reachable: Bits::from_elem(alloc, false, nodes)?,
             waiting: Vec::new(alloc),
         })
+    }
+
+    /// A queued node, which is then neither queued nor reached.
+    pub(crate) fn forget(&mut self) -> Option<usize>
+        requires { (n : ℕ) → Contains self.old.waiting n → n < length self.old.reachable }
+        ensures { MatchOption result ((self.new ≡ self.old) × (self.old.waiting ≡ []))
+            (λ node. (self.old.waiting ≡ self.new.waiting ++ node ∷ [])
+            × (self.new.reachable ≡ slice_set self.old.reachable node false)) }
+    {
+        let node = self.waiting.pop()?;
+        self.reachable.set(node, false);
+        Some(node)
     }
 }
 

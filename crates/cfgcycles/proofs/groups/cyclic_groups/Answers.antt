@@ -2,23 +2,18 @@ use Rattle.std.proofs.Common.{◌<◌, ℕ, None, length, slice_index, replicate
 use Rattle.std.proofs.lemmas.List.{length_push}
 use Rattle.cfgcycles.specs.CyclicGroups.{IsGroupOf}
 use Rattle.cfgcycles.specs.StepLists.{HasStep}
+use Rattle.search.specs.Components.{AreComponents}
+use Rattle.cfgcycles.specs.Inner.Components.{StepsTo}
 use Rattle.cfgcycles.specs.Inner.Members.{AreInner}
 use Rattle.cfgcycles.proofs.Members.{group_is, member_within, members_at, one_more_entry, reached_member}
 use Rattle.cfgcycles.proofs.groups.cyclic_groups.Goals as goal
-
-pub members_of-requires : goal.members_of-requires
-members_of-requires c =
-    let roots = c.in_ok-roots.roots.items in
-    let are = c.in_ok-roots.ensures in
-    subst (λ l. (rule : ℕ) → rule < length l → slice_index l rule < length l) (sym c.deref.ensures.value)
-    (λ rule lt. subst (λ n. slice_index roots rule < n) (sym are.entries) (are.within rule (subst (λ n. rule < n) are.entries lt)))
 
 pub loop-rule-init : goal.loop-rule-init
 loop-rule-init c =
     let steps = c.args.steps.now in
     let same = c.in_ok-layers.ensures.steps in record {
       lists = ap length same ∙ c.in_ok-inner.ensures.lists;
-      inner = subst (AreInner steps c.in_ok-roots.roots.items) (sym same) (subst (λ l. AreInner steps l c.in_ok-inner.inner) c.deref-2.ensures.value c.in_ok-inner.ensures.inner);
+      inner = subst (AreInner steps c.in_ok-components.components.numbers.items) (sym same) (subst (λ l. AreInner steps l c.in_ok-inner.inner) c.deref.ensures.value c.in_ok-inner.ensures.inner);
       found = c.in_ok-layers.ensures.found ∙ ap (λ l. replicate (length l) None) (sym same);
       entries = ap length c.new-groups.ensures.items;
       each = λ k lt. absurd (omega (arith, lt));
@@ -30,42 +25,42 @@ group_of-requires-clause-within c = λ rule step h.
 
 pub group_of-requires-clause-all : goal.group_of-requires-clause-all
 group_of-requires-clause-all c =
-    let roots = c.in_ok-roots.roots.items in
-    let are = c.in_ok-roots.ensures in
+    let numbers = c.in_ok-components.components.numbers.items in
+    let are = subst (λ n. AreComponents (StepsTo c.args.steps.now) n numbers c.in_ok-components.components.members) c.len.ensures c.in_ok-components.ensures in
     let lt : c.loop-rule.rule < length c.args.steps.now = omega (arith, c.loop-rule-test.true, c.len-rule-end.ensures) in
-    reached_member c.args.steps.now roots c.loop-rule.layers.steps.now c.requires are c.loop-rule.invariant.inner c.loop-rule.rule lt c.of.result.now
-    (members_at roots c.deref.result.now (length c.args.steps.now) c.loop-rule.rule c.index.result.now c.in_ok-members.members c.of.result.now c.deref.ensures.value are.entries
-    (subst (λ n. c.loop-rule.rule < n) (sym are.entries) lt) c.index.ensures c.of.ensures c.in_ok-members.ensures.members)
+    reached_member c.args.steps.now numbers c.loop-rule.layers.steps.now c.requires _ are c.loop-rule.invariant.inner c.loop-rule.rule lt c.of-members.result.now
+    (members_at numbers (length c.args.steps.now) c.loop-rule.rule c.index.result.now _ c.of-members.result.now
+    (subst (λ n. c.loop-rule.rule < n) (sym are.entries) lt) c.index.ensures c.of-members.ensures are.each)
 
 pub group_of-requires-clause-inside : goal.group_of-requires-clause-inside
 group_of-requires-clause-inside c = λ other h.
-    let roots = c.in_ok-roots.roots.items in
-    let are = c.in_ok-roots.ensures in
+    let numbers = c.in_ok-components.components.numbers.items in
+    let are = subst (λ n. AreComponents (StepsTo c.args.steps.now) n numbers c.in_ok-components.components.members) c.len.ensures c.in_ok-components.ensures in
     let lt : c.loop-rule.rule < length c.args.steps.now = omega (arith, c.loop-rule-test.true, c.len-rule-end.ensures) in
     subst (λ n. other < n) (sym c.loop-rule.invariant.lists)
-    (member_within c.args.steps.now roots c.loop-rule.layers.steps.now c.requires are c.loop-rule.invariant.inner c.loop-rule.rule lt c.of.result.now
-    (members_at roots c.deref.result.now (length c.args.steps.now) c.loop-rule.rule c.index.result.now c.in_ok-members.members c.of.result.now c.deref.ensures.value are.entries
-    (subst (λ n. c.loop-rule.rule < n) (sym are.entries) lt) c.index.ensures c.of.ensures c.in_ok-members.ensures.members) other h)
+    (member_within c.args.steps.now numbers c.loop-rule.layers.steps.now c.requires _ are c.loop-rule.invariant.inner c.loop-rule.rule lt c.of-members.result.now
+    (members_at numbers (length c.args.steps.now) c.loop-rule.rule c.index.result.now _ c.of-members.result.now
+    (subst (λ n. c.loop-rule.rule < n) (sym are.entries) lt) c.index.ensures c.of-members.ensures are.each) other h)
 
 pub loop-rule-preserved : goal.loop-rule-preserved
 loop-rule-preserved c =
     let steps = c.args.steps.now in
-    let roots = c.in_ok-roots.roots.items in
-    let are = c.in_ok-roots.ensures in
+    let numbers = c.in_ok-components.components.numbers.items in
+    let are = subst (λ n. AreComponents (StepsTo c.args.steps.now) n numbers c.in_ok-components.components.members) c.len.ensures c.in_ok-components.ensures in
     let before = c.loop-rule.invariant in
     let same = c.in_ok-group.ensures.steps in
     let long = ap length c.in_ok-push.ensures.items ∙ length_push c.loop-rule.groups.items c.in_ok-group.group in
     let lt : c.loop-rule.rule < length steps = omega (arith, c.loop-rule-test.true, c.len-rule-end.ensures) in
     record {
       lists = ap length same ∙ before.lists;
-      inner = subst (AreInner steps roots) (sym same) before.inner;
+      inner = subst (AreInner steps numbers) (sym same) before.inner;
       found = c.in_ok-group.ensures.found ∙ before.found ∙ ap (λ l. replicate (length l) None) (sym same);
       entries = omega (arith, long, before.entries);
       each = one_more_entry (IsGroupOf (HasStep steps)) c.loop-rule.groups.items c.push.new.self.items None c.in_ok-group.group c.loop-rule.rule
           c.in_ok-push.ensures.items before.entries before.each
-          (group_is steps roots c.loop-rule.layers.steps.now c.requires are before.inner c.loop-rule.rule lt c.of.result.now
-          (members_at roots c.deref.result.now (length steps) c.loop-rule.rule c.index.result.now c.in_ok-members.members c.of.result.now c.deref.ensures.value are.entries
-          (subst (λ n. c.loop-rule.rule < n) (sym are.entries) lt) c.index.ensures c.of.ensures c.in_ok-members.ensures.members)
+          (group_is steps numbers c.loop-rule.layers.steps.now c.requires _ are before.inner c.loop-rule.rule lt c.of-members.result.now
+          (members_at numbers (length steps) c.loop-rule.rule c.index.result.now _ c.of-members.result.now
+          (subst (λ n. c.loop-rule.rule < n) (sym are.entries) lt) c.index.ensures c.of-members.ensures are.each)
           c.in_ok-group.group c.in_ok-group.ensures.group);
     }
 
