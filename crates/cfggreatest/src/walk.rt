@@ -101,11 +101,7 @@ impl Walk {
     /// # Errors
     ///
     /// Out of memory.
-    pub(crate) fn new(
-        alloc: Global,
-        productive: &Vob,
-        rules: usize,
-    ) -> Result<Self, AllocError>
+    pub(crate) fn new(alloc: Global, productive: &Vob, rules: usize) -> Result<Self, AllocError>
         ensures { IfOk result (λ x. (g : Grammar) → IsGrammar g → rules ≡ g.rules → AreProductiveRules g productive.now
             → IsWalk g x × ((cost : ℕ → ℕ) → AreTrue g cost x.known.items)) }
     {

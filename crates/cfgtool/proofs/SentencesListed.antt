@@ -6,7 +6,8 @@ use Rattle.std.proofs.lemmas.List.Elements.{All-nil, Contains-get_or}
 use Rattle.cfgrammar.specs.Grammar.{Sym, Grammar, IsGrammar, HasProduction}
 use Rattle.cfgrammar.specs.Sentence.{cost_of}
 use Rattle.cfgrammar.specs.Costs.{Minimal}
-use Rattle.cfgrammar.specs.Generator.{HasNone, IsTooLarge}
+use Rattle.cfgrammar.specs.Generator.{IsTooLarge}
+use Rattle.cfgrammar.specs.Productive.{Unproductive}
 use Rattle.cfgrammar.specs.FirstSentence.{lexicographic}
 use Rattle.cfgrammar.specs.Sentences.{ListsMinimal}
 use Rattle.cfgrammar.proofs.SentenceTokens.{sentence_tokens}
@@ -35,7 +36,7 @@ module _ (P : ℕ → List Sym → Type 0) (cost : ℕ → ℕ) (r : ℕ) where
     order = none_sorted;
   }
 
-  pub none_there : (sentences : List (List ℕ)) → sentences ≡ [] → HasNone P r → ListsMinimal P cost r sentences
+  pub none_there : (sentences : List (List ℕ)) → sentences ≡ [] → Unproductive P r → ListsMinimal P cost r sentences
   none_there sentences empty none = subst (ListsMinimal P cost r) (sym empty) (none_listed (λ w m. absurd (none w m.0)))
 
   pub none_cheap : (sentences : List (List ℕ)) → sentences ≡ [] → IsTooLarge P cost r → ListsMinimal P cost r sentences
