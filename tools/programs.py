@@ -1,10 +1,12 @@
-"""What a program of this repository is made of, and where a built one is kept. tools/run_program and tools/build_program use it.
+"""What a program of this repository is made of, and where a built one is kept. tools/run_program and
+tools/build_program use it.
 
-A program is kept in crates/NAME/out/proved/SUM, or in out/tried/SUM if it is unproved. SUM is the checksum of all that it was made of: the
-sources of its crate and of those below it, by name and byte, what crates.txt says of these crates, HANDLES, the kit, and the tools that
-build it. It is put there in one step, after every check of it. Beside it are its own checksum, and a list of the times, sizes and inodes of
-all these files and their folders. While that list is right, which tools/unchanged.c finds out, a call runs the program at once. If
-anything differs, the checksum decides. The file out/proved/now has the SUM of the program that ran last.
+A program is kept in crates/NAME/out/proved/SUM, or in out/tried/SUM if it is unproved. SUM is the checksum of all
+that it was made of: the sources of its crate and of those below it, by name and byte, what crates.txt says of these
+crates, HANDLES, the kit, and the tools that build it. It is put there in one step, after every check of it. Beside it
+are its own checksum, and a list of the times, sizes and inodes of all these files and their folders. While that list
+is right, which tools/unchanged.c finds out, a call runs the program at once. If anything differs, the checksum
+decides. The file out/proved/now has the SUM of the program that ran last.
 """
 import fcntl
 import hashlib
@@ -64,7 +66,8 @@ class Kit:
         self.folder = os.path.dirname(os.path.dirname(self.command))
         for it in ("KIT-ID", "WHAT", "bin/rtlib.py", "bin/rattle"):
             if not os.path.isfile(f"{self.folder}/{it}"):
-                raise Stopped(f"{found} isn't the command rt of {KITS}, whose folder bin has to come first on the path (README, 'Run it')")
+                why = "whose folder bin has to come first on the path (README, 'Run it')"
+                raise Stopped(f"{found} isn't the command rt of {KITS}, {why}")
 
     def files(self):
         """The files that say which kit it is."""
@@ -76,7 +79,8 @@ class Kit:
             identity = it.read().strip()
         if LOGIC in identity.split():
             return None
-        return f"README's proofs were made with {KITS}, logic {LOGIC}; this one is {identity}, and may refuse some of them"
+        made = f"README's proofs were made with {KITS}, logic {LOGIC}"
+        return f"{made}; this one is {identity}, and may refuse some of them"
 
     def load(self):
         """The command rt as a module, for its crates and for the lanes in which its gate proves them."""
@@ -139,8 +143,9 @@ class Program:
         self.held = self.locked = self.trying = self.room = None
 
     def look(self):
-        """Looks at the sources: their states, what crates.txt says of them, and their checksum. The state of a file or folder is taken before
-        it is read, and some milliseconds pass between, in which the clock of files ticks: so the state of what changes later differs."""
+        """Looks at the sources: their states, what crates.txt says of them, and their checksum. The state of a file or
+        folder is taken before it is read, and some milliseconds pass between, in which the clock of files ticks: so the
+        state of what changes later differs."""
         if not os.path.isdir(f"{self.folder}/src"):
             raise Stopped(f"there is no program {self.name}: crates/{self.name}/src isn't there")
         states = [(it, state(it)) for it in [self.kit.command, *self.kit.files()]]
@@ -156,7 +161,8 @@ class Program:
         time.sleep(0.02)
         summed = hashlib.sha256(repr([self.kind, [(it.name, it.said) for it in self.crates]]).encode())
         for it, _ in self.states:
-            # what crates.txt says of other crates doesn't matter, and KIT-ID and WHAT say which kit it is, wherever it is
+            # what crates.txt says of other crates doesn't matter, and KIT-ID and WHAT say which kit it is, wherever it
+            # is
             if it not in ("crates.txt", self.kit.command):
                 name = os.path.basename(it) if os.path.isabs(it) else it
                 summed.update(repr((name, content(os.path.join(ROOT, it)))).encode())
@@ -220,7 +226,8 @@ class Program:
             shutil.rmtree(self.room, ignore_errors=True)
 
     def wait_for_try(self, seconds=float("inf")):
-        """Waits until `rt try` ends, and returns its status. A signal may come in wait(), which then can't be called again."""
+        """Waits until `rt try` ends, and returns its status. A signal may come in wait(), which then can't be called
+        again."""
         end = time.time() + seconds
         while self.trying.poll() is None and time.time() < end:
             time.sleep(0.02)
@@ -230,9 +237,9 @@ class Program:
         """Compiles tools/unchanged.c by the kit's clang. Without it each call computes the checksum."""
         made, kit = f"{to}.{os.getpid()}", self.kit.folder
         libraries = [f"{kit}/c/libos_c.a", f"{kit}/c/liblibc_c.a"]
-        words = ["--target", "x86_64-unknown-linux-gnu", "--toolchain", f"{kit}/toolchain", "-o", made, f"{made}.o", *libraries]
+        words = ["--target", "x86_64-unknown-linux-gnu", "--toolchain", f"{kit}/toolchain", "-o", made, f"{made}.o"]
         compiled = status_of(f"{kit}/toolchain/bin/clang", "-O2", "-c", f"{ROOT}/tools/unchanged.c", "-o", f"{made}.o")
-        if compiled == 0 and status_of(f"{kit}/bin/rattle-link", *words) == 0:
+        if compiled == 0 and status_of(f"{kit}/bin/rattle-link", *words, *libraries) == 0:
             os.replace(made, to)
         remove(f"{made}.o")
 
@@ -240,7 +247,8 @@ class Program:
 def status_of(*words):
     """The status of a command, or None if it doesn't start."""
     try:
-        return subprocess.run(words, stdin=subprocess.DEVNULL, stdout=subprocess.DEVNULL, stderr=subprocess.DEVNULL).returncode
+        streams = dict.fromkeys(("stdin", "stdout", "stderr"), subprocess.DEVNULL)
+        return subprocess.run(words, **streams).returncode
     except OSError:
         return None
 

@@ -1,10 +1,12 @@
-/* unchanged ROOT LIST RT: whether every file and folder of LIST is as LIST says (tools/programs.py writes it). The status is 86 if so.
+/* unchanged ROOT LIST RT: whether every file and folder of LIST is as LIST says (tools/programs.py writes it). The
+status is 86 if so.
 
-Each call of a built program checks its 2,600 sources by this. It takes 3 milliseconds; find, which has to open each folder, takes 14.
-LIST begins with its own length. An entry has the inode, the size, and the time of the last change of the inode, which no tool can set
-back, all 0 if there is no such file; then the path below ROOT, and zeros up to a multiple of 8 bytes. The path of the first is that of the
-command rt, unless RT is another. Paths after one with a / at its end are below that folder, so they are
-shorter. The kit's compiler has no headers, so what is needed of the C library and of Linux is declared here. */
+Each call of a built program checks its 2,600 sources by this. It takes 3 milliseconds; find, which has to open each
+folder, takes 14. LIST begins with its own length. An entry has the inode, the size, and the time of the last change
+of the inode, which no tool can set back, all 0 if there is no such file; then the path below ROOT, and zeros up to a
+multiple of 8 bytes. The path of the first is that of the command rt, unless RT is another. Paths after one with a /
+at its end are below that folder, so they are shorter. The kit's compiler has no headers, so what is needed of the C
+library and of Linux is declared here. */
 
 typedef unsigned long long number;
 struct moment { long long seconds; unsigned nanoseconds; int unused; };
