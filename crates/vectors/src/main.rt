@@ -10,6 +10,7 @@ mod programs;
 mod reports;
 mod rooms;
 mod runs;
+pub mod signatures;
 mod uses;
 
 use std::io;
