@@ -12,7 +12,7 @@ ROOT = os.path.dirname(os.path.dirname(os.path.dirname(os.path.realpath(__file__
 TEXTS, ANSWERS = (f"crates/vectors/data/original/{it}" for it in ("texts.rows", "answers.txt"))
 LONG = "crates/vectors/data/long/beginnings"
 # crates whose files are changed
-CRATES = {"vectors", "vectors_signatures", "cfganalysis"}
+CRATES = {"vectors", "cfganalysis"}
 
 
 def copied(room):
@@ -271,13 +271,13 @@ def test_pictures(room):
 
 
 def test_surface(room):
-    """A file of the crate is gone, and so are the lines of what it writes out."""
+    """A file of a crate is gone, and so are the lines of what it writes out."""
     copy = copied(room)
-    source = "crates/vectors_signatures/src"
+    source = "crates/vectors/src/signatures"
     passes(copy, "tools/surface", "check")
-    name = sorted(it for it in os.listdir(f"{copy}/{source}") if it != "lib.rt")[0]
+    name = sorted(os.listdir(f"{copy}/{source}"))[0]
     line = without(rf"^(pub )?mod {name[:-3]};\n")
-    with changed(copy, f"{source}/{name}", gone), changed(copy, f"{source}/lib.rt", line):
+    with changed(copy, f"{source}/{name}", gone), changed(copy, f"{source}.rt", line):
         _, lines = run(copy, "tools/surface", "list")
         with changed(copy, "docs/SURFACE.txt", lambda _: lines):
             fails(copy, "surface files: ", "tools/surface", "check")

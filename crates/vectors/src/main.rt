@@ -10,14 +10,15 @@ mod programs;
 mod reports;
 mod rooms;
 mod runs;
+pub mod signatures;
 mod uses;
 
 use std::io;
+use vectors_grammars::costs;
 use vectors_rows::files::{Answers, write_files};
 use vectors_rows::page::Page;
 use vectors_rows::row::Row;
-use vectors_sections::kinds;
-use vectors_trees::{every, written};
+use vectors_texts::{every, kinds, sections, written};
 use vectors_values::{lines, marks, numbers};
 
 /// The results for rows of all kinds.
@@ -28,8 +29,8 @@ impl Answers for All {
         match row.tries {
             "row" => vectors_grammars::print(out, row, text),
             "cuts" => every::print(out, rt, row, text),
-            "section" => vectors_sections::print(out, row, text),
-            "generator" => vectors_costs::print(out, row, text),
+            "section" => sections::print(out, row, text),
+            "generator" => costs::print(out, row, text),
             "lines" => lines::print(out, row, text),
             "marks" => marks::print(out, row),
             "values" => numbers::print(out, row, text),

@@ -10,8 +10,8 @@ use vectors_rows::made::{Writer, write_made};
 use vectors_rows::page::Page;
 use vectors_rows::row::{Row, numbers};
 use vectors_rows::{pen, text};
-use vectors_trees::read::parse;
-use vectors_trees::{cuts, errors, syntax, warnings};
+use vectors_texts::read::parse;
+use vectors_texts::{cuts, errors, syntax, warnings};
 
 /// The message if a text that names no kind doesn't have just these errors.
 const NOT_SO: &str = "    and its grammar isn't refused so\n";

@@ -2,6 +2,7 @@
 #![tactic(auto)]
 
 mod accessors;
+pub mod costs;
 mod grammar;
 mod held;
 mod names;

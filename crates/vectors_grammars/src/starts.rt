@@ -7,7 +7,7 @@ use vectors_rows::made::{Writer, write_made};
 use vectors_rows::page::Page;
 use vectors_rows::pen;
 use vectors_rows::row::Row;
-use vectors_trees::written::restarted;
+use vectors_texts::written::restarted;
 
 /// Writes the results for each other start that the row requests.
 pub(crate) fn write_starts(

@@ -9,7 +9,7 @@ use cfgrammar::yacc::parser::{YaccFault, YaccGrammarError, YaccGrammarResult};
 use vectors_rows::made::{Writer, write_made};
 use vectors_rows::page::Page;
 use vectors_rows::pen;
-use vectors_trees::errors::write_error_lines;
+use vectors_texts::errors::write_error_lines;
 
 /// Writes the tables of a text for every index type, or their lengths, once if they are the same.
 pub(crate) fn write_tables(

@@ -3,10 +3,16 @@
 ghost use Rattle.std.specs.Prelude.{◌≡◌, ◌<◌};
 ghost use Rattle.cfgrammar.specs.Numbered.{core};
 
-use super::{certificate, plain, requested, rules};
+mod certificate;
+mod openings;
+mod plain;
+mod requested;
+mod rules;
+
 use cfgrammar::TIdx;
-use cfgrammar::yacc::sentences::SentenceGenerator;
-use cfgrammar::yacc::{YaccFault, YaccGrammar, YaccKind, YaccOriginalActionKind};
+use cfgrammar::yacc::{
+    SentenceGenerator, YaccFault, YaccGrammar, YaccKind, YaccOriginalActionKind,
+};
 use std::cell::Cell;
 use vectors_rows::kind::kind_of;
 use vectors_rows::made::{Writer, write_made};
@@ -22,16 +28,16 @@ pub fn print(out: &mut Page, row: &Row<'_>, text: &str) {
         text::write_text(out, text);
     }
     let grammar = YaccGrammar::new(out.alloc, kind, text);
-    write_made(out, &Requested { row }, grammar);
+    write_made(out, &Sentences { row }, grammar);
 }
 
 /// A row that asks what sentences of its text's grammar cost.
 #[derive(Drop)]
-struct Requested<'a> {
+struct Sentences<'a> {
     row: &'a Row<'a>,
 }
 
-impl Writer<YaccGrammar<u32>, YaccFault> for Requested<'_> {
+impl Writer<YaccGrammar<u32>, YaccFault> for Sentences<'_> {
     fn write(&self, out: &mut Page, grammar: &mut YaccGrammar<u32>) {
         print_grammar(out, self.row, grammar);
     }

@@ -41,7 +41,7 @@ impl<'a, S: Storage, T: Tables<S>> Productions<S> for OwnProductions<'a, S, T> {
     ghost use Rattle.std.specs.Io.BufRead.{Rests};
     ghost use Rattle.cfgrammar.specs.Openings.{nth_production, OpensOne};
     ghost use Rattle.cfgrammar.specs.NumberedSymbols.{sym_of};
-    ghost use Rattle.vectors_signatures.specs.contracts.own.OwnProductions.{the_row};
+    ghost use Rattle.vectors.specs.contracts.signatures.own.OwnProductions.{the_row};
 
     ghost content = { λ x. x.grammar };
 

@@ -4,10 +4,10 @@ ghost use Rattle.std.specs.Prelude.{◌≡◌};
 ghost use Rattle.cfgrammar.specs.Numbered.{core};
 
 use cfgrammar::RIdx;
-use cfgrammar::yacc::YaccGrammar;
 use cfgrammar::yacc::firsts::firsts_over;
 use cfgrammar::yacc::grammar::Productions;
-use cfgrammar::yacc::sentences::{CostError, SentenceError, SentenceGenerator, min_sentence_over};
+use cfgrammar::yacc::sentences::{CostError, SentenceError, min_sentence_over};
+use cfgrammar::yacc::{SentenceGenerator, YaccGrammar};
 use std::alloc::AllocError;
 use vectors_rows::page::Page;
 use vectors_rows::{indices, pen};

@@ -6,8 +6,7 @@ ghost use Rattle.cfgrammar.specs.Numbered.{core};
 use super::certificate::Certificate;
 use super::rules::{write_costs, write_refusal};
 use cfgrammar::RIdx;
-use cfgrammar::yacc::YaccGrammar;
-use cfgrammar::yacc::sentences::SentenceGenerator;
+use cfgrammar::yacc::{SentenceGenerator, YaccGrammar};
 use vectors_rows::page::Page;
 use vectors_rows::pen::{self, Piece};
 

@@ -4,8 +4,8 @@ ghost use Rattle.std.specs.Prelude.{◌≡◌, IsTrue, length};
 ghost use Rattle.cfgrammar.specs.Numbered.{core};
 
 use cfgrammar::PIdx;
-use cfgrammar::yacc::YaccGrammar;
-use cfgrammar::yacc::sentences::{SentenceGenerator, check_least, check_reached};
+use cfgrammar::yacc::sentences::{check_least, check_reached};
+use cfgrammar::yacc::{SentenceGenerator, YaccGrammar};
 use std::alloc::{AllocError, Global};
 use vectors_rows::page::Page;
 use vectors_rows::pen::{self, Piece};

@@ -3,8 +3,8 @@
 ghost use Rattle.std.specs.Prelude.{◌≡◌, ◌<◌};
 ghost use Rattle.cfgrammar.specs.Numbered.{core};
 
-use cfgrammar::yacc::YaccGrammar;
-use cfgrammar::yacc::sentences::{CostError, SentenceError, SentenceGenerator};
+use cfgrammar::yacc::sentences::{CostError, SentenceError};
+use cfgrammar::yacc::{SentenceGenerator, YaccGrammar};
 use cfgrammar::{RIdx, TIdx};
 use vectors_rows::page::Page;
 use vectors_rows::pen::{self, Piece};

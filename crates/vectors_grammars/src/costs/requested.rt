@@ -5,8 +5,7 @@ ghost use Rattle.cfgrammar.specs.Numbered.{core};
 
 use super::certificate::Certificate;
 use super::{openings, rules};
-use cfgrammar::yacc::YaccGrammar;
-use cfgrammar::yacc::sentences::SentenceGenerator;
+use cfgrammar::yacc::{SentenceGenerator, YaccGrammar};
 use vectors_rows::page::Page;
 use vectors_rows::row::Row;
 

@@ -2,8 +2,10 @@
 
 ghost use Rattle.std.specs.Str.{IsCharBoundary};
 
-use crate::held::{Held, write_held, write_value};
-use crate::plain;
+mod held;
+mod plain;
+
+use self::held::{Held, write_held, write_value};
 use cfgrammar::header::{
     GrmtoolsSectionParser, Header, HeaderError, HeaderFault, HeaderValue, Value,
 };

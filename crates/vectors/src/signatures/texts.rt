@@ -1,0 +1,103 @@
+//! What is read of texts, and sets of grammars.
+
+ghost use Rattle.std.specs.Prelude.{◌-◌, ◌^◌, ◌<◌, length};
+
+use cfgrammar::header::{HeaderErrorKind, KindFault, Setting, Value};
+use cfgrammar::yacc::ast::{ASTModificationError, KindSource};
+use cfgrammar::yacc::firsts::YaccFirsts;
+use cfgrammar::yacc::grammar::Productions;
+use cfgrammar::yacc::{AssocKind, Precedence, YaccGrammarErrorKind, YaccGrammarWarning, YaccKind};
+use cfgrammar::{Location, PIdx, RIdx, Span, Spanned, SpansKind, Storage, Symbol, TIdx};
+use std::alloc::{AllocError, Global};
+
+/// Whether a file named its kind.
+pub fn is_named(source: KindSource) -> bool {
+    match source {
+        KindSource::Section => true,
+        KindSource::Default => false,
+    }
+}
+
+/// The level of a precedence whose tokens associate.
+pub fn level_of(precedence: Precedence) -> Option<u64> {
+    let number: u64 = precedence.level;
+    match precedence.kind {
+        AssocKind::Left | AssocKind::Right => Some(number),
+        AssocKind::Nonassoc => None,
+    }
+}
+
+/// What spans of a warning mean, and why a tree can't have another start.
+pub fn kinds_of<'a>(
+    warning: &YaccGrammarWarning,
+    error: &'a ASTModificationError,
+) -> (SpansKind, &'a YaccGrammarErrorKind) {
+    (warning.spanskind(), error.kind())
+}
+
+/// What an error's kind holds besides names: a character, or what is wrong with a section.
+pub fn held_by(kind: &YaccGrammarErrorKind) -> Option<(char, HeaderErrorKind, SpansKind)> {
+    match kind {
+        YaccGrammarErrorKind::ExpectedInput(character) => Some((
+            *character,
+            HeaderErrorKind::IllegalName,
+            SpansKind::Error,
+        )),
+        YaccGrammarErrorKind::Header(kind, spanskind) => Some((' ', *kind, *spanskind)),
+        _ => None,
+    }
+}
+
+/// What the kind of a section's error holds: a character, and what is said of it.
+pub fn held_by_section(
+    kind: HeaderErrorKind,
+) -> (Option<char>, Option<(&'static str, &'static str)>) {
+    match kind {
+        HeaderErrorKind::MissingGrmtoolsSection
+        | HeaderErrorKind::IllegalName
+        | HeaderErrorKind::DuplicateEntry => (None, None),
+        HeaderErrorKind::ExpectedToken(character) => (Some(character), None),
+        HeaderErrorKind::UnexpectedToken(character, hint) => (Some(character), Some((hint, hint))),
+        HeaderErrorKind::InvalidEntry(what) => (None, Some((what, what))),
+        HeaderErrorKind::ConversionError(what, why) => (None, Some((what, why))),
+    }
+}
+
+/// A setting with locations in place of spans, the location that represents a value, and the kind that the value names.
+pub fn located<'a>(
+    alloc: Global,
+    setting: &Setting<Span>,
+    value: &'a Value<Location>,
+) -> (
+    Result<Setting<Location>, AllocError>,
+    &'a Location,
+    Result<YaccKind, KindFault<Location>>,
+) {
+    (
+        setting.to_location(alloc),
+        value.primary_location(),
+        YaccKind::try_from_value::<Location>(alloc, value),
+    )
+}
+
+/// A bit that is set in FIRST sets.
+pub fn set<S: Storage>(firsts: &mut YaccFirsts<S>, rule: RIdx<S>, token: TIdx<S>) -> bool
+    requires rule { S.number rule.0 < length firsts.old.firsts.rows }
+    requires token { S.number token.0 < firsts.old.firsts.columns }
+{
+    firsts.set(rule, token)
+}
+
+/// A production of any grammar, which is opened.
+pub fn opened<S: Storage, P: Productions<S>>(
+    productions: &mut P,
+    production: PIdx<S>,
+) -> (RIdx<S>, usize)
+    requires in_range { S.number production.0 < length (P.content productions.old).productions }
+    requires countable { P.opened productions.old (S.number production.0) < 2 ^ 64 - 1 }
+    requires all_countable { P.opened_all productions.old < 2 ^ 128 - 1 }
+{
+    let rule: RIdx<S> = productions.rule_of(production);
+    let symbols: &[Symbol<S>] = productions.open(production);
+    (rule, symbols.len())
+}
