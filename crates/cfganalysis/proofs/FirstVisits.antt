@@ -11,7 +11,7 @@ use Rattle.derivation.proofs.Firsts.{nullable_map, begins_map, closed_first, clo
 use Rattle.search.proofs.Bits.{bit_put, bits_on-fewer, bits_on-set}
 use Rattle.cfgtables.proofs.Located.{owner}
 use Rattle.cfganalysis.specs.Firsts.{FirstSets, AreFirsts, IsAmongFirsts, IsNullableRule, nullable_bit}
-use Rattle.cfganalysis.specs.Inner.GrowingFirsts.{AreNullableBy, is_nullable_symbol, AreSoundFirsts, CoverFirstsOf, BeginsBy, no_firsts, with_nullable, HasNoMoreFirsts, HoldsRule, count_firsts}
+use Rattle.cfganalysis.specs.Inner.GrowingFirsts.{AreNullableBy, is_nullable_symbol, AreSoundFirsts, CoverFirstsOf, BeginsBy, no_firsts, with_nullable, HasNoMoreFirsts, ProductionRefers, count_firsts}
 use Rattle.cfganalysis.specs.Table.{IsTable, Joins, bits_on}
 use Rattle.cfganalysis.specs.Inner.Growth.{CoversEach, AddsProduction}
 use Rattle.cfganalysis.proofs.Joins.{bit-no_bits, IsTable-no_bits, count_of-fewer}
@@ -147,39 +147,39 @@ GainsRule rule changed r = (r ≡ rule) × (changed ≡ true)
 
 module _ (rule : ℕ) (symbols : List Sym) (old new : FirstSets) (changed : Bool) (w : Taken rule symbols old new changed) where
   -- a production that depends on no set that grew gives no more than the sets had given it before
-  covered : (q : Production) → ((r : ℕ) → HoldsRule q r → GainsRule rule changed r → ⊥) → ((t : ℕ) → BeginsBy old q.symbols t → IsAmongFirsts new q.rule t)
+  covered : (q : Production) → ((r : ℕ) → ProductionRefers q r → GainsRule rule changed r → ⊥) → ((t : ℕ) → BeginsBy old q.symbols t → IsAmongFirsts new q.rule t)
       → (AreNullableBy old q.symbols → IsNullableRule new q.rule) → CoverFirstsOf new q
   covered q none first empty = record {
     first = λ t h. first t (begins_among _ _ _ _ q.symbols t (λ r among on. back_empty r among on) (λ r among on. back r t among on) h);
     empty = λ h. empty (nullable_among _ _ q.symbols (λ r among on. back_empty r among on) h);
   }
     where
-      unless : (r : ℕ) → HoldsRule q r → r ≡ rule → new ≡ old
+      unless : (r : ℕ) → ProductionRefers q r → r ≡ rule → new ≡ old
       unless r among e = by changed refl
         where
           by : (b : Bool) → changed ≡ b → new ≡ old
           by true is = absurd (none r among (e, is))
           by false is = w.growth.same is
 
-      back : (r t : ℕ) → HoldsRule q r → IsAmongFirsts new r t → IsAmongFirsts old r t
+      back : (r t : ℕ) → ProductionRefers q r → IsAmongFirsts new r t → IsAmongFirsts old r t
       back r t among on = elim (w.growth.others r t on) [ inl i ↦ i | inr e ↦ subst (λ x. IsAmongFirsts x r t) (unless r among e) on ]
 
-      back_empty : (r : ℕ) → HoldsRule q r → IsNullableRule new r → IsNullableRule old r
+      back_empty : (r : ℕ) → ProductionRefers q r → IsNullableRule new r → IsNullableRule old r
       back_empty r among on = elim (w.others_empty r on) [ inl i ↦ i | inr e ↦ subst (λ x. IsNullableRule x r) (unless r among e) on ]
 
-  takes : AddsProduction AreSoundFirsts CoverFirstsOf count_firsts HoldsRule HasNoMoreFirsts (record { rule = rule; symbols = symbols }) old new (GainsRule rule changed)
+  takes : AddsProduction AreSoundFirsts CoverFirstsOf count_firsts ProductionRefers HasNoMoreFirsts (record { rule = rule; symbols = symbols }) old new (GainsRule rule changed)
   takes = record {
     sound = w.growth.sound;
     no_less = by changed refl;
     more = λ r h. w.growth.more h.1;
-    gains = λ r. (gained r, grew r);
+    gains = λ r. (grown r, grew r);
     closed = λ none. covered (record { rule = rule; symbols = symbols }) none w.given w.given_empty;
     stays = λ q none had. covered q none (λ t h. w.growth.kept q.rule t (had.first t h)) (λ h. w.kept_empty q.rule (had.empty h));
   }
     where
       -- if the rule had no more than before, there would be no more in all
-      gained : (r : ℕ) → GainsRule rule changed r → HasNoMoreFirsts r old new → ⊥
-      gained r h none =
+      grown : (r : ℕ) → GainsRule rule changed r → HasNoMoreFirsts r old new → ⊥
+      grown r h none =
           let more = w.growth.more h.1 in
           let first = count_of-fewer new.firsts old.firsts (λ q t on. elim (w.growth.others q t on) [
             | inl i ↦ i
@@ -274,7 +274,7 @@ module _ (rule : ℕ) (symbols : List Sym) where
 
     -- the visit ends at a symbol that isn't a nullable rule
     pub visits_end : is_nullable_symbol new s ≡ false
-        → AddsProduction AreSoundFirsts CoverFirstsOf count_firsts HoldsRule HasNoMoreFirsts (record { rule = rule; symbols = symbols }) old new (GainsRule rule (c || d))
+        → AddsProduction AreSoundFirsts CoverFirstsOf count_firsts ProductionRefers HasNoMoreFirsts (record { rule = rule; symbols = symbols }) old new (GainsRule rule (c || d))
     visits_end e = takes rule symbols old new (c || d) (record {
       growth = walked.growth;
       given = λ t h. elim (begins_parts _ _ (take (n + 1) symbols) (drop (n + 1) symbols) t
@@ -295,7 +295,7 @@ module _ (rule : ℕ) (symbols : List Sym) where
   pub visits_all : (g : Grammar) (n : ℕ) (old mid new : FirstSets) (c d : Bool) → IsGrammar g → HasProduction g rule symbols → AreSoundFirsts g old
       → length symbols ≤ n → Visits rule symbols n old mid c → new ≡ with_nullable mid rule
       → MatchBool d (nullable_bit mid rule ≡ false) (nullable_bit mid rule ≡ true)
-      → AddsProduction AreSoundFirsts CoverFirstsOf count_firsts HoldsRule HasNoMoreFirsts (record { rule = rule; symbols = symbols }) old new (GainsRule rule (c || d))
+      → AddsProduction AreSoundFirsts CoverFirstsOf count_firsts ProductionRefers HasNoMoreFirsts (record { rule = rule; symbols = symbols }) old new (GainsRule rule (c || d))
   visits_all g n old mid new c d is has say le w put was = takes rule symbols old new (c || d) (record {
     growth = record {
       sound = λ g' is' has' say'. subst (λ x. AreSoundFirsts g' x) (sym put) (say_epsilon g' rule symbols has' mid (w.walked.growth.sound g' is' has' say')
@@ -341,22 +341,22 @@ module _ (rule : ℕ) (symbols : List Sym) where
           (ap (λ b. slice_set mid.nullable rule b) (sym (on d e was)) ∙ set-get_or mid.nullable rule false)
 
 -- the rule waits if its set grew
-gains_rule : (rule : ℕ) (p : Production) (old new : FirstSets) (changed : Bool) (gained : ℕ → Type 0) → ((r : ℕ) → gained r → GainsRule rule changed r)
-    → ((r : ℕ) → GainsRule rule changed r → gained r) → AddsProduction AreSoundFirsts CoverFirstsOf count_firsts HoldsRule HasNoMoreFirsts p old new (GainsRule rule changed)
-    → AddsProduction AreSoundFirsts CoverFirstsOf count_firsts HoldsRule HasNoMoreFirsts p old new gained
-gains_rule rule p old new changed gained to from w = record {
+gains_rule : (rule : ℕ) (p : Production) (old new : FirstSets) (changed : Bool) (grown : ℕ → Type 0) → ((r : ℕ) → grown r → GainsRule rule changed r)
+    → ((r : ℕ) → GainsRule rule changed r → grown r) → AddsProduction AreSoundFirsts CoverFirstsOf count_firsts ProductionRefers HasNoMoreFirsts p old new (GainsRule rule changed)
+    → AddsProduction AreSoundFirsts CoverFirstsOf count_firsts ProductionRefers HasNoMoreFirsts p old new grown
+gains_rule rule p old new changed grown to from w = record {
   sound = w.sound;
   no_less = w.no_less;
   more = λ r h. w.more r (to r h);
   gains = λ r. ((λ h. (w.gains r).0 (to r h)), (λ unless. from r ((w.gains r).1 unless)));
-  closed = λ none. w.closed (λ r rests h. none r rests (from r h));
-  stays = λ q none. w.stays q (λ r rests h. none r rests (from r h));
+  closed = λ none. w.closed (λ r depends h. none r depends (from r h));
+  stays = λ q none. w.stays q (λ r depends h. none r depends (from r h));
 }
 
 pub gains_put : (rule index : ℕ) (p : Production) (old new : FirstSets) (changed : Bool) (waiting waiting' : List Bool) → NoneWaits waiting
     → index < length waiting → index ≡ rule → waiting' ≡ slice_set waiting index true → changed ≡ true
-    → AddsProduction AreSoundFirsts CoverFirstsOf count_firsts HoldsRule HasNoMoreFirsts p old new (GainsRule rule changed)
-    → AddsProduction AreSoundFirsts CoverFirstsOf count_firsts HoldsRule HasNoMoreFirsts p old new (Waits waiting')
+    → AddsProduction AreSoundFirsts CoverFirstsOf count_firsts ProductionRefers HasNoMoreFirsts p old new (GainsRule rule changed)
+    → AddsProduction AreSoundFirsts CoverFirstsOf count_firsts ProductionRefers HasNoMoreFirsts p old new (Waits waiting')
 gains_put rule index p old new changed waiting waiting' none lt at put on w = gains_rule rule p old new changed (Waits waiting')
     (λ r h. elim ((bit_put waiting index lt r).0 (subst (λ l. Waits l r) put h)) [
       | inl i ↦ absurd (true≢false (sym i ∙ none r))
@@ -365,7 +365,7 @@ gains_put rule index p old new changed waiting waiting' none lt at put on w = ga
     (λ r h. subst (λ l. Waits l r) (sym put) ((bit_put waiting index lt r).1 (inr (h.0 ∙ sym at)))) w
 
 pub gains_none : (rule : ℕ) (p : Production) (old new : FirstSets) (changed : Bool) (waiting : List Bool) → NoneWaits waiting → changed ≡ false
-    → AddsProduction AreSoundFirsts CoverFirstsOf count_firsts HoldsRule HasNoMoreFirsts p old new (GainsRule rule changed)
-    → AddsProduction AreSoundFirsts CoverFirstsOf count_firsts HoldsRule HasNoMoreFirsts p old new (Waits waiting)
+    → AddsProduction AreSoundFirsts CoverFirstsOf count_firsts ProductionRefers HasNoMoreFirsts p old new (GainsRule rule changed)
+    → AddsProduction AreSoundFirsts CoverFirstsOf count_firsts ProductionRefers HasNoMoreFirsts p old new (Waits waiting)
 gains_none rule p old new changed waiting none off w = gains_rule rule p old new changed (Waits waiting)
     (λ r h. absurd (true≢false (sym h ∙ none r))) (λ r h. absurd (true≢false (sym h.1 ∙ off))) w

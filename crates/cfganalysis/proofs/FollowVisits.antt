@@ -26,7 +26,7 @@ nothing_after u gives x waiting = record {
   no_less = omega arith;
   rules = refl;
   kept = λ r h. h;
-  gained = λ r h. inl h;
+  grown = λ r h. inl h;
   more = λ r h. inl h;
   reported = λ r t h. inl h;
 }
@@ -51,7 +51,7 @@ module _ (q : ℕ) (gives : ℕ → Type 0) (old new : FollowSets) (changed : Bo
     no_less = let h = w.joins.more on in omega (arith, h);
     rules = ap length put ∙ length-set waiting n true;
     kept = λ r h. subst (λ l. Waits l r) (sym put) ((bit_put waiting n lt r).1 (inl h));
-    gained = λ r h. inr (w.joins.more on);
+    grown = λ r h. inr (w.joins.more on);
     more = λ r h. elim ((bit_put waiting n lt r).0 (subst (λ l. Waits l r) put h)) [ inl i ↦ inl i | inr e ↦ inr (λ none. grew r (e ∙ is) none) ];
     reported = λ r t h. elim ((w.joins.bits r t).0 h) [
       | inl i ↦ inl i
@@ -78,7 +78,7 @@ module _ (q : ℕ) (gives : ℕ → Type 0) (old new : FollowSets) (changed : Bo
     no_less = let h = ap count_of (w.joins.same off) in omega (arith, h);
     rules = refl;
     kept = λ r h. h;
-    gained = λ r h. inl h;
+    grown = λ r h. inl h;
     more = λ r h. inl h;
     reported = λ r t h. inl (subst (λ x. HasBit x r t) (w.joins.same off) h);
   }
@@ -89,7 +89,7 @@ pub record Flowing (rule : ℕ) (symbols : List Sym) (n : ℕ) (old new : Follow
   pub firsts : new.firsts ≡ old.firsts
   pub no_less : count_follows old ≤ count_follows new
   pub rules : length waiting ≡ length none
-  pub gained : (r : ℕ) → Waits waiting r → Waits none r ⊎ (count_follows old < count_follows new)
+  pub grown : (r : ℕ) → Waits waiting r → Waits none r ⊎ (count_follows old < count_follows new)
   pub more : (r : ℕ) → Waits waiting r → Waits none r ⊎ (HasNoMoreFollows r old new → ⊥)
   pub reported : (r t : ℕ) → HasBit new.follows r t → HasBit old.follows r t ⊎ Waits waiting r
   pub kept : (r t : ℕ) → HasBit old.follows r t → HasBit new.follows r t
@@ -152,7 +152,7 @@ module _ (rule : ℕ) (symbols : List Sym) where
     firsts = refl;
     no_less = omega arith;
     rules = refl;
-    gained = λ r h. inl h;
+    grown = λ r h. inl h;
     more = λ r h. inl h;
     reported = λ r t h. inl h;
     kept = λ r t h. h;
@@ -173,8 +173,8 @@ module _ (rule : ℕ) (symbols : List Sym) where
     firsts = one.firsts ∙ w.firsts;
     no_less = let a = w.no_less in let b = one.no_less in omega (arith, a, b);
     rules = one.rules ∙ w.rules;
-    gained = λ r h. elim (one.gained r h) [
-      | inl i ↦ elim (w.gained r i) [
+    grown = λ r h. elim (one.grown r h) [
+      | inl i ↦ elim (w.grown r i) [
         | inl j ↦ inl j
         | inr j ↦ let b = one.no_less in inr (omega (arith, j, b))
       ]
@@ -203,7 +203,7 @@ module _ (rule : ℕ) (symbols : List Sym) where
   flowing_all n old new none waiting start idle w = record {
     sound = w.sound;
     no_less = w.no_less;
-    more = λ r h. elim (w.gained r h) [ inl i ↦ absurd (true≢false (sym i ∙ idle r)) | inr i ↦ i ];
+    more = λ r h. elim (w.grown r h) [ inl i ↦ absurd (true≢false (sym i ∙ idle r)) | inr i ↦ i ];
     gains = λ r. (
       (λ h. elim (w.more r h) [ inl i ↦ absurd (true≢false (sym i ∙ idle r)) | inr i ↦ i ]),
       (λ unless. waits_by r (waits waiting r) refl unless),

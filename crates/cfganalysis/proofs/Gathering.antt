@@ -10,7 +10,7 @@ use Rattle.derivation.specs.FirstSets.{AreNullable, Begins}
 use Rattle.derivation.proofs.Firsts.{nullable_parts, nullable_both, begins_parts}
 use Rattle.cfgindex.specs.declared.idxnewtype.Symbol.{Symbol}
 use Rattle.cfganalysis.specs.declared.follows.Lookahead.{Lookahead}
-use Rattle.cfganalysis.specs.declared.follows.Lookahead.TheVariants as prefixes
+use Rattle.cfganalysis.specs.declared.follows.Lookahead.TheVariants as lookaheads
 use Rattle.cfgtables.specs.NumberedSymbols.{sym_of}
 use Rattle.cfganalysis.specs.Table.{HasBit, row_of}
 use Rattle.cfganalysis.specs.Inner.Joined.{joined}
@@ -63,7 +63,7 @@ module _ (gives : ℕ → Type 0) (old none new : List Bool) (bare : none ≡ re
   )
 
 -- The next tokens before the n-th symbol: all that came next at the start, and only what comes next now or later, as sets grow.
-pub record Fronting {S : Type 0} (number : S → ℕ) (rule : ℕ) (symbols : List Sym) (n wide : ℕ) (old new : FollowSets) (prefix : Lookahead S)
+pub record HasLookahead {S : Type 0} (number : S → ℕ) (rule : ℕ) (symbols : List Sym) (n wide : ℕ) (old new : FollowSets) (prefix : Lookahead S)
     (tokens : List Bool) : Type 0 where
   pub fits : (g : Grammar) → All (IsSymbolOf g) symbols → IsLookaheadOf number g prefix
   pub long : length tokens ≡ wide
@@ -76,7 +76,7 @@ module _ {S : Type 0} (number : S → ℕ) (rule : ℕ) where
   -- before a symbol that isn't nullable, the next tokens are what it begins with
   pub steps_over : (x : FollowSets) (symbol : Symbol S) (prefix : Lookahead S) (tokens : List Bool)
       → is_nullable_symbol x.firsts (sym_of number symbol) ≡ false
-      → LookaheadBefore number x rule (sym_of number symbol) prefix tokens (prefixes.Symbol symbol) tokens
+      → LookaheadBefore number x rule (sym_of number symbol) prefix tokens (lookaheads.Symbol symbol) tokens
   steps_over x symbol prefix tokens e = record {
     past = λ t. ((λ h. inl h), (λ h. elim h [ inl i ↦ i | inr i ↦ absurd (stays_alone x.firsts (sym_of number symbol) e i.0) ]));
     begun = λ h. h;
@@ -87,7 +87,7 @@ module _ {S : Type 0} (number : S → ℕ) (rule : ℕ) where
   -- before a nullable symbol, the next tokens after it are gathered too
   pub steps_through : (x : FollowSets) (s : Sym) (prefix : Lookahead S) (tokens mid tokens' : List Bool) → is_nullable_symbol x.firsts s ≡ true
       → length mid ≡ length tokens → ((t : ℕ) → (IsGathered mid t ↔ LookaheadHas number x rule tokens prefix t))
-      → Gathers (BeginsList x (s ∷ [])) mid tokens' → LookaheadBefore number x rule s prefix tokens prefixes.Gathered tokens'
+      → Gathers (BeginsList x (s ∷ [])) mid tokens' → LookaheadBefore number x rule s prefix tokens lookaheads.Gathered tokens'
   steps_through x s prefix tokens mid tokens' e long at w = record {
     past = λ t. (
       (λ h. elim ((w.tokens t).0 h) [ inl i ↦ inr (nullable_alone x.firsts s e, (at t).0 i) | inr i ↦ inl i ]),
@@ -100,22 +100,22 @@ module _ {S : Type 0} (number : S → ℕ) (rule : ℕ) where
 
   gives_grow : (x y : FollowSets) (tokens : List Bool) (prefix : Lookahead S) (t : ℕ) → y.firsts ≡ x.firsts → Grows x y
       → LookaheadHas number x rule tokens prefix t → LookaheadHas number y rule tokens prefix t
-  gives_grow x y tokens prefixes.End t e grow h = grow rule t h
-  gives_grow x y tokens (prefixes.Symbol symbol) t e grow h =
+  gives_grow x y tokens lookaheads.End t e grow h = grow rule t h
+  gives_grow x y tokens (lookaheads.Symbol symbol) t e grow h =
       subst (λ f. Begins (IsNullableRule f) (IsAmongFirsts f) (sym_of number symbol ∷ []) t) (sym e) h
-  gives_grow x y tokens prefixes.Gathered t e grow h = h
+  gives_grow x y tokens lookaheads.Gathered t e grow h = h
 
   gives_stays : (x y : FollowSets) (tokens : List Bool) (prefix : Lookahead S) (t : ℕ) → (IsEnd prefix → ⊥) → y.firsts ≡ x.firsts
       → LookaheadHas number y rule tokens prefix t → LookaheadHas number x rule tokens prefix t
-  gives_stays x y tokens prefixes.End t begun e h = absurd (begun tt)
-  gives_stays x y tokens (prefixes.Symbol symbol) t begun e h =
+  gives_stays x y tokens lookaheads.End t begun e h = absurd (begun tt)
+  gives_stays x y tokens (lookaheads.Symbol symbol) t begun e h =
       subst (λ f. Begins (IsNullableRule f) (IsAmongFirsts f) (sym_of number symbol ∷ []) t) e h
-  gives_stays x y tokens prefixes.Gathered t begun e h = h
+  gives_stays x y tokens lookaheads.Gathered t begun e h = h
 
   module _ (symbols : List Sym) where
-    pub fronting_none : (n : ℕ) (x : FollowSets) (tokens : List Bool) → length symbols ≤ n
-        → Fronting number rule symbols n (length tokens) x x prefixes.End tokens
-    fronting_none n x tokens le = record {
+    pub has_lookahead_none : (n : ℕ) (x : FollowSets) (tokens : List Bool) → length symbols ≤ n
+        → HasLookahead number rule symbols n (length tokens) x x lookaheads.End tokens
+    has_lookahead_none n x tokens le = record {
       fits = λ g all. tt;
       long = refl;
       below = λ y e grow t h. elim (subst (λ l. After x rule l t) (drop_all n symbols le) h) [ inl i ↦ absurd i | inr i ↦ grow rule t i.1 ];
@@ -123,18 +123,18 @@ module _ {S : Type 0} (number : S → ℕ) (rule : ℕ) where
     }
 
     -- one symbol back
-    pub fronting_one : (n wide : ℕ) (s : Sym) (rest : List Sym) (old mid new : FollowSets) (prefix prefix' : Lookahead S) (tokens tokens' : List Bool)
+    pub has_lookahead_one : (n wide : ℕ) (s : Sym) (rest : List Sym) (old mid new : FollowSets) (prefix lookahead' : Lookahead S) (tokens tokens' : List Bool)
         → drop n symbols ≡ s ∷ rest → rest ≡ drop (n + 1) symbols → ((g : Grammar) → All (IsSymbolOf g) symbols → IsSymbolOf g s)
-        → Fronting number rule symbols (n + 1) wide old mid prefix tokens → new.firsts ≡ old.firsts → Grows mid new
-        → LookaheadBefore number new rule s prefix tokens prefix' tokens' → Fronting number rule symbols n wide old new prefix' tokens'
-    fronting_one n wide s rest old mid new prefix prefix' tokens tokens' at after of w same grew step = record {
+        → HasLookahead number rule symbols (n + 1) wide old mid prefix tokens → new.firsts ≡ old.firsts → Grows mid new
+        → LookaheadBefore number new rule s prefix tokens lookahead' tokens' → HasLookahead number rule symbols n wide old new lookahead' tokens'
+    has_lookahead_one n wide s rest old mid new prefix lookahead' tokens tokens' at after of w same grew step = record {
       fits = λ g all. step.fits g (of g all);
       long = step.long ∙ w.long;
-      below = λ x e grow t h. gives_grow new x tokens' prefix' t (e ∙ sym same) grow
+      below = λ x e grow t h. gives_grow new x tokens' lookahead' t (e ∙ sym same) grow
           ((step.past t).1 (back t (subst (λ l. After old rule l t) at h)));
       above = λ x e grow t h. subst (λ l. After x rule l t) (sym at)
           (after_grow new x rule (s ∷ rest) t (e ∙ sym same) (grow rule t)
-          (on t ((step.past t).0 (gives_stays new x tokens' prefix' t step.begun (e ∙ sym same) h))));
+          (on t ((step.past t).0 (gives_stays new x tokens' lookahead' t step.begun (e ∙ sym same) h))));
     }
       where
         prefixes_below : (t : ℕ) → After old rule rest t → LookaheadHas number new rule tokens prefix t

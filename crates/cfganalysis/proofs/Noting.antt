@@ -10,49 +10,49 @@ use Rattle.lemmas.proofs.Taken.{contains_taken}
 use Rattle.search.proofs.Bits.{bit_put}
 use Rattle.derivation.specs.Grammar.{Sym, Rule, Token}
 use Rattle.cfganalysis.specs.Inner.Waiting.{Waits, NoneWaits, WaitsNoMore}
-use Rattle.cfganalysis.specs.Inner.Work.{users_of, Notes, DependsOnGrown, Queues}
+use Rattle.cfganalysis.specs.Inner.Work.{dependents_of, Notes, DependsOnGrown, Queues}
 
 -- a production was noted with one rule
-pub notes_one : (users : List (List ℕ)) (rule p : ℕ) → rule < length users
-    → Notes p (λ r. r ≡ rule) users (slice_set users rule (users_of users rule ++ p ∷ []))
-notes_one users rule p lt = record {
-  shape = length-set users rule _;
-  users = λ r. adds_as (λ q. (q ≡ p) × (r ≡ rule)) (λ q h. inr (h.1, h.0)) (λ q h. inr (h.1, h.0)) (set_adds Contains (λ q. q ≡ p) users rule (users_of users rule ++ p ∷ []) [] lt (λ q. (
-    (λ h. elim (Contains-push_cases (users_of users rule) p q h) [ inl i ↦ inl i | inr e ↦ inr (sym e) ]),
+pub notes_one : (dependents : List (List ℕ)) (rule p : ℕ) → rule < length dependents
+    → Notes p (λ r. r ≡ rule) dependents (slice_set dependents rule (dependents_of dependents rule ++ p ∷ []))
+notes_one dependents rule p lt = record {
+  shape = length-set dependents rule _;
+  dependents = λ r. adds_as (λ q. (q ≡ p) × (r ≡ rule)) (λ q h. inr (h.1, h.0)) (λ q h. inr (h.1, h.0)) (set_adds Contains (λ q. q ≡ p) dependents rule (dependents_of dependents rule ++ p ∷ []) [] lt (λ q. (
+    (λ h. elim (Contains-push_cases (dependents_of dependents rule) p q h) [ inl i ↦ inl i | inr e ↦ inr (sym e) ]),
     (λ h. elim h [
-      | inl i ↦ Contains-append_left (users_of users rule) (p ∷ []) q i
-      | inr e ↦ subst (Contains (users_of users rule ++ p ∷ [])) (sym e) (Contains-push (users_of users rule) p)
+      | inl i ↦ Contains-append_left (dependents_of dependents rule) (p ∷ []) q i
+      | inr e ↦ subst (Contains (dependents_of dependents rule ++ p ∷ [])) (sym e) (Contains-push (dependents_of dependents rule) p)
     ]),
   )) r);
 }
 
 -- the same for a push
-pub notes_pushed : {A E : Type 0} (result : Result A E) (users new : List (List ℕ)) (rule p : ℕ) → rule < length users
-    → OnOk result (new ≡ slice_set users rule (users_of users rule ++ p ∷ [])) → IfOk result (λ _. Notes p (λ r. r ≡ rule) users new)
-notes_pushed (Ok x) users new rule p lt e = subst (Notes p (λ r. r ≡ rule) users) (sym e) (notes_one users rule p lt)
-notes_pushed (Err x) users new rule p lt e = tt
+pub notes_pushed : {A E : Type 0} (result : Result A E) (dependents new : List (List ℕ)) (rule p : ℕ) → rule < length dependents
+    → OnOk result (new ≡ slice_set dependents rule (dependents_of dependents rule ++ p ∷ [])) → IfOk result (λ _. Notes p (λ r. r ≡ rule) dependents new)
+notes_pushed (Ok x) dependents new rule p lt e = subst (Notes p (λ r. r ≡ rule) dependents) (sym e) (notes_one dependents rule p lt)
+notes_pushed (Err x) dependents new rule p lt e = tt
 
-pub notes_none : (p : ℕ) (rests : ℕ → Type 0) (x : List (List ℕ)) → ((r : ℕ) → rests r → ⊥) → Notes p rests x x
-notes_none p rests x never = record {
+pub notes_none : (p : ℕ) (depends_on : ℕ → Type 0) (x : List (List ℕ)) → ((r : ℕ) → depends_on r → ⊥) → Notes p depends_on x x
+notes_none p depends_on x never = record {
   shape = refl;
-  users = λ r q. ((λ h. inl h), (λ h. elim h [ inl i ↦ i | inr i ↦ absurd (never r i.1) ]));
+  dependents = λ r q. ((λ h. inl h), (λ h. elim h [ inl i ↦ i | inr i ↦ absurd (never r i.1) ]));
 }
 
-pub notes_as : (p : ℕ) (rests rests' : ℕ → Type 0) (old new : List (List ℕ)) → ((r : ℕ) → rests r → rests' r) → ((r : ℕ) → rests' r → rests r)
-    → Notes p rests old new → Notes p rests' old new
-notes_as p rests rests' old new to from w = record {
+pub notes_as : (p : ℕ) (depends_on depends_on' : ℕ → Type 0) (old new : List (List ℕ)) → ((r : ℕ) → depends_on r → depends_on' r) → ((r : ℕ) → depends_on' r → depends_on r)
+    → Notes p depends_on old new → Notes p depends_on' old new
+notes_as p depends_on depends_on' old new to from w = record {
   shape = w.shape;
-  users = λ r. adds_as (λ q. (q ≡ p) × rests' r) (λ q i. inr (i.0, to r i.1)) (λ q i. inr (i.0, from r i.1)) (w.users r);
+  dependents = λ r. adds_as (λ q. (q ≡ p) × depends_on' r) (λ q i. inr (i.0, to r i.1)) (λ q i. inr (i.0, from r i.1)) (w.dependents r);
 }
 
-pub notes_then : (p : ℕ) (rests rests' : ℕ → Type 0) (old mid new : List (List ℕ)) → Notes p rests old mid → Notes p rests' mid new
-    → Notes p (λ r. rests r ⊎ rests' r) old new
-notes_then p rests rests' old mid new w v = record {
+pub notes_then : (p : ℕ) (depends_on depends_on' : ℕ → Type 0) (old mid new : List (List ℕ)) → Notes p depends_on old mid → Notes p depends_on' mid new
+    → Notes p (λ r. depends_on r ⊎ depends_on' r) old new
+notes_then p depends_on depends_on' old mid new w v = record {
   shape = v.shape ∙ w.shape;
-  users = λ r. adds_as (λ q. (q ≡ p) × (rests r ⊎ rests' r))
+  dependents = λ r. adds_as (λ q. (q ≡ p) × (depends_on r ⊎ depends_on' r))
       (λ q h. elim h [ inl i ↦ inr (i.0, inl i.1) | inr i ↦ inr (i.0, inr i.1) ])
       (λ q h. elim h.1 [ inl i ↦ inr (inl (h.0, i)) | inr i ↦ inr (inr (h.0, i)) ])
-      (adds_then (w.users r) (v.users r));
+      (adds_then (w.dependents r) (v.dependents r));
 }
 
 -- the first n productions of a list were queued
@@ -74,38 +74,38 @@ module _ (list : List ℕ) where
       taken : (q : ℕ) → Contains (take (n + 1) list) q ↔ (Contains (take n list) q ⊎ (q ≡ p))
       taken = contains_taken list n p lt is
 
-  pub lets_wait_all : (users : List (List ℕ)) (rule n : ℕ) (old new : List Bool) → length list ≤ n → list ≡ users_of users rule → QueuesLookahead list n old new
-      → Queues users (λ r. r ≡ rule) old new
-  lets_wait_all users rule n old new le is w = record {
+  pub lets_wait_all : (dependents : List (List ℕ)) (rule n : ℕ) (old new : List Bool) → length list ≤ n → list ≡ dependents_of dependents rule → QueuesLookahead list n old new
+      → Queues dependents (λ r. r ≡ rule) old new
+  lets_wait_all dependents rule n old new le is w = record {
     shape = w.shape;
-    waits = adds_as (DependsOnGrown users (λ r. r ≡ rule))
+    waits = adds_as (DependsOnGrown dependents (λ r. r ≡ rule))
         (λ q h. inr (record { rule = rule; gains = refl; noted = subst (λ l. Contains l q) (take_all n list le ∙ is) h }))
-        (λ q h. inr (subst (λ l. Contains l q) (sym (take_all n list le ∙ is)) (subst (λ r. Contains (users_of users r) q) h.gains h.noted)))
+        (λ q h. inr (subst (λ l. Contains l q) (sym (take_all n list le ∙ is)) (subst (λ r. Contains (dependents_of dependents r) q) h.gains h.noted)))
         w.waits;
   }
 
 -- between two rules whose sets grew: the productions that depend on the rules done so far wait
-pub record LettingWait (users : List (List ℕ)) (gained left : List Bool) (old new : List Bool) : Type 0 where
+pub record LettingWait (dependents : List (List ℕ)) (grown left : List Bool) (old new : List Bool) : Type 0 where
   pub shape : length new ≡ length old
-  pub fewer : (r : ℕ) → Waits left r → Waits gained r
-  pub same : length left ≡ length gained
-  pub only : (q : ℕ) → Waits new q → Waits old q ⊎ DependsOnGrown users (Waits gained) q
+  pub fewer : (r : ℕ) → Waits left r → Waits grown r
+  pub same : length left ≡ length grown
+  pub only : (q : ℕ) → Waits new q → Waits old q ⊎ DependsOnGrown dependents (Waits grown) q
   pub kept : (q : ℕ) → Waits old q → Waits new q
-  pub done : (r q : ℕ) → Waits gained r → Contains (users_of users r) q → Waits left r ⊎ Waits new q
+  pub done : (r q : ℕ) → Waits grown r → Contains (dependents_of dependents r) q → Waits left r ⊎ Waits new q
 
-module _ (users : List (List ℕ)) (gained : List Bool) where
-  pub letting_wait_none : (x : List Bool) → LettingWait users gained gained x x
+module _ (dependents : List (List ℕ)) (grown : List Bool) where
+  pub letting_wait_none : (x : List Bool) → LettingWait dependents grown grown x x
   letting_wait_none x = record { shape = refl; fewer = λ r h. h; same = refl; only = λ q h. inl h; kept = λ q h. h; done = λ r q h k. inl h }
 
-  pub letting_wait_one : (rule : ℕ) (left left' old mid new : List Bool) → LettingWait users gained left old mid → WaitsNoMore rule left left'
-      → Queues users (λ r. r ≡ rule) mid new → LettingWait users gained left' old new
+  pub letting_wait_one : (rule : ℕ) (left left' old mid new : List Bool) → LettingWait dependents grown left old mid → WaitsNoMore rule left left'
+      → Queues dependents (λ r. r ≡ rule) mid new → LettingWait dependents grown left' old new
   letting_wait_one rule left left' old mid new w leaves v = record {
     shape = v.shape ∙ w.shape;
     fewer = λ r h. w.fewer r (stayed r h);
     same = ap length leaves.rest ∙ length-set left rule false ∙ w.same;
     only = λ q h. elim ((v.waits q).0 h) [
       | inl i ↦ w.only q i
-      | inr i ↦ inr (record { rule = i.rule; gains = subst (Waits gained) (sym i.gains) (w.fewer rule leaves.waited); noted = i.noted })
+      | inr i ↦ inr (record { rule = i.rule; gains = subst (Waits grown) (sym i.gains) (w.fewer rule leaves.waited); noted = i.noted })
     ];
     kept = λ q h. (v.waits q).1 (inl (w.kept q h));
     done = λ r q h k. elim (w.done r q h k) [
@@ -123,7 +123,7 @@ module _ (users : List (List ℕ)) (gained : List Bool) where
         | inr e ↦ absurd (true≢false (sym h ∙ ap (λ l. get_or l r false) leaves.rest ∙ e.1))
       ]
 
-  pub letting_wait_all : (left old new : List Bool) → NoneWaits left → LettingWait users gained left old new → Queues users (Waits gained) old new
+  pub letting_wait_all : (left old new : List Bool) → NoneWaits left → LettingWait dependents grown left old new → Queues dependents (Waits grown) old new
   letting_wait_all left old new none w = record {
     shape = w.shape;
     waits = λ q. (

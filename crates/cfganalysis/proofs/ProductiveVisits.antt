@@ -11,7 +11,7 @@ use Rattle.derivation.specs.Tree.{Yields, empty, token, opened}
 use Rattle.derivation.specs.Productive.{Productive}
 use Rattle.derivation.proofs.Trees.{derivation_from_trees, trees_from_derivation, trees_join}
 use Rattle.cfganalysis.specs.Inner.Growth.{CoversEach, AddsProduction}
-use Rattle.cfganalysis.specs.Inner.GrowingFirsts.{HoldsRule}
+use Rattle.cfganalysis.specs.Inner.GrowingFirsts.{ProductionRefers}
 use Rattle.cfganalysis.specs.Inner.Waiting.{NoneWaits, Waits}
 use Rattle.cfganalysis.specs.ProductiveRules.{AreProductiveRules}
 use Rattle.cfganalysis.specs.Table.{bits_on}
@@ -37,8 +37,8 @@ productive_word g bits sound (Rule r ∷ a) all =
 
 module _ (p : Production) (old : List Bool) (waiting : List Bool) (none : NoneWaits waiting) where
   -- the bit of the rule stays as it was
-  pub takes_none : (new : List Bool) → new ≡ old → CoverProductiveOf old p → AddsProduction AreSoundProductive CoverProductiveOf bits_on HoldsRule IsNoMoreProductive p old new (Waits waiting)
-  takes_none new same covers = subst (λ n. AddsProduction AreSoundProductive CoverProductiveOf bits_on HoldsRule IsNoMoreProductive p old n (Waits waiting)) (sym same) (record {
+  pub takes_none : (new : List Bool) → new ≡ old → CoverProductiveOf old p → AddsProduction AreSoundProductive CoverProductiveOf bits_on ProductionRefers IsNoMoreProductive p old new (Waits waiting)
+  takes_none new same covers = subst (λ n. AddsProduction AreSoundProductive CoverProductiveOf bits_on ProductionRefers IsNoMoreProductive p old n (Waits waiting)) (sym same) (record {
     sound = λ g is has sound. sound;
     no_less = omega arith;
     more = λ r w. absurd (true≢false (sym w ∙ none r));
@@ -49,7 +49,7 @@ module _ (p : Production) (old : List Bool) (waiting : List Bool) (none : NoneWa
 
   -- the bit of the rule is turned on, and the rule waits
   pub takes_rule : (new waiting' : List Bool) → p.rule < length old → p.rule < length waiting → is_productive old p.rule ≡ false → AreProductiveSymbols old p.symbols
-      → new ≡ slice_set old p.rule true → waiting' ≡ slice_set waiting p.rule true → AddsProduction AreSoundProductive CoverProductiveOf bits_on HoldsRule IsNoMoreProductive p old new (Waits waiting')
+      → new ≡ slice_set old p.rule true → waiting' ≡ slice_set waiting p.rule true → AddsProduction AreSoundProductive CoverProductiveOf bits_on ProductionRefers IsNoMoreProductive p old new (Waits waiting')
   takes_rule new waiting' within among was all put waits = record {
     sound = λ g is has sound. record {
       rules = ap length put ∙ length-set old p.rule true ∙ sound.rules;
@@ -67,14 +67,14 @@ module _ (p : Production) (old : List Bool) (waiting : List Bool) (none : NoneWa
         | inr e ↦ absurd (true≢false (sym (no_more (subst (λ q. IsTrue (is_productive new q)) (sym e) here)) ∙ ap (is_productive old) e ∙ was))
       ]),
       (λ unless. elim (cases_eq r p.rule) [
-        | inl e ↦ gained r e
+        | inl e ↦ grown r e
         | inr ne ↦ absurd (unless (λ on. elim (back r on) [ inl h ↦ h | inr e ↦ absurd (ne e) ]))
       ]),
     );
     closed = λ _ _. here;
-    stays = λ q rests covers all'. kept q.rule (covers (λ k d lt. still (get_or q.symbols k d) (λ r e on. elim (back r on) [
+    stays = λ q depends covers all'. kept q.rule (covers (λ k d lt. still (get_or q.symbols k d) (λ r e on. elim (back r on) [
       | inl h ↦ h
-      | inr same ↦ absurd (rests r (k, lt, get_or_default q.symbols k (Rule r) d lt ∙ e) (gained r same))
+      | inr same ↦ absurd (depends r (k, lt, get_or_default q.symbols k (Rule r) d lt ∙ e) (grown r same))
     ]) (all' k d lt)));
   }
     where
@@ -90,8 +90,8 @@ module _ (p : Production) (old : List Bool) (waiting : List Bool) (none : NoneWa
       kept : (r : ℕ) → IsTrue (is_productive old r) → IsTrue (is_productive new r)
       kept r on = subst (λ l. IsTrue (is_productive l r)) (sym put) ((bit_put old p.rule within r).1 (inl on))
 
-      gained : (r : ℕ) → r ≡ p.rule → Waits waiting' r
-      gained r e = subst (λ l. Waits l r) (sym waits) ((bit_put waiting p.rule among r).1 (inr e))
+      grown : (r : ℕ) → r ≡ p.rule → Waits waiting' r
+      grown r e = subst (λ l. Waits l r) (sym waits) ((bit_put waiting p.rule among r).1 (inr e))
 
       still : (s : Sym) → ((r : ℕ) → s ≡ Rule r → IsTrue (is_productive new r) → IsTrue (is_productive old r)) → IsTrue (is_productive_symbol new s) → IsTrue (is_productive_symbol old s)
       still (Rule r) h on = h r refl on
@@ -103,12 +103,12 @@ module _ (p : Production) (old : List Bool) (waiting : List Bool) (none : NoneWa
     is_at had = sym (unwrap_or-slice_get old index false) ∙ ap (λ o. unwrap_or o false) had
 
     pub takes_set : slice_get old index ≡ Some true → (waiting' : List Bool) → waiting' ≡ waiting
-        → AddsProduction AreSoundProductive CoverProductiveOf bits_on HoldsRule IsNoMoreProductive p old new (Waits waiting')
-    takes_set had waiting' waits = subst (λ l. AddsProduction AreSoundProductive CoverProductiveOf bits_on HoldsRule IsNoMoreProductive p old new (Waits l)) (sym waits)
+        → AddsProduction AreSoundProductive CoverProductiveOf bits_on ProductionRefers IsNoMoreProductive p old new (Waits waiting')
+    takes_set had waiting' waits = subst (λ l. AddsProduction AreSoundProductive CoverProductiveOf bits_on ProductionRefers IsNoMoreProductive p old new (Waits l)) (sym waits)
         (takes_none new (put ∙ set-slice_get old index true had) (λ _. ap (is_productive old) (sym at) ∙ is_at had))
 
     pub takes_new : slice_get old index ≡ Some false → p.rule < length waiting → (waiting' : List Bool) → waiting' ≡ slice_set waiting index true
-        → AddsProduction AreSoundProductive CoverProductiveOf bits_on HoldsRule IsNoMoreProductive p old new (Waits waiting')
+        → AddsProduction AreSoundProductive CoverProductiveOf bits_on ProductionRefers IsNoMoreProductive p old new (Waits waiting')
     takes_new had among waiting' waits = takes_rule new waiting' within among (ap (is_productive old) (sym at) ∙ is_at had) all
         (put ∙ ap (λ n. slice_set old n true) at) (waits ∙ ap (λ n. slice_set waiting n true) at)
 

@@ -3,11 +3,11 @@ use Rattle.std.proofs.Common.{◌≡◌, ℕ, ◌<◌, List, Contains, All, leng
 use Rattle.std.proofs.lemmas.List.{get_or_default}
 use Rattle.std.proofs.lemmas.List.Elements.{All-get_or, Contains-get_or}
 use Rattle.derivation.specs.Grammar.{Sym, Rule, Token, Grammar, Production, IsGrammar, IsSymbolOf, HasProduction}
-use Rattle.derivation.specs.Path.{Holds, Path, one, more}
+use Rattle.derivation.specs.Path.{Refers, Path, one, more}
 use Rattle.search.specs.Reachable.{FoundBy, Reachable, Reaches, SearchState, led, seed}
 use Rattle.search.proofs.Reaching.{reaches_as, reaches_known}
 use Rattle.cfgtables.specs.Openings.{nth_production, ArePositionsOf}
-use Rattle.cfganalysis.specs.Paths.{HeldIn}
+use Rattle.cfganalysis.specs.Paths.{ProductionRefersAt}
 
 pub reaches_no_token : (u : ℕ) (x : SearchState) → Reaches (λ r. Rule r ≡ Token u) x x
 reaches_no_token u x = reaches_known _ x (λ r e. absurd (not_token r e))
@@ -33,10 +33,10 @@ found_rules symbols old new w = reaches_as _ _ old new
 
 module _ (g : Grammar) (rule : ℕ) (positions : List ℕ) (are : ArePositionsOf g rule positions) where
   -- the rules that a rule's productions contain are those that the rule leads to in one reference
-  pub held_by_rule : (old new : SearchState) → Reaches (FoundBy (HeldIn g) positions) old new → Reaches (Holds (HasProduction g) rule) old new
-  held_by_rule old new w = reaches_as _ _ old new (λ r h. to r h) (λ r h. from r h) w
+  pub referred_by_rule : (old new : SearchState) → Reaches (FoundBy (ProductionRefersAt g) positions) old new → Reaches (Refers (HasProduction g) rule) old new
+  referred_by_rule old new w = reaches_as _ _ old new (λ r h. to r h) (λ r h. from r h) w
     where
-      to : (r : ℕ) → FoundBy (HeldIn g) positions r → Holds (HasProduction g) rule r
+      to : (r : ℕ) → FoundBy (ProductionRefersAt g) positions r → Refers (HasProduction g) rule r
       to r h = let lt = All-get_or (λ p. p < length g.productions) positions h.among.0 h.thing h.among.1 are.within in
           let within = subst (λ p. p < length g.productions) h.among.2 lt in
           record {
@@ -46,7 +46,7 @@ module _ (g : Grammar) (rule : ℕ) (positions : List ℕ) (are : ArePositionsOf
             holds = h.finds;
           }
 
-      from : (r : ℕ) → Holds (HasProduction g) rule r → FoundBy (HeldIn g) positions r
+      from : (r : ℕ) → Refers (HasProduction g) rule r → FoundBy (ProductionRefersAt g) positions r
       from r h =
           let at : nth_production g h.has.0 ≡ record { rule = rule; symbols = h.symbols } = get_or_default g.productions h.has.0 _ _ h.has.1 ∙ h.has.2 in
           record {
@@ -56,18 +56,18 @@ module _ (g : Grammar) (rule : ℕ) (positions : List ℕ) (are : ArePositionsOf
           }
 
 module _ (P : ℕ → List Sym → Type 0) (a : ℕ) (Seed : ℕ → Type 0) where
-  pub path_to_reachable : ((b : ℕ) → Seed b → Holds P a b) → {b : ℕ} → Reachable Seed (Holds P) b → Path P a b
+  pub path_to_reachable : ((b : ℕ) → Seed b → Refers P a b) → {b : ℕ} → Reachable Seed (Refers P) b → Path P a b
   path_to_reachable holds (seed {a = b} h) = one (holds b h)
   path_to_reachable holds (led r h) = path_more (path_to_reachable holds r) h
     where
-      path_more : {a b c : ℕ} → Path P a b → Holds P b c → Path P a c
+      path_more : {a b c : ℕ} → Path P a b → Refers P b c → Path P a c
       path_more (one h) k = more h (one k)
       path_more (more h p) k = more h (path_more p k)
 
-  pub reachable_by_path : ((b : ℕ) → Holds P a b → Seed b) → {b : ℕ} → Path P a b → Reachable Seed (Holds P) b
+  pub reachable_by_path : ((b : ℕ) → Refers P a b → Seed b) → {b : ℕ} → Path P a b → Reachable Seed (Refers P) b
   reachable_by_path seeds (one {b = b} h) = seed (seeds b h)
   reachable_by_path seeds (more {b = b} h p) = along (seed (seeds b h)) p
     where
-      along : {b c : ℕ} → Reachable Seed (Holds P) b → Path P b c → Reachable Seed (Holds P) c
+      along : {b c : ℕ} → Reachable Seed (Refers P) b → Path P b c → Reachable Seed (Refers P) c
       along r (one h) = led r h
       along r (more h p) = along (led r h) p

@@ -10,7 +10,7 @@ use Rattle.cfgtables.specs.Openings.{AreOpenedAtMost, nth_production, OpensOne}
 use Rattle.cfganalysis.specs.Inner.Growth.{CoversEach, AddsProduction, AddsInto, Visited, left_to_do}
 use Rattle.cfganalysis.specs.Table.{bits_on}
 use Rattle.cfganalysis.specs.Inner.Waiting.{waits, Waits, NoneWaits, WaitsNoMore}
-use Rattle.cfganalysis.specs.Inner.Work.{users_of, Notes, Queues}
+use Rattle.cfganalysis.specs.Inner.Work.{dependents_of, Notes, Queues}
 use Rattle.cfgtables.proofs.Located.{same_production, at_position}
 use Rattle.lemmas.proofs.Contained.{contains_none}
 use Rattle.cfganalysis.proofs.Stacking.{bits_on-clear, bits_on-none}
@@ -64,10 +64,10 @@ left_less most positions m m' w w' top le (inl lt) =
 left_less most positions m m' w w' top le (inr h) = subst (λ k. left most positions k w' < left most positions m w) h.0 (omega (arith, h.1))
 
 module _ {X : Type 0} (holds : Grammar → X → Type 0) (covers : X → Production → Type 0) (bits : X → ℕ) (depends_on : Production → ℕ → Type 0) where
-  pub takes_into : (no_more : ℕ → X → X → Type 0) (p : Production) (users : List (List ℕ)) (old new : X) (gained waiting waiting' : List Bool)
-      → AddsProduction holds covers bits depends_on no_more p old new (Waits gained) → Queues users (Waits gained) waiting waiting'
-      → AddsInto holds covers bits depends_on no_more p users old new waiting waiting'
-  takes_into no_more p users old new gained waiting waiting' w v = record {
+  pub takes_into : (no_more : ℕ → X → X → Type 0) (p : Production) (dependents : List (List ℕ)) (old new : X) (grown waiting waiting' : List Bool)
+      → AddsProduction holds covers bits depends_on no_more p old new (Waits grown) → Queues dependents (Waits grown) waiting waiting'
+      → AddsInto holds covers bits depends_on no_more p dependents old new waiting waiting'
+  takes_into no_more p dependents old new grown waiting waiting' w v = record {
     sound = w.sound;
     no_less = w.no_less;
     shape = v.shape;
@@ -82,38 +82,38 @@ module _ {X : Type 0} (holds : Grammar → X → Type 0) (covers : X → Product
         | inr i ↦ inr (record { rule = i.rule; gains = (w.gains i.rule).1 i.gains; noted = i.noted })
       ])),
     );
-    closed = λ n noted off. w.closed (λ r rests gains. none n off r (noted r rests) gains);
-    stays = λ q n noted off. w.stays q (λ r rests gains. none n off r (noted r rests) gains);
+    closed = λ n noted off. w.closed (λ r depends gains. none n off r (noted r depends) gains);
+    stays = λ q n noted off. w.stays q (λ r depends gains. none n off r (noted r depends) gains);
   }
     where
-      none : (n : ℕ) → waits waiting' n ≡ false → (r : ℕ) → Contains (users_of users r) n → Waits gained r → ⊥
+      none : (n : ℕ) → waits waiting' n ≡ false → (r : ℕ) → Contains (dependents_of dependents r) n → Waits grown r → ⊥
       none n off r h gains = both ((v.waits n).1 (inr (record { rule = r; gains = gains; noted = h }))) off
 
   -- production p is open: the others are covered, or wait
-  record Open (g : Grammar) (n p : ℕ) (x : X) (users : List (List ℕ)) (waiting : List Bool) (opened : ℕ → ℕ) (all : ℕ) : Type 0 where
+  record Open (g : Grammar) (n p : ℕ) (x : X) (dependents : List (List ℕ)) (waiting : List Bool) (opened : ℕ → ℕ) (all : ℕ) : Type 0 where
     sound : holds g x
-    rules : length users ≡ g.rules
+    rules : length dependents ≡ g.rules
     positions : length waiting ≡ length g.productions
     here : p < n
-    noted : (q r : ℕ) → q < n → depends_on (nth_production g q) r → Contains (users_of users r) q
-    within : (q r : ℕ) → Contains (users_of users r) q → q < n
+    noted : (q r : ℕ) → q < n → depends_on (nth_production g q) r → Contains (dependents_of dependents r) q
+    within : (q r : ℕ) → Contains (dependents_of dependents r) q → q < n
     known : (q : ℕ) → Waits waiting q → q < n
     covered : (q : ℕ) → q < n → q ≢ p → waits waiting q ≡ false → covers x (nth_production g q)
     few : (q : ℕ) → q < n → opened q + cond (waits waiting q) 1 0 ≤ bits x + 1
     fresh : (q : ℕ) → n ≤ q → q < length g.productions → opened q ≡ 0
     together : all + bits_on waiting ≤ n + length g.productions * bits x
 
-  opened_first : (g g' : Grammar) (n : ℕ) (x : X) (users users' : List (List ℕ)) (waiting gained : List Bool) (o o' : ℕ → ℕ) (a a' : ℕ)
-      → n < length g.productions → Visited holds covers bits depends_on g n x users waiting gained o a → OpensOne n g g' o o' a a'
-      → Notes n (depends_on (nth_production g n)) users users' → Open g (n + 1) n x users' waiting o' a'
-  opened_first g g' n x users users' waiting gained o o' a a' lt w one notes = record {
+  opened_first : (g g' : Grammar) (n : ℕ) (x : X) (dependents dependents' : List (List ℕ)) (waiting grown : List Bool) (o o' : ℕ → ℕ) (a a' : ℕ)
+      → n < length g.productions → Visited holds covers bits depends_on g n x dependents waiting grown o a → OpensOne n g g' o o' a a'
+      → Notes n (depends_on (nth_production g n)) dependents dependents' → Open g (n + 1) n x dependents' waiting o' a'
+  opened_first g g' n x dependents dependents' waiting grown o o' a a' lt w one notes = record {
     sound = w.sound;
     rules = notes.shape ∙ w.rules;
     positions = w.positions;
     here = omega arith;
-    noted = λ q r h rests. below_more (λ k. depends_on (nth_production g k) r → Contains (users_of users' r) k) n
-        (λ k i j. (notes.users r k).1 (inl (w.noted k r i j))) (λ j. (notes.users r n).1 (inr (refl, j))) q h rests;
-    within = λ q r h. elim ((notes.users r q).0 h) [
+    noted = λ q r h depends. below_more (λ k. depends_on (nth_production g k) r → Contains (dependents_of dependents' r) k) n
+        (λ k i j. (notes.dependents r k).1 (inl (w.noted k r i j))) (λ j. (notes.dependents r n).1 (inr (refl, j))) q h depends;
+    within = λ q r h. elim ((notes.dependents r q).0 h) [
       | inl i ↦ let k = w.within q r i in omega (arith, k)
       | inr i ↦ let e = i.0 in omega (arith, e)
     ];
@@ -135,10 +135,10 @@ module _ {X : Type 0} (holds : Grammar → X → Type 0) (covers : X → Product
           let none = w.fresh n (omega arith) lt in
           omega (arith, e, none, z)
 
-  opened_next : (g g' : Grammar) (n p : ℕ) (x : X) (users : List (List ℕ)) (waiting rest gained : List Bool) (o o' : ℕ → ℕ) (a a' : ℕ)
-      → Visited holds covers bits depends_on g n x users waiting gained o a → WaitsNoMore p waiting rest → OpensOne p g g' o o' a a'
-      → Open g n p x users rest o' a'
-  opened_next g g' n p x users waiting rest gained o o' a a' w leaves one = record {
+  opened_next : (g g' : Grammar) (n p : ℕ) (x : X) (dependents : List (List ℕ)) (waiting rest grown : List Bool) (o o' : ℕ → ℕ) (a a' : ℕ)
+      → Visited holds covers bits depends_on g n x dependents waiting grown o a → WaitsNoMore p waiting rest → OpensOne p g g' o o' a a'
+      → Open g n p x dependents rest o' a'
+  opened_next g g' n p x dependents waiting rest grown o o' a a' w leaves one = record {
     sound = w.sound;
     rules = w.rules;
     positions = ap length leaves.rest ∙ length-set waiting p false ∙ w.positions;
@@ -186,10 +186,10 @@ module _ {X : Type 0} (holds : Grammar → X → Type 0) (covers : X → Product
           let y : ◌≡◌ {A = ℕ} (cond (waits waiting p) 1 0) 1 = ap (λ b. cond b 1 0) leaves.waited in
           omega (arith, k, e, z, y)
 
-  module _ (no_more : ℕ → X → X → Type 0) (g : Grammar) (n p : ℕ) (old new : X) (users : List (List ℕ)) (waiting waiting' gained : List Bool) (o : ℕ → ℕ) (a : ℕ) (is : IsGrammar g)
-      (top : n ≤ length g.productions) (w : Open g n p old users waiting o a)
-      (takes : AddsInto holds covers bits depends_on no_more (nth_production g p) users old new waiting waiting')
-      (idle : NoneWaits gained) (gains : length gained ≡ g.rules) where
+  module _ (no_more : ℕ → X → X → Type 0) (g : Grammar) (n p : ℕ) (old new : X) (dependents : List (List ℕ)) (waiting waiting' grown : List Bool) (o : ℕ → ℕ) (a : ℕ) (is : IsGrammar g)
+      (top : n ≤ length g.productions) (w : Open g n p old dependents waiting o a)
+      (takes : AddsInto holds covers bits depends_on no_more (nth_production g p) dependents old new waiting waiting')
+      (idle : NoneWaits grown) (gains : length grown ≡ g.rules) where
     grew : (bits old < bits new) ⊎ (waiting' ≡ waiting)
     grew = elim (cases_lt (bits old) (bits new)) [
       | inl lt ↦ inl lt
@@ -202,7 +202,7 @@ module _ {X : Type 0} (holds : Grammar → X → Type 0) (covers : X → Product
     index : p < length g.productions
     index = let h = w.here in omega (arith, h, top)
 
-    opened_taken : Visited holds covers bits depends_on g n new users waiting' gained o a
+    opened_taken : Visited holds covers bits depends_on g n new dependents waiting' grown o a
     opened_taken = record {
       sound = takes.sound g is (at_position g p (nth_production g p) index refl refl) w.sound;
       rules = w.rules;
@@ -214,8 +214,8 @@ module _ {X : Type 0} (holds : Grammar → X → Type 0) (covers : X → Product
       known = λ q h. elim ((takes.again q).0 h) [ inl i ↦ w.known q i | inr i ↦ w.within q i.rule i.noted ];
       covered = λ q h off. elim (cases_eq q p) [
         | inl e ↦ subst (λ k. covers new (nth_production g k)) (sym e)
-            (takes.closed p (λ r rests. w.noted p r w.here rests) (ap (waits waiting') (sym e) ∙ off))
-        | inr ne ↦ takes.stays (nth_production g q) q (λ r rests. w.noted q r h rests) off
+            (takes.closed p (λ r depends. w.noted p r w.here depends) (ap (waits waiting') (sym e) ∙ off))
+        | inr ne ↦ takes.stays (nth_production g q) q (λ r depends. w.noted q r h depends) off
             (w.covered q h ne (false_from_ne_true (waits waiting q) (λ on. both ((takes.again q).1 (inl on)) off)))
       ];
       few = λ q h. few_after (o q) (bits old) (bits new) (waits waiting q) (waits waiting' q) (w.few q h) takes.no_less
@@ -226,8 +226,8 @@ module _ {X : Type 0} (holds : Grammar → X → Type 0) (covers : X → Product
           (elim grew [ inl lt ↦ inl lt | inr e ↦ inr (ap bits_on e) ]);
     }
 
-  module _ (g : Grammar) (n : ℕ) (x : X) (users : List (List ℕ)) (waiting gained : List Bool) (o : ℕ → ℕ) (a : ℕ)
-      (w : Visited holds covers bits depends_on g n x users waiting gained o a) where
+  module _ (g : Grammar) (n : ℕ) (x : X) (dependents : List (List ℕ)) (waiting grown : List Bool) (o : ℕ → ℕ) (a : ℕ)
+      (w : Visited holds covers bits depends_on g n x dependents waiting grown o a) where
     -- one more opening can be counted
     pub all_below : (most : ℕ) → n < length g.productions → bits x ≤ most → length g.productions * (most + 1) < 2 ^ 128 - 1 → a < 2 ^ 128 - 1
     all_below most lt bound small =
@@ -245,45 +245,45 @@ module _ {X : Type 0} (holds : Grammar → X → Type 0) (covers : X → Product
         omega (arith, h, product, one_more (length g.productions) most, top, less, small)
 
     -- what is noted is a number below the bound of those that can wait
-    pub noted_within : (rests : ℕ → Type 0) (users' : List (List ℕ)) → n < length g.productions → Notes n rests users users'
-        → (r q : ℕ) → Contains (users_of users' r) q → q < length waiting
-    noted_within rests users' lt notes r q h = let e = w.positions in elim ((notes.users r q).0 h) [
+    pub noted_within : (depends : ℕ → Type 0) (dependents' : List (List ℕ)) → n < length g.productions → Notes n depends dependents dependents'
+        → (r q : ℕ) → Contains (dependents_of dependents' r) q → q < length waiting
+    noted_within depends dependents' lt notes r q h = let e = w.positions in elim ((notes.dependents r q).0 h) [
       | inl i ↦ let k = w.within q r i in omega (arith, k, lt, e)
       | inr i ↦ let k = i.0 in omega (arith, k, lt, e)
     ]
 
     -- a production was opened for the first time
-    pub visited_first : (no_more : ℕ → X → X → Type 0) (g' : Grammar) (index : ℕ) (p : Production) (new : X) (users' users'' : List (List ℕ)) (waiting' gained' : List Bool) (o' : ℕ → ℕ) (a' : ℕ)
+    pub visited_first : (no_more : ℕ → X → X → Type 0) (g' : Grammar) (index : ℕ) (p : Production) (new : X) (dependents' dependents'' : List (List ℕ)) (waiting' grown' : List Bool) (o' : ℕ → ℕ) (a' : ℕ)
         → IsGrammar g → n < length g.productions → index ≡ n → p.rule ≡ (nth_production g index).rule → p.symbols ≡ (nth_production g index).symbols
-        → OpensOne index g g' o o' a a' → Notes n (depends_on p) users users' → AddsInto holds covers bits depends_on no_more p users' x new waiting waiting'
-        → users'' ≡ users' → NoneWaits gained' → length gained' ≡ length gained
-        → Visited holds covers bits depends_on g' (n + 1) new users'' waiting' gained' o' a'
-    visited_first no_more g' index p new users' users'' waiting' gained' o' a' is lt at rule symbols one notes takes same idle gains =
+        → OpensOne index g g' o o' a a' → Notes n (depends_on p) dependents dependents' → AddsInto holds covers bits depends_on no_more p dependents' x new waiting waiting'
+        → dependents'' ≡ dependents' → NoneWaits grown' → length grown' ≡ length grown
+        → Visited holds covers bits depends_on g' (n + 1) new dependents'' waiting' grown' o' a'
+    visited_first no_more g' index p new dependents' dependents'' waiting' grown' o' a' is lt at rule symbols one notes takes same idle gains =
         let e = same_production p (nth_production g index) rule symbols ∙ ap (nth_production g) at in
-        let state = opened_first g g' n x users users' waiting gained o o' a a' lt w (subst (λ k. OpensOne k g g' o o' a a') at one) (subst (λ q. Notes n (depends_on q) users users') e notes) in
-        subst (λ h. Visited holds covers bits depends_on h (n + 1) new users'' waiting' gained' o' a') (sym one.stays)
-        (subst (λ l. Visited holds covers bits depends_on g (n + 1) new l waiting' gained' o' a') (sym same)
-        (opened_taken no_more g (n + 1) n x new users' waiting waiting' gained' o' a' is (omega (arith, lt)) state
-        (subst (λ q. AddsInto holds covers bits depends_on no_more q users' x new waiting waiting') e takes) idle (gains ∙ w.gains)))
+        let state = opened_first g g' n x dependents dependents' waiting grown o o' a a' lt w (subst (λ k. OpensOne k g g' o o' a a') at one) (subst (λ q. Notes n (depends_on q) dependents dependents') e notes) in
+        subst (λ h. Visited holds covers bits depends_on h (n + 1) new dependents'' waiting' grown' o' a') (sym one.stays)
+        (subst (λ l. Visited holds covers bits depends_on g (n + 1) new l waiting' grown' o' a') (sym same)
+        (opened_taken no_more g (n + 1) n x new dependents' waiting waiting' grown' o' a' is (omega (arith, lt)) state
+        (subst (λ q. AddsInto holds covers bits depends_on no_more q dependents' x new waiting waiting') e takes) idle (gains ∙ w.gains)))
 
     -- a production that waited was opened again
-    pub visited_next : (no_more : ℕ → X → X → Type 0) (g' : Grammar) (index m : ℕ) (p : Production) (new : X) (users' : List (List ℕ)) (rest waiting' gained' : List Bool) (o' : ℕ → ℕ) (a' : ℕ)
+    pub visited_next : (no_more : ℕ → X → X → Type 0) (g' : Grammar) (index m : ℕ) (p : Production) (new : X) (dependents' : List (List ℕ)) (rest waiting' grown' : List Bool) (o' : ℕ → ℕ) (a' : ℕ)
         → IsGrammar g → n ≡ length g.productions → index ≡ m → p.rule ≡ (nth_production g index).rule → p.symbols ≡ (nth_production g index).symbols
-        → WaitsNoMore m waiting rest → OpensOne index g g' o o' a a' → AddsInto holds covers bits depends_on no_more p users x new rest waiting'
-        → users' ≡ users → NoneWaits gained' → length gained' ≡ length gained
-        → Visited holds covers bits depends_on g' (length g'.productions) new users' waiting' gained' o' a'
-    visited_next no_more g' index m p new users' rest waiting' gained' o' a' is top at rule symbols leaves one takes same idle gains =
+        → WaitsNoMore m waiting rest → OpensOne index g g' o o' a a' → AddsInto holds covers bits depends_on no_more p dependents x new rest waiting'
+        → dependents' ≡ dependents → NoneWaits grown' → length grown' ≡ length grown
+        → Visited holds covers bits depends_on g' (length g'.productions) new dependents' waiting' grown' o' a'
+    visited_next no_more g' index m p new dependents' rest waiting' grown' o' a' is top at rule symbols leaves one takes same idle gains =
         let e = same_production p (nth_production g index) rule symbols ∙ ap (nth_production g) at in
-        let state = opened_next g g' n m x users waiting rest gained o o' a a' w leaves (subst (λ k. OpensOne k g g' o o' a a') at one) in
-        subst (λ h. Visited holds covers bits depends_on h (length h.productions) new users' waiting' gained' o' a') (sym one.stays)
-        (subst (λ k. Visited holds covers bits depends_on g k new users' waiting' gained' o' a') top
-        (subst (λ l. Visited holds covers bits depends_on g n new l waiting' gained' o' a') (sym same)
-        (opened_taken no_more g n m x new users rest waiting' gained' o' a' is (omega (arith, top)) state
-        (subst (λ q. AddsInto holds covers bits depends_on no_more q users x new rest waiting') e takes) idle (gains ∙ w.gains))))
+        let state = opened_next g g' n m x dependents waiting rest grown o o' a a' w leaves (subst (λ k. OpensOne k g g' o o' a a') at one) in
+        subst (λ h. Visited holds covers bits depends_on h (length h.productions) new dependents' waiting' grown' o' a') (sym one.stays)
+        (subst (λ k. Visited holds covers bits depends_on g k new dependents' waiting' grown' o' a') top
+        (subst (λ l. Visited holds covers bits depends_on g n new l waiting' grown' o' a') (sym same)
+        (opened_taken no_more g n m x new dependents rest waiting' grown' o' a' is (omega (arith, top)) state
+        (subst (λ q. AddsInto holds covers bits depends_on no_more q dependents x new rest waiting') e takes) idle (gains ∙ w.gains))))
 
     -- and less is left to do
     pub visited_less : (no_more : ℕ → X → X → Type 0) (m : ℕ) (p : Production) (new : X) (rest waiting' : List Bool) → bits new ≤ g.rules * (g.tokens + 1) → WaitsNoMore m waiting rest
-        → AddsInto holds covers bits depends_on no_more p users x new rest waiting'
+        → AddsInto holds covers bits depends_on no_more p dependents x new rest waiting'
         → left_to_do g (bits new) waiting' < left_to_do g (bits x) waiting
     visited_less no_more m p new rest waiting' bound leaves takes =
         subst (λ k. left (g.rules * (g.tokens + 1)) k (bits new) (bits_on waiting') < left_to_do g (bits x) waiting) (sym longer)
@@ -344,11 +344,11 @@ module _ {X : Type 0} (holds : Grammar → X → Type 0) (covers : X → Product
     visited_all e none q lt = w.covered q (omega (arith, e, lt)) (none q)
 
   -- before the first visit
-  pub visited_none : (g : Grammar) (x : X) (o : ℕ → ℕ) (a rules positions : ℕ) (users : List (List ℕ)) (waiting gained : List Bool) → holds g x
-      → rules ≡ g.rules → positions ≡ length g.productions → users ≡ replicate rules [] → waiting ≡ replicate positions false → gained ≡ replicate rules false
+  pub visited_none : (g : Grammar) (x : X) (o : ℕ → ℕ) (a rules positions : ℕ) (dependents : List (List ℕ)) (waiting grown : List Bool) → holds g x
+      → rules ≡ g.rules → positions ≡ length g.productions → dependents ≡ replicate rules [] → waiting ≡ replicate positions false → grown ≡ replicate rules false
       → ((q : ℕ) → q < length g.productions → o q ≡ 0) → a ≡ 0
-      → Visited holds covers bits depends_on g 0 x users waiting gained o a
-  visited_none g x o a rules positions users waiting gained sound rs ps us ws gs fresh none = record {
+      → Visited holds covers bits depends_on g 0 x dependents waiting grown o a
+  visited_none g x o a rules positions dependents waiting grown sound rs ps us ws gs fresh none = record {
     sound = sound;
     rules = ap length us ∙ length-replicate rules [] ∙ rs;
     gains = ap length gs ∙ length-replicate rules false ∙ rs;

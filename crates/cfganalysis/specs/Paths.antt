@@ -4,5 +4,5 @@ use Rattle.derivation.specs.Grammar.{Rule, Grammar}
 use Rattle.cfgtables.specs.Openings.{nth_production}
 
 -- the production with this number contains the rule
-abbrev pub HeldIn : Grammar → ℕ → ℕ → Type 0
-HeldIn g index r = Contains (nth_production g index).symbols (Rule r)
+abbrev pub ProductionRefersAt : Grammar → ℕ → ℕ → Type 0
+ProductionRefersAt g index r = Contains (nth_production g index).symbols (Rule r)

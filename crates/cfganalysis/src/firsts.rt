@@ -6,7 +6,7 @@ ghost use Rattle.derivation.specs.Grammar.{Grammar, IsGrammar, IsSymbolOf, Rule}
 ghost use Rattle.cfganalysis.specs.Firsts.{AreFirsts, FitsGrammar, IsAmongFirsts, IsNullableRule};
 ghost use Rattle.cfganalysis.specs.Firsts.{nullable_bit, with_first};
 ghost use Rattle.cfganalysis.specs.Inner.GrowingFirsts.{BeginsBy, HasNoMoreFirsts, CoverFirstsOf};
-ghost use Rattle.cfganalysis.specs.Inner.GrowingFirsts.{AreSoundFirsts, HoldsRule};
+ghost use Rattle.cfganalysis.specs.Inner.GrowingFirsts.{AreSoundFirsts, ProductionRefers};
 ghost use Rattle.cfganalysis.specs.Inner.GrowingFirsts.{count_firsts, is_nullable_symbol, no_firsts, with_nullable};
 ghost use Rattle.cfgtables.specs.Openings.{AreOpenedAtMost, most_openings};
 ghost use Rattle.cfganalysis.specs.Inner.Growth.{CanNote, CanAddProduction, AddsProduction, shown};
@@ -21,7 +21,7 @@ use crate::growth::Analysis;
 use crate::visits::visit_all;
 use crate::waiting::Waiting;
 use crate::words::WordTable;
-use crate::work::{Users, note};
+use crate::work::{Dependents, note};
 use cfgindex::{RIdx, Storage, Symbol, TIdx, Vob};
 use cfgtables::{CountedTables, Productions, Tables};
 use std::alloc::{AllocError, Global};
@@ -110,13 +110,13 @@ impl<S: Storage> YaccFirsts<S> {
 fn note_symbol<S: Storage>(
     production: usize,
     symbol: Symbol<S>,
-    users: &mut Users,
+    dependents: &mut Dependents,
 ) -> Result<(), AllocError>
-    requires { (g : Grammar) × (length users.old ≡ g.rules) × IsSymbolOf g (sym_of S.number symbol) }
-    ensures { IfOk result (λ _. Notes production (λ r. Rule r ≡ sym_of S.number symbol) users.old users.new) }
+    requires { (g : Grammar) × (length dependents.old ≡ g.rules) × IsSymbolOf g (sym_of S.number symbol) }
+    ensures { IfOk result (λ _. Notes production (λ r. Rule r ≡ sym_of S.number symbol) dependents.old dependents.new) }
 {
     match symbol {
-        Symbol::Rule(rule) => note(users, usize::from(rule), production),
+        Symbol::Rule(rule) => note(dependents, usize::from(rule), production),
         Symbol::Token(_) => Ok(()),
     }
 }
@@ -129,15 +129,15 @@ fn note_symbol<S: Storage>(
 pub(crate) fn note_rules<S: Storage>(
     production: usize,
     symbols: &[Symbol<S>],
-    users: &mut Users,
+    dependents: &mut Dependents,
 ) -> Result<(), AllocError>
-    requires { (g : Grammar) × (length users.old ≡ g.rules)
+    requires { (g : Grammar) × (length dependents.old ≡ g.rules)
         × All (IsSymbolOf g) (map (sym_of S.number) symbols.now) }
     ensures { IfOk result (λ _. Notes production
-        (λ r. Contains (map (sym_of S.number) symbols.now) (Rule r)) users.old users.new) }
+        (λ r. Contains (map (sym_of S.number) symbols.now) (Rule r)) dependents.old dependents.new) }
 {
     for held in symbols {
-        note_symbol(production, *held, users)?;
+        note_symbol(production, *held, dependents)?;
     }
     Ok(())
 }
@@ -221,7 +221,7 @@ impl<S: Storage> GrowingFirsts<S> {
     fn add_production(&mut self, rule: RIdx<S>, symbols: &[Symbol<S>]) -> bool
         requires { (g : Grammar) × IsGrammar g × AreSoundFirsts g self.old
             × Contains g.productions (shown S.number rule symbols.now) }
-        ensures { AddsProduction AreSoundFirsts CoverFirstsOf count_firsts HoldsRule HasNoMoreFirsts
+        ensures { AddsProduction AreSoundFirsts CoverFirstsOf count_firsts ProductionRefers HasNoMoreFirsts
             (shown S.number rule symbols.now)
             self.old self.new (λ r. (r ≡ S.number rule.0) × IsTrue result) }
     {
@@ -243,7 +243,7 @@ impl<S: Storage> Analysis<S> for GrowingFirsts<S> {
 
     ghost bits = { count_firsts };
 
-    ghost depends_on = { HoldsRule };
+    ghost depends_on = { ProductionRefers };
 
     ghost no_more = { HasNoMoreFirsts };
 
@@ -254,23 +254,23 @@ impl<S: Storage> Analysis<S> for GrowingFirsts<S> {
         production: usize,
         _rule: RIdx<S>,
         symbols: &[Symbol<S>],
-        users: &mut Users,
+        dependents: &mut Dependents,
     ) -> Result<(), AllocError>
-        requires { CanNote users.old (shown S.number _rule symbols.now) }
-        ensures { IfOk result (λ _. Notes production (HoldsRule (shown S.number _rule symbols.now))
-            users.old users.new) }
+        requires { CanNote dependents.old (shown S.number _rule symbols.now) }
+        ensures { IfOk result (λ _. Notes production (ProductionRefers (shown S.number _rule symbols.now))
+            dependents.old dependents.new) }
     {
-        note_rules(production, symbols, users)
+        note_rules(production, symbols, dependents)
     }
 
-    fn visit(&mut self, rule: RIdx<S>, symbols: &[Symbol<S>], gained: &mut Waiting)
-        requires { CanAddProduction AreSoundFirsts self.old gained.old (shown S.number rule symbols.now) }
-        ensures takes { AddsProduction AreSoundFirsts CoverFirstsOf count_firsts HoldsRule HasNoMoreFirsts
-            (shown S.number rule symbols.now) self.old self.new (Waits gained.new) }
-        ensures rules { length gained.new ≡ length gained.old }
+    fn visit(&mut self, rule: RIdx<S>, symbols: &[Symbol<S>], grown: &mut Waiting)
+        requires { CanAddProduction AreSoundFirsts self.old grown.old (shown S.number rule symbols.now) }
+        ensures takes { AddsProduction AreSoundFirsts CoverFirstsOf count_firsts ProductionRefers HasNoMoreFirsts
+            (shown S.number rule symbols.now) self.old self.new (Waits grown.new) }
+        ensures rules { length grown.new ≡ length grown.old }
     {
         if self.add_production(rule, symbols) {
-            gained.put(usize::from(rule));
+            grown.put(usize::from(rule));
         }
     }
 }

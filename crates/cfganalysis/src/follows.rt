@@ -22,7 +22,7 @@ use crate::growth::Analysis;
 use crate::visits::visit_all;
 use crate::waiting::Waiting;
 use crate::words::WordTable;
-use crate::work::{Users, note};
+use crate::work::{Dependents, note};
 use cfgindex::{RIdx, Storage, Symbol, TIdx, Vob};
 use cfgtables::{CountedTables, Productions, Tables};
 use std::alloc::{AllocError, Global};
@@ -156,20 +156,20 @@ impl<'a, S: Storage> GrowingFollows<'a, S> {
         symbol: Symbol<S>,
         lookahead: &Lookahead<S>,
         gathered: &Vob,
-        gained: &mut Waiting,
+        grown: &mut Waiting,
     )
-        requires { (g : Grammar) × FitFollows g self.old × (length gained.old ≡ g.rules)
+        requires { (g : Grammar) × FitFollows g self.old × (length grown.old ≡ g.rules)
             × (S.number rule.0 < g.rules)
             × IsSymbolOf g (sym_of S.number symbol)
             × IsLookaheadOf S.number g lookahead.now × (length gathered.now ≡ g.tokens) }
         ensures { PutsAfter (λ r t. (Rule r ≡ sym_of S.number symbol)
             × LookaheadHas S.number self.old (S.number rule.0) gathered.now lookahead.now t)
-            self.old self.new gained.old gained.new }
+            self.old self.new grown.old grown.new }
     {
         match symbol {
             Symbol::Rule(before) => {
                 if self.put_lookahead(rule, before, lookahead, gathered) {
-                    gained.put(usize::from(before));
+                    grown.put(usize::from(before));
                 }
             }
             Symbol::Token(_) => {}
@@ -238,22 +238,22 @@ impl<'a, S: Storage> GrowingFollows<'a, S> {
         rule: RIdx<S>,
         symbols: &[Symbol<S>],
         gathered: &mut Vob,
-        gained: &mut Waiting,
+        grown: &mut Waiting,
     )
-        requires { (g : Grammar) × IsGrammar g × AreSoundFollows g self.old × NoneWaits gained.old
-            × (length gained.old ≡ g.rules)
+        requires { (g : Grammar) × IsGrammar g × AreSoundFollows g self.old × NoneWaits grown.old
+            × (length grown.old ≡ g.rules)
             × (length gathered.old ≡ g.tokens)
             × Contains g.productions (shown S.number rule symbols.now) }
         ensures takes { AddsProduction AreSoundFollows CoverFollowsOf count_follows IsOwner HasNoMoreFollows
-            (shown S.number rule symbols.now) self.old self.new (Waits gained.new) }
-        ensures rules { length gained.new ≡ length gained.old }
+            (shown S.number rule symbols.now) self.old self.new (Waits grown.new) }
+        ensures rules { length grown.new ≡ length grown.old }
         ensures columns { self.new.follows.columns ≡ self.old.follows.columns }
         ensures gathered { length gathered.new ≡ length gathered.old }
     {
         let mut lookahead = Lookahead::End;
         for index in (0..symbols.len()).rev() {
             let symbol = symbols[index];
-            self.put_after(rule, symbol, &lookahead, gathered, gained);
+            self.put_after(rule, symbol, &lookahead, gathered, grown);
             lookahead = self.lookahead_before(rule, symbol, &lookahead, gathered);
         }
     }
@@ -319,22 +319,22 @@ impl<'a, S: Storage> Analysis<S> for FollowAnalysis<'a, S> {
         production: usize,
         rule: RIdx<S>,
         _symbols: &[Symbol<S>],
-        users: &mut Users,
+        dependents: &mut Dependents,
     ) -> Result<(), AllocError>
-        requires { CanNote users.old (shown S.number rule _symbols.now) }
-        ensures { IfOk result (λ _. Notes production (IsOwner (shown S.number rule _symbols.now)) users.old users.new) }
+        requires { CanNote dependents.old (shown S.number rule _symbols.now) }
+        ensures { IfOk result (λ _. Notes production (IsOwner (shown S.number rule _symbols.now)) dependents.old dependents.new) }
     {
-        note(users, usize::from(rule), production)
+        note(dependents, usize::from(rule), production)
     }
 
-    fn visit(&mut self, rule: RIdx<S>, symbols: &[Symbol<S>], gained: &mut Waiting)
-        requires { CanAddProduction AreSoundFollows self.old gained.old (shown S.number rule symbols.now) }
+    fn visit(&mut self, rule: RIdx<S>, symbols: &[Symbol<S>], grown: &mut Waiting)
+        requires { CanAddProduction AreSoundFollows self.old grown.old (shown S.number rule symbols.now) }
         ensures takes { AddsProduction AreSoundFollows CoverFollowsOf count_follows IsOwner HasNoMoreFollows
-            (shown S.number rule symbols.now) self.old self.new (Waits gained.new) }
-        ensures rules { length gained.new ≡ length gained.old }
+            (shown S.number rule symbols.now) self.old self.new (Waits grown.new) }
+        ensures rules { length grown.new ≡ length grown.old }
     {
         self.sets
-            .add_production(rule, symbols, &mut self.gathered, gained);
+            .add_production(rule, symbols, &mut self.gathered, grown);
     }
 }
 

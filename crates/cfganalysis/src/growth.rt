@@ -4,10 +4,10 @@ ghost use Rattle.std.specs.Prelude.{◌≡◌, ℕ, ◌+◌, ◌*◌, ◌<◌, �
 ghost use Rattle.derivation.specs.Grammar.{Grammar, Production, IsGrammar};
 ghost use Rattle.cfganalysis.specs.Inner.Growth.{CanNote, CanAddProduction, AddsProduction, AddsInto, shown};
 ghost use Rattle.cfganalysis.specs.Inner.Waiting.{NoneWaits, Waits};
-ghost use Rattle.cfganalysis.specs.Inner.Work.{Notes, users_of};
+ghost use Rattle.cfganalysis.specs.Inner.Work.{Notes, dependents_of};
 
 use crate::waiting::Waiting;
-use crate::work::{Users, Work};
+use crate::work::{Dependents, Work};
 use cfgindex::{RIdx, Storage, Symbol};
 use std::alloc::AllocError;
 
@@ -38,18 +38,18 @@ pub(crate) trait Analysis<S: Storage> {
         production: usize,
         rule: RIdx<S>,
         symbols: &[Symbol<S>],
-        users: &mut Users,
+        dependents: &mut Dependents,
     ) -> Result<(), AllocError>
-        requires { CanNote users.old (shown S.number rule symbols.now) }
+        requires { CanNote dependents.old (shown S.number rule symbols.now) }
         ensures { IfOk result (λ _. Notes production (depends_on (shown S.number rule symbols.now))
-            users.old users.new) };
+            dependents.old dependents.new) };
 
     /// Adds what a production gives, and queues the rules whose sets grew.
-    fn visit(&mut self, rule: RIdx<S>, symbols: &[Symbol<S>], gained: &mut Waiting)
-        requires { CanAddProduction holds self.old gained.old (shown S.number rule symbols.now) }
+    fn visit(&mut self, rule: RIdx<S>, symbols: &[Symbol<S>], grown: &mut Waiting)
+        requires { CanAddProduction holds self.old grown.old (shown S.number rule symbols.now) }
         ensures takes { AddsProduction holds covers bits depends_on no_more
-            (shown S.number rule symbols.now) self.old self.new (Waits gained.new) }
-        ensures rules { length gained.new ≡ length gained.old };
+            (shown S.number rule symbols.now) self.old self.new (Waits grown.new) }
+        ensures rules { length grown.new ≡ length grown.old };
 
     // The number of bits that are on is at most the number of bits.
     ghost bounded: { (g : Grammar) (x : Self) → holds g x → bits x ≤ g.rules * (g.tokens + 1) };
@@ -63,16 +63,16 @@ pub(crate) fn add_production<S: Storage, A: Analysis<S>>(
     symbols: &[Symbol<S>],
 )
     requires grammar { (g : Grammar) × IsGrammar g × A.holds g analysis.old
-        × NoneWaits work.old.gained × (length work.old.gained ≡ g.rules) × (length work.old.users ≡ g.rules)
+        × NoneWaits work.old.grown × (length work.old.grown ≡ g.rules) × (length work.old.dependents ≡ g.rules)
         × Contains g.productions (shown S.number rule symbols.now) }
-    requires within { (r p : ℕ) → Contains (users_of work.old.users r) p → p < length work.old.waiting }
+    requires within { (r p : ℕ) → Contains (dependents_of work.old.dependents r) p → p < length work.old.waiting }
     ensures takes { AddsInto A.holds A.covers A.bits A.depends_on A.no_more
         (shown S.number rule symbols.now)
-        work.old.users analysis.old analysis.new work.old.waiting work.new.waiting }
-    ensures users { work.new.users ≡ work.old.users }
-    ensures gained { NoneWaits work.new.gained }
-    ensures rules { length work.new.gained ≡ length work.old.gained }
+        work.old.dependents analysis.old analysis.new work.old.waiting work.new.waiting }
+    ensures dependents { work.new.dependents ≡ work.old.dependents }
+    ensures grown { NoneWaits work.new.grown }
+    ensures rules { length work.new.grown ≡ length work.old.grown }
 {
-    analysis.visit(rule, symbols, &mut work.gained);
-    work.let_users_wait();
+    analysis.visit(rule, symbols, &mut work.grown);
+    work.let_dependents_wait();
 }

@@ -16,5 +16,5 @@ pub use bits::BitTable;
 pub use cfgtables::{CountedTables, Productions, Tables};
 pub use firsts::{YaccFirsts, firsts_over};
 pub use follows::{YaccFollows, follows_over};
-pub use paths::{has_path, reach_held};
+pub use paths::{has_path, reach_referred};
 pub use productive::productive_rules;

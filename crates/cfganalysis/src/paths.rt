@@ -2,9 +2,9 @@
 
 ghost use Rattle.std.specs.Prelude.{◌≡◌, ◌<◌, ◌↔◌, All, Contains, length, map, IfOk, IsTrue, OnOk};
 ghost use Rattle.derivation.specs.Grammar.{Grammar, HasProduction, IsSymbolOf, Rule};
-ghost use Rattle.derivation.specs.Path.{Holds, Path};
+ghost use Rattle.derivation.specs.Path.{Refers, Path};
 ghost use Rattle.search.specs.Reachable.{FoundBy, Reaches};
-ghost use Rattle.cfganalysis.specs.Paths.{HeldIn};
+ghost use Rattle.cfganalysis.specs.Paths.{ProductionRefersAt};
 ghost use Rattle.cfgtables.specs.NumberedSymbols.{sym_of};
 
 use cfgindex::{PIdx, RIdx, Storage, Symbol, to_storage};
@@ -52,7 +52,7 @@ fn reach_symbols<S: Storage, M: Marks>(
 /// # Errors
 ///
 /// Out of memory.
-pub fn reach_held<S: Storage, T: Tables<S>, M: Marks>(
+pub fn reach_referred<S: Storage, T: Tables<S>, M: Marks>(
     search: &mut Search<M>,
     tables: &T,
     productions: &[PIdx<S>],
@@ -60,7 +60,7 @@ pub fn reach_held<S: Storage, T: Tables<S>, M: Marks>(
     requires rules { length search.old.reachable ≡ (T.grammar tables.now).rules }
     requires productions { All (λ p. p < length (T.grammar tables.now).productions)
         (map (λ p. S.number p.0) productions.now) }
-    ensures { OnOk result (Reaches (FoundBy (HeldIn (T.grammar tables.now)) (map (λ p. S.number p.0) productions.now))
+    ensures { OnOk result (Reaches (FoundBy (ProductionRefersAt (T.grammar tables.now)) (map (λ p. S.number p.0) productions.now))
         search.old search.new) }
 {
     let _rules = tables.rules_len();
@@ -80,12 +80,12 @@ struct References<'a, S: Storage, T: Tables<S>> {
 impl<'a, S: Storage, T: Tables<S>, M: Marks> Edges<M> for References<'a, S, T> {
     ghost nodes = { λ x. (T.grammar x.tables.now).rules };
 
-    ghost leads = { λ x. Holds (HasProduction (T.grammar x.tables.now)) };
+    ghost leads = { λ x. Refers (HasProduction (T.grammar x.tables.now)) };
 
     fn reach_from(&self, node: usize, search: &mut Search<M>) -> Result<(), AllocError> {
         let _rules = self.tables.rules_len().0.to_usize();
         let productions = self.tables.rule_to_prods(RIdx(to_storage(node)));
-        reach_held(search, self.tables, productions)
+        reach_referred(search, self.tables, productions)
     }
 }
 

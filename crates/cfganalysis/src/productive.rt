@@ -3,7 +3,7 @@
 ghost use Rattle.std.specs.Prelude.{◌≡◌, IfOk, MatchBool, length, map};
 ghost use Rattle.cfgtables.specs.NumberedSymbols.{sym_of};
 ghost use Rattle.cfganalysis.specs.Inner.Growth.{CanNote, CanAddProduction, AddsProduction, shown};
-ghost use Rattle.cfganalysis.specs.Inner.GrowingFirsts.{HoldsRule};
+ghost use Rattle.cfganalysis.specs.Inner.GrowingFirsts.{ProductionRefers};
 ghost use Rattle.cfganalysis.specs.Inner.GrowingProductive.{AreProductiveSymbols, AreSoundProductive};
 ghost use Rattle.cfganalysis.specs.Inner.GrowingProductive.{CoverProductiveOf, IsNoMoreProductive};
 ghost use Rattle.cfganalysis.specs.Inner.GrowingProductive.{is_productive_symbol, productive_bounded};
@@ -16,7 +16,7 @@ use crate::firsts::note_rules;
 use crate::growth::Analysis;
 use crate::visits::visit_all;
 use crate::waiting::Waiting;
-use crate::work::Users;
+use crate::work::Dependents;
 use cfgindex::{RIdx, Storage, Symbol, Vob};
 use cfgtables::{CountedTables, Productions, Tables};
 use std::alloc::{AllocError, Global};
@@ -89,7 +89,7 @@ impl<S: Storage> Analysis<S> for GrowingProductive {
 
     ghost bits = { bits_on };
 
-    ghost depends_on = { HoldsRule };
+    ghost depends_on = { ProductionRefers };
 
     ghost no_more = { IsNoMoreProductive };
 
@@ -100,26 +100,26 @@ impl<S: Storage> Analysis<S> for GrowingProductive {
         production: usize,
         _rule: RIdx<S>,
         symbols: &[Symbol<S>],
-        users: &mut Users,
+        dependents: &mut Dependents,
     ) -> Result<(), AllocError>
-        requires { CanNote users.old (shown S.number _rule symbols.now) }
-        ensures { IfOk result (λ _. Notes production (HoldsRule (shown S.number _rule symbols.now))
-            users.old users.new) }
+        requires { CanNote dependents.old (shown S.number _rule symbols.now) }
+        ensures { IfOk result (λ _. Notes production (ProductionRefers (shown S.number _rule symbols.now))
+            dependents.old dependents.new) }
     {
-        note_rules(production, symbols, users)
+        note_rules(production, symbols, dependents)
     }
 
-    fn visit(&mut self, rule: RIdx<S>, symbols: &[Symbol<S>], gained: &mut Waiting)
-        requires { CanAddProduction AreSoundProductive self.old gained.old (shown S.number rule symbols.now) }
-        ensures takes { AddsProduction AreSoundProductive CoverProductiveOf bits_on HoldsRule IsNoMoreProductive
-            (shown S.number rule symbols.now) self.old self.new (Waits gained.new) }
-        ensures rules { length gained.new ≡ length gained.old }
+    fn visit(&mut self, rule: RIdx<S>, symbols: &[Symbol<S>], grown: &mut Waiting)
+        requires { CanAddProduction AreSoundProductive self.old grown.old (shown S.number rule symbols.now) }
+        ensures takes { AddsProduction AreSoundProductive CoverProductiveOf bits_on ProductionRefers IsNoMoreProductive
+            (shown S.number rule symbols.now) self.old self.new (Waits grown.new) }
+        ensures rules { length grown.new ≡ length grown.old }
     {
         if !self.has_all(symbols) {
             return;
         }
         if self.bits.set(usize::from(rule), true) {
-            gained.put(usize::from(rule));
+            grown.put(usize::from(rule));
         }
     }
 }

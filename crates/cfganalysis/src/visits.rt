@@ -27,19 +27,19 @@ fn visit_first<S: Storage, P: Productions<S>, A: Analysis<S>>(
     requires can { CanVisit S.MAX (P.content productions.old) }
     requires number { number < length (P.content productions.old).productions }
     requires visited { Visited A.holds A.covers A.bits A.depends_on (P.content productions.old) number analysis.old
-        work.old.users work.old.waiting work.old.gained (P.opened productions.old) (P.opened_all productions.old) }
+        work.old.dependents work.old.waiting work.old.grown (P.opened productions.old) (P.opened_all productions.old) }
     ensures opens { OpensOne number (P.content productions.old) (P.content productions.new)
         (P.opened productions.old) (P.opened productions.new)
         (P.opened_all productions.old) (P.opened_all productions.new) }
     ensures visited { IfOk result (λ _. Visited A.holds A.covers A.bits A.depends_on
         (P.content productions.new) (number + 1) analysis.new
-        work.new.users work.new.waiting work.new.gained (P.opened productions.new) (P.opened_all productions.new)) }
+        work.new.dependents work.new.waiting work.new.grown (P.opened productions.new) (P.opened_all productions.new)) }
     ensures refused { OnErr result (analysis.new ≡ analysis.old) }
 {
     let p = PIdx(to_storage(number));
     let rule = productions.rule_of(p);
     let symbols = productions.open(p);
-    analysis.note(number, rule, symbols, &mut work.users)?;
+    analysis.note(number, rule, symbols, &mut work.dependents)?;
     add_production(analysis, work, rule, symbols);
     Ok(())
 }
@@ -58,11 +58,11 @@ fn visit_each<S: Storage, P: Productions<S>, A: Analysis<S>>(
     requires can { CanVisit S.MAX (P.content productions.old) }
     requires all { prods_len ≡ length (P.content productions.old).productions }
     requires visited { Visited A.holds A.covers A.bits A.depends_on (P.content productions.old) 0 analysis.old
-        work.old.users work.old.waiting work.old.gained (P.opened productions.old) (P.opened_all productions.old) }
+        work.old.dependents work.old.waiting work.old.grown (P.opened productions.old) (P.opened_all productions.old) }
     ensures content { P.content productions.new ≡ P.content productions.old }
     ensures visited { IfOk result (λ _. Visited A.holds A.covers A.bits A.depends_on
         (P.content productions.new) prods_len analysis.new
-        work.new.users work.new.waiting work.new.gained (P.opened productions.new) (P.opened_all productions.new)) }
+        work.new.dependents work.new.waiting work.new.grown (P.opened productions.new) (P.opened_all productions.new)) }
     ensures refused { OnErr result (A.holds (P.content productions.old) analysis.new) }
     ensures few { OnErr result (AreOpenedAtMost (most_openings (P.content productions.old)) (P.content productions.old)
         (P.opened productions.new) (P.opened_all productions.new)) }
@@ -82,11 +82,11 @@ fn visit_next<S: Storage, P: Productions<S>, A: Analysis<S>>(
     requires can { CanVisit S.MAX (P.content productions.old) }
     requires visited { Visited A.holds A.covers A.bits A.depends_on (P.content productions.old)
         (length (P.content productions.old).productions) analysis.old
-        work.old.users work.old.waiting work.old.gained (P.opened productions.old) (P.opened_all productions.old) }
+        work.old.dependents work.old.waiting work.old.grown (P.opened productions.old) (P.opened_all productions.old) }
     ensures content { P.content productions.new ≡ P.content productions.old }
     ensures visited { Visited A.holds A.covers A.bits A.depends_on (P.content productions.new)
         (length (P.content productions.new).productions) analysis.new
-        work.new.users work.new.waiting work.new.gained (P.opened productions.new) (P.opened_all productions.new) }
+        work.new.dependents work.new.waiting work.new.grown (P.opened productions.new) (P.opened_all productions.new) }
     ensures less { MatchBool result
         (left_to_do (P.content productions.new) (A.bits analysis.new) work.new.waiting
         < left_to_do (P.content productions.old) (A.bits analysis.old) work.old.waiting)

@@ -2,34 +2,38 @@
 
 ghost use Rattle.std.specs.Prelude.{◌≡◌, ◌<◌, ℕ, [], false, length, replicate, Contains, IfOk};
 ghost use Rattle.cfganalysis.specs.Inner.Waiting.{NoneWaits, Waits};
-ghost use Rattle.cfganalysis.specs.Inner.Work.{Queues, Notes, users_of};
+ghost use Rattle.cfganalysis.specs.Inner.Work.{Queues, Notes, dependents_of};
 
 use crate::waiting::Waiting;
 use cfgindex::ListTable;
 use std::alloc::{AllocError, Global};
 
 /// For each rule, the numbers of the productions that depend on it: what they give depends on the rule's set.
-pub(crate) type Users = ListTable<usize>;
+pub(crate) type Dependents = ListTable<usize>;
 
 /// Notes that a production depends on the rule.
 ///
 /// # Errors
 ///
 /// Out of memory.
-pub(crate) fn note(users: &mut Users, rule: usize, production: usize) -> Result<(), AllocError>
-    requires { rule < length users.old }
-    ensures { IfOk result (λ _. Notes production (λ r. r ≡ rule) users.old users.new) }
+pub(crate) fn note(
+    dependents: &mut Dependents,
+    rule: usize,
+    production: usize,
+) -> Result<(), AllocError>
+    requires { rule < length dependents.old }
+    ensures { IfOk result (λ _. Notes production (λ r. r ≡ rule) dependents.old dependents.new) }
 {
-    users.push(rule, production)
+    dependents.push(rule, production)
 }
 
 /// Queues the productions that depend on the rule.
-fn queue_users(users: &Users, rule: usize, waiting: &mut Waiting)
-    requires rule { rule < length users.now }
-    requires within { (p : ℕ) → Contains (users_of users.now rule) p → p < length waiting.old }
-    ensures { Queues users.now (λ r. r ≡ rule) waiting.old waiting.new }
+fn queue_dependents(dependents: &Dependents, rule: usize, waiting: &mut Waiting)
+    requires rule { rule < length dependents.now }
+    requires within { (p : ℕ) → Contains (dependents_of dependents.now rule) p → p < length waiting.old }
+    ensures { Queues dependents.now (λ r. r ≡ rule) waiting.old waiting.new }
 {
-    for production in users.of(rule) {
+    for production in dependents.of(rule) {
         waiting.put(*production);
     }
 }
@@ -38,13 +42,13 @@ fn queue_users(users: &Users, rule: usize, waiting: &mut Waiting)
 #[derive(Drop)]
 pub(crate) struct Work {
     /// The productions that depend on each rule.
-    pub(crate) users: Users,
+    pub(crate) dependents: Dependents,
 
     /// The productions that wait.
     pub(crate) waiting: Waiting,
 
     /// The rules whose sets grew in the last visit.
-    pub(crate) gained: Waiting,
+    pub(crate) grown: Waiting,
 }
 
 impl Work {
@@ -54,28 +58,28 @@ impl Work {
     ///
     /// Out of memory.
     pub(crate) fn new(alloc: Global, rules: usize, productions: usize) -> Result<Self, AllocError>
-        ensures users { IfOk result (λ x. x.users ≡ replicate rules []) }
+        ensures dependents { IfOk result (λ x. x.dependents ≡ replicate rules []) }
         ensures waiting { IfOk result (λ x. x.waiting ≡ replicate productions false) }
-        ensures gained { IfOk result (λ x. x.gained ≡ replicate rules false) }
+        ensures grown { IfOk result (λ x. x.grown ≡ replicate rules false) }
     {
         Ok(Work {
-            users: Users::new(alloc, rules)?,
+            dependents: Dependents::new(alloc, rules)?,
             waiting: Waiting::new(alloc, productions)?,
-            gained: Waiting::new(alloc, rules)?,
+            grown: Waiting::new(alloc, rules)?,
         })
     }
 
     /// Queues the productions that depend on rules whose sets grew, and empties the list of these rules.
-    pub(crate) fn let_users_wait(&mut self)
-        requires gained { length self.old.gained ≡ length self.old.users }
-        requires within { (r p : ℕ) → Contains (users_of self.old.users r) p → p < length self.old.waiting }
-        ensures users { self.new.users ≡ self.old.users }
-        ensures waiting { Queues self.old.users (Waits self.old.gained) self.old.waiting self.new.waiting }
-        ensures gained { NoneWaits self.new.gained }
-        ensures rules { length self.new.gained ≡ length self.old.gained }
+    pub(crate) fn let_dependents_wait(&mut self)
+        requires grown { length self.old.grown ≡ length self.old.dependents }
+        requires within { (r p : ℕ) → Contains (dependents_of self.old.dependents r) p → p < length self.old.waiting }
+        ensures dependents { self.new.dependents ≡ self.old.dependents }
+        ensures waiting { Queues self.old.dependents (Waits self.old.grown) self.old.waiting self.new.waiting }
+        ensures grown { NoneWaits self.new.grown }
+        ensures rules { length self.new.grown ≡ length self.old.grown }
     {
-        while let Some(rule) = self.gained.next() {
-            queue_users(&self.users, rule, &mut self.waiting);
+        while let Some(rule) = self.grown.next() {
+            queue_dependents(&self.dependents, rule, &mut self.waiting);
         }
     }
 }

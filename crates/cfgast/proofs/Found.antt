@@ -1,17 +1,29 @@
--- Whether a `%token` declared a name.
-use Rattle.std.proofs.Common.{◌≡◌, ℕ, ◌==◌, Option, List, length, refl, arith, position, false, [], ◌∷◌, Some, None}
-use Rattle.std.specs.List.{list_any}
-use Rattle.std.specs.Option.{option_map_or}
+-- What is found among rules and tokens by a name.
+use Rattle.std.proofs.Common.{◌≡◌, ℕ, List, map, position, String, Global, string_bytes, string_eq, false, [], ◌∷◌, sym, ap, ◌∙◌}
+use Rattle.std.specs.List.{IsDistinct, AllByRecursion}
+use Rattle.std.specs.Map.{keys_of}
 use Rattle.std.specs.Str.{bytes_eq}
-use Rattle.cfgast.specs.Syntax.{Syntax}
-use Rattle.cfgast.specs.Building.{is_declared}
+use Rattle.std.proofs.lemmas.Simd.{map-map}
+use Rattle.lemmas.proofs.Positions.{position-map}
+use Rattle.cfgitems.specs.Syntax.{entry_name}
+use Rattle.cfgitems.specs.SyntaxView.{rule_entry}
+use Rattle.cfgitems.specs.declared.rule.Rule as source
+use Rattle.cfgitems.proofs.Views.{is_key}
 
--- if no `%token` exists, it declares no name
-pub none_declared : (s : Syntax) (name : List ℕ) → length s.token_directives ≡ 0 → false ≡ is_declared s name
-unfolding is_declared
-none_declared s name empty = go s.token_directives (position (bytes_eq name) s.tokens) empty
+-- rules are looked up among their keys
+pub rule_names : (es : List (String Global × source.Rule)) → map entry_name (map rule_entry es) ≡ map string_bytes (keys_of es)
+rule_names es = map-map entry_name rule_entry es ∙ sym (map-map string_bytes (λ (e : String Global × source.Rule). e.0) es)
+
+pub rule_position : (name : List ℕ) (es : List (String Global × source.Rule))
+    → position (bytes_eq name) (map entry_name (map rule_entry es)) ≡ position (is_key name) (keys_of es)
+rule_position name es = ap (position (bytes_eq name)) (rule_names es) ∙ position-map (bytes_eq name) string_bytes (keys_of es)
+
+-- keys that differ as keys differ in their bytes
+pub names_differ : (keys : List (String Global)) → IsDistinct string_eq keys → IsDistinct bytes_eq (map string_bytes keys)
+unfolding IsDistinct
+names_differ [] h = tt
+names_differ (key ∷ keys) h = (others keys h.0, names_differ keys h.1)
   where
-    go : (directives : List ℕ) (index : Option ℕ) → length directives ≡ 0 → false ≡ option_map_or (λ i. list_any (λ j. i == j) directives) index false
-    go [] None e = refl
-    go [] (Some i) e = refl
-    go (directive ∷ directives) index e = absurd (omega arith)
+    others : (rest : List (String Global)) → AllByRecursion (λ k. string_eq key k ≡ false) rest → AllByRecursion (λ n. bytes_eq (string_bytes key) n ≡ false) (map string_bytes rest)
+    others [] h = tt
+    others (k ∷ rest) h = (h.0, others rest h.1)

@@ -1,6 +1,9 @@
--- Users of this crate's calls have to read these files.
-pub mod Items
-pub mod Occurrences
-pub mod Syntax
-pub mod Building
-pub mod SyntaxView
+-- Users of this crate's calls have to read these files; those in Inner define what private clauses use.
+pub mod Check
+pub mod Duplicates
+pub mod Sound
+pub mod TreeView
+pub mod WellFormed
+pub mod Unused
+pub mod Writing
+pub mod Inner

@@ -1,24 +1,10 @@
+//! The tree `GrammarAST`, which holds a syntax: its accessors, how it is changed, and what it warns of.
 #![tactic(auto)]
 
-pub mod builder;
-pub mod item;
-pub mod laws;
-pub mod occurrence;
-pub mod precedence;
-pub mod production;
-pub mod rule;
-pub mod settings;
-pub mod symbol;
-pub mod syntax;
-pub mod tables;
+pub mod ast;
+pub mod duplicates;
+pub mod unused;
+pub mod writing;
 
-pub use builder::{AstBuilder, built_is_syntax};
-pub use item::{Body, RuleHead};
-pub use occurrence::{Occurrence, Unique, UniqueKind};
-pub use precedence::{AssocKind, Precedence};
-pub use production::Production;
-pub use rule::Rule;
-pub use settings::Settings;
-pub use symbol::Symbol;
-pub use syntax::Syntax;
-pub use tables::Tables;
+pub use ast::{GrammarAST, tree_of, tree_with};
+pub use writing::clone_with_start;

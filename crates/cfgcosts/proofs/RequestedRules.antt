@@ -4,7 +4,7 @@ use Rattle.std.specs.List.Sorted.{IsPermutation}
 use Rattle.std.proofs.lemmas.List.Sorted.{Contains-permutation, IsPermutation-sym}
 use Rattle.derivation.specs.Grammar.{Rule, IsGrammar}
 use Rattle.cfgtables.specs.Openings.{nth_production}
-use Rattle.cfganalysis.specs.Paths.{HeldIn}
+use Rattle.cfganalysis.specs.Paths.{ProductionRefersAt}
 use Rattle.search.specs.Reachable.{FoundBy, Reachable, Reaches, SearchState, led, seed}
 use Rattle.search.proofs.Reaching.{Begun, Searching, popped_reachable, reaches_as, search_begins, search_ends, search_goes_on}
 use Rattle.cfgleast.specs.Generator.{CostTables, IsGenerator, cost_answer}
@@ -44,7 +44,7 @@ module _ (x : CostTables) (r : ℕ) where
   }
 
   pub asking_goes_on : (b c : ℕ) (old mid new : SearchState) (base : List ℕ) (listed listed' : List (ℕ × ℕ)) → Asking listed old → mid.reachable ≡ old.reachable
-      → old.waiting ≡ mid.waiting ++ b ∷ [] → ((p : ℕ) → Contains base p ↔ ReachesBase x b p) → Reaches (FoundBy (HeldIn x.grammar) base) mid new
+      → old.waiting ≡ mid.waiting ++ b ∷ [] → ((p : ℕ) → Contains base p ↔ ReachesBase x b p) → Reaches (FoundBy (ProductionRefersAt x.grammar) base) mid new
       → cost_answer x b ≡ Some c → IsPermutation ((c, b) ∷ listed) listed' → Asking listed' new
   asking_goes_on b c old mid new base listed listed' a same popped all w answer moved =
       let to = λ (e : ℕ × ℕ) (h : Contains ((c, b) ∷ listed) e). Contains-permutation ((c, b) ∷ listed) listed' e moved h in
@@ -52,7 +52,7 @@ module _ (x : CostTables) (r : ℕ) where
       record {
         search = search_goes_on x.grammar.rules (λ q. q ≡ r) Asks (IsListed listed) b old mid a.search popped new (IsListed listed')
             (λ q d. (d.0, to (d.0, q) (contains_later (c, b) (d.0, q) listed d.1))) (c, to (c, b) (contains_first (c, b) listed)) same
-            (reaches_as (FoundBy (HeldIn x.grammar) base) (Asks b) mid new
+            (reaches_as (FoundBy (ProductionRefersAt x.grammar) base) (Asks b) mid new
             (λ q h. record { index = h.thing; reaches = (all h.thing).0 h.among; holds = h.finds })
             (λ q h. record { thing = h.index; among = (all h.index).1 h.reaches; finds = h.holds }) w);
         costs = λ d q h. elim (contains_cases (c, b) (d, q) listed (from (d, q) h)) [

@@ -8,7 +8,7 @@ use Rattle.std.proofs.lemmas.List.Sums.{count_by-le-length, sum_by-set}
 use Rattle.lemmas.proofs.Contained.{contains_first, contains_none, contains_one}
 use Rattle.lemmas.proofs.Elements.{get_or-replicate_default}
 use Rattle.cfgcycles.specs.declared.shortest.Found.{Found}
-use Rattle.cfgcycles.specs.declared.step_paths.Step.{Step}
+use Rattle.cfgcycles.specs.declared.step_paths.UnitStep.{UnitStep}
 use Rattle.cfgcycles.specs.StepLists.{AreWithin, HasStep}
 use Rattle.cfgcycles.specs.StepPaths.{IsCycle, IsShortestCycle, Leads}
 use Rattle.cfgcycles.specs.Inner.Layers.{AreLayers, Finds, HaveLayers, InLayer, IsFound, IsPathTo, PathTo, noted, left}
@@ -23,7 +23,7 @@ some (rule ∷ layer) = 1
 abbrev pub left_to_do : List (Option Found) → List ℕ → ℕ
 left_to_do table layer = left table + some layer
 
-pub record Searching (steps : List (List Step)) (first count : ℕ) (now : List (List Step)) (table : List (Option Found)) (layer : List ℕ) : Type 0 where
+pub record Searching (steps : List (List UnitStep)) (first count : ℕ) (now : List (List UnitStep)) (table : List (Option Found)) (layer : List ℕ) : Type 0 where
   pub same : now ≡ steps
   pub shape : length table ≡ length steps
   pub are : AreLayers (HasStep steps) first count table layer
@@ -43,7 +43,7 @@ left_one table rule within none =
     let z : ◌≡◌ {A = ℕ} (cond (is_none (noted table rule)) 1 0) 1 = ap (λ (o : Option Found). cond (is_none o) 1 0) none in
     omega (arith, e, z)
 
-module _ (steps : List (List Step)) (first : ℕ) where
+module _ (steps : List (List UnitStep)) (first : ℕ) where
   none_noted : (n rule : ℕ) (f : Found) → noted (replicate n None) rule ≡ Some f → ⊥
   none_noted n rule f e =
       let none : noted (replicate n None) rule ≡ None = get_or-replicate_default n rule None in
@@ -62,7 +62,7 @@ module _ (steps : List (List Step)) (first : ℕ) where
     );
   }
 
-  pub begins : (now : List (List Step)) (table : List (Option Found)) (layer : List ℕ) → now ≡ steps → table ≡ replicate (length steps) None
+  pub begins : (now : List (List UnitStep)) (table : List (Option Found)) (layer : List ℕ) → now ≡ steps → table ≡ replicate (length steps) None
       → layer ≡ replicate 1 first → Searching steps first 0 now table layer
   begins now table layer same empty one = record {
     same = same;
@@ -72,7 +72,7 @@ module _ (steps : List (List Step)) (first : ℕ) where
     room = λ more. let all = count_by-le-length is_none table in omega (arith, all);
   }
 
-  pub goes_on : (count : ℕ) (now now' : List (List Step)) (table new : List (Option Found)) (layer after : List ℕ) → Searching steps first count now table layer
+  pub goes_on : (count : ℕ) (now now' : List (List UnitStep)) (table new : List (Option Found)) (layer after : List ℕ) → Searching steps first count now table layer
       → 0 < length layer → now' ≡ now → Finds (count + 1) (λ a step. Contains layer a × HasStep now a step) table [] new after
       → Searching steps first (count + 1) now' new after
   goes_on count now now' table new layer after s more same finds = record {
@@ -88,7 +88,7 @@ module _ (steps : List (List Step)) (first : ℕ) where
       more_is : suc count ≡ count + 1
       more_is = omega arith
 
-  pub less_to_do : (count : ℕ) (Taken : ℕ → Step → Type 0) (table new : List (Option Found)) (layer after : List ℕ) → 0 < length layer
+  pub less_to_do : (count : ℕ) (Taken : ℕ → UnitStep → Type 0) (table new : List (Option Found)) (layer after : List ℕ) → 0 < length layer
       → Finds count Taken table [] new after → left_to_do new after < left_to_do table layer
   less_to_do count Taken table new layer after more finds = go layer after more finds.once
     where
@@ -101,7 +101,7 @@ module _ (steps : List (List Step)) (first : ℕ) where
           less
 
   module _ (count : ℕ) (table : List (Option Found)) where
-    further : AreLayers (HasStep steps) first count table [] → (n from : ℕ) (step : Step) → HasStep steps from step → InLayer (HasStep steps) first table n from
+    further : AreLayers (HasStep steps) first count table [] → (n from : ℕ) (step : UnitStep) → HasStep steps from step → InLayer (HasStep steps) first table n from
         → (found : Found) × (noted table step.rule ≡ Some found)
     further are n from step has at = elim (cases_lt n count) [
       | inl lt ↦ let f = leads_on (HasStep steps) first count table [] are n from lt at step has in (f.0, f.1)
@@ -125,14 +125,14 @@ module _ (steps : List (List Step)) (first : ℕ) where
         subst (λ k. (found : Found) × (noted table k ≡ Some found)) b.to
         (further are f.0.length b.from b.step b.has (inr (omega (arith, previous.1), record { found = f.0; is = f.1; long = refl })))
 
-    pub is_shortest : (layer : List ℕ) → AreLayers (HasStep steps) first count table layer → (path : List Step) → IsPathTo (HasStep steps) first table first path
+    pub is_shortest : (layer : List ℕ) → AreLayers (HasStep steps) first count table layer → (path : List UnitStep) → IsPathTo (HasStep steps) first table first path
         → IsShortestCycle (HasStep steps) first path
     is_shortest layer are path is = record {
       itself = record { some = let b = are.previous first is.found is.is in omega (arith, b.1, is.long); leads = is.leads };
       least = λ other l. least other l.some l.leads;
     }
       where
-        least : (other : List Step) → 0 < length other → Leads (HasStep steps) first other first → length path ≤ length other
+        least : (other : List UnitStep) → 0 < length other → Leads (HasStep steps) first other first → length path ≤ length other
         least [] more leads = absurd (omega (arith, more))
         least (step ∷ other) more leads = elim (cases_lt (length other) count) [
           | inl lt ↦
@@ -144,14 +144,14 @@ module _ (steps : List (List Step)) (first : ℕ) where
         ]
 
 -- a cycle that is read off, from its last step to its first
-pub record ReadOff (steps : List (List Step)) (table : List (Option Found)) (rule : ℕ) (last found : Found) (path : List Step) : Type 0 where
+pub record ReadOff (steps : List (List UnitStep)) (table : List (Option Found)) (rule : ℕ) (last found : Found) (path : List UnitStep) : Type 0 where
   pub at : ℕ
   pub is : noted table at ≡ Some found
   pub leads : Leads (HasStep steps) found.from (reverse path) rule
   pub long : length path + found.length ≡ last.length + 1
 
-module _ (steps : List (List Step)) (table : List (Option Found)) (rule : ℕ) (h : HaveLayers (HasStep steps) rule table) (last : Found) where
-  pub last_read : noted table rule ≡ Some last → (path : List Step) → path ≡ last.step ∷ [] → ReadOff steps table rule last last path
+module _ (steps : List (List UnitStep)) (table : List (Option Found)) (rule : ℕ) (h : HaveLayers (HasStep steps) rule table) (last : Found) where
+  pub last_read : noted table rule ≡ Some last → (path : List UnitStep) → path ≡ last.step ∷ [] → ReadOff steps table rule last last path
   last_read is path one = record {
     at = rule;
     is = is;
@@ -159,7 +159,7 @@ module _ (steps : List (List Step)) (table : List (Option Found)) (rule : ℕ) (
     long = let single : length path ≡ 1 = ap length one in omega (arith, single);
   }
 
-  module _ (found : Found) (path : List Step) (r : ReadOff steps table rule last found path) where
+  module _ (found : Found) (path : List UnitStep) (r : ReadOff steps table rule last found path) where
     -- what comes before a step that isn't the first one
     pub found_before : 1 < found.length → (m : ℕ) × (found.length ≡ suc m) × IsFound table found.from m
     found_before more = let b = h.are.previous r.at found r.is in (b.0, b.1, later b.2)
@@ -187,7 +187,7 @@ module _ (steps : List (List Step)) (table : List (Option Found)) (rule : ℕ) (
     pub before_seen : 1 < found.length → (o : Option Found) → o ≡ get_or table found.from o → noted table found.from ≡ o
     before_seen more o is = get_or_default table found.from None o (before_within more) ∙ sym is
 
-    pub before_read : 1 < found.length → (before : Found) → noted table found.from ≡ Some before → (now : List Step) → now ≡ path ++ before.step ∷ []
+    pub before_read : 1 < found.length → (before : Found) → noted table found.from ≡ Some before → (now : List UnitStep) → now ≡ path ++ before.step ∷ []
         → ReadOff steps table rule last before now
     before_read more before is now push =
         let f = found_before more in
@@ -202,7 +202,7 @@ module _ (steps : List (List Step)) (table : List (Option Found)) (rule : ℕ) (
           long = let one = ap length push ∙ length_push path before.step in omega (arith, one, short, f.1, r.long);
         }
 
-    pub all_read : found.length ≤ 1 → noted table rule ≡ Some last → (now : List Step) → now ≡ reverse path → IsPathTo (HasStep steps) rule table rule now
+    pub all_read : found.length ≤ 1 → noted table rule ≡ Some last → (now : List UnitStep) → now ≡ reverse path → IsPathTo (HasStep steps) rule table rule now
     all_read few is now turned =
         let b = h.are.previous r.at found r.is in
         record {
@@ -216,7 +216,7 @@ module _ (steps : List (List Step)) (table : List (Option Found)) (rule : ℕ) (
         first m long (inl is) = is.1
         first m long (inr is) = absurd (omega (arith, long, is.0, few))
 
-module _ (steps : List (List Step)) (rule : ℕ) (within : rule < length steps) (inside : AreWithin steps) (count : ℕ) (now : List (List Step))
+module _ (steps : List (List UnitStep)) (rule : ℕ) (within : rule < length steps) (inside : AreWithin steps) (count : ℕ) (now : List (List UnitStep))
     (table : List (Option Found)) (layer : List ℕ) (s : Searching steps rule count now table layer) where
   pub rule_noted : rule < length table
   rule_noted = subst (λ n. rule < n) (sym s.shape) within
@@ -238,10 +238,10 @@ module _ (steps : List (List Step)) (rule : ℕ) (within : rule < length steps) 
       let one = left_one table rule rule_noted none in
       omega (arith, room, one)
 
-  pub no_cycle : layer ≡ [] → noted table rule ≡ None → (path : List Step) → IsCycle (HasStep steps) rule path → ⊥
+  pub no_cycle : layer ≡ [] → noted table rule ≡ None → (path : List UnitStep) → IsCycle (HasStep steps) rule path → ⊥
   no_cycle empty none path l = go path l.some l.leads
     where
-      go : (path : List Step) → 0 < length path → Leads (HasStep steps) rule path rule → ⊥
+      go : (path : List UnitStep) → 0 < length path → Leads (HasStep steps) rule path rule → ⊥
       go [] more leads = omega (arith, more)
       go (step ∷ path) more leads =
           let f = all_found steps rule count table (subst (AreLayers (HasStep steps) rule count table) empty s.are) (length path) rule
@@ -249,7 +249,7 @@ module _ (steps : List (List Step)) (rule : ℕ) (within : rule < length steps) 
           let same : None ≡ Some f.0 = sym none ∙ f.1 in
           absurd (cc)
 
-  pub cycle_shortest : (path : List Step) → IsPathTo (HasStep now) rule table rule path → IsShortestCycle (HasStep steps) rule path
+  pub cycle_shortest : (path : List UnitStep) → IsPathTo (HasStep now) rule table rule path → IsShortestCycle (HasStep steps) rule path
   cycle_shortest path is = is_shortest steps rule count table layer s.are path (subst (λ l. IsPathTo (HasStep l) rule table rule path) s.same is)
 
   -- a path leads to each rule that was found
@@ -260,13 +260,13 @@ module _ (steps : List (List Step)) (rule : ℕ) (within : rule < length steps) 
       (r.path, r.leads)
 
   -- how the search ends: at an empty layer, or when the rule is found
-  pub ends : {E : Type 0} (result : Result (Option (Vec Step Global)) E) → (layer ≡ []) ⊎ (is_some (noted table rule) ≡ true)
+  pub ends : {E : Type 0} (result : Result (Option (Vec UnitStep Global)) E) → (layer ≡ []) ⊎ (is_some (noted table rule) ≡ true)
       → IfOk result (λ found. MatchOption found (noted table rule ≡ None) (λ path. IsPathTo (HasStep now) rule table rule path.items))
-      → IfOk result (λ found. MatchOption found ((path : List Step) → IsCycle (HasStep steps) rule path → ⊥) (λ path. IsShortestCycle (HasStep steps) rule path.items))
+      → IfOk result (λ found. MatchOption found ((path : List UnitStep) → IsCycle (HasStep steps) rule path → ⊥) (λ path. IsShortestCycle (HasStep steps) rule path.items))
   ends result at h = IfOk-weaker result _ _ reported h
     where
-      reported : (found : Option (Vec Step Global)) → MatchOption found (noted table rule ≡ None) (λ path. IsPathTo (HasStep now) rule table rule path.items)
-          → MatchOption found ((path : List Step) → IsCycle (HasStep steps) rule path → ⊥) (λ path. IsShortestCycle (HasStep steps) rule path.items)
+      reported : (found : Option (Vec UnitStep Global)) → MatchOption found (noted table rule ≡ None) (λ path. IsPathTo (HasStep now) rule table rule path.items)
+          → MatchOption found ((path : List UnitStep) → IsCycle (HasStep steps) rule path → ⊥) (λ path. IsShortestCycle (HasStep steps) rule path.items)
       reported None none = elim at [
         | inl empty ↦ no_cycle empty none
         | inr found ↦ let not : is_some (noted table rule) ≡ false = ap is_some none in absurd (true≢false (sym found ∙ not))

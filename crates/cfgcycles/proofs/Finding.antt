@@ -6,11 +6,11 @@ use Rattle.std.proofs.lemmas.List.Elements.{Contains-append_left, Contains-push,
 use Rattle.std.proofs.lemmas.List.Sums.{sum_by-set}
 use Rattle.lemmas.proofs.Elements.{get_or-set}
 use Rattle.cfgcycles.specs.declared.shortest.Found.{Found}
-use Rattle.cfgcycles.specs.declared.step_paths.Step.{Step}
+use Rattle.cfgcycles.specs.declared.step_paths.UnitStep.{UnitStep}
 use Rattle.cfgcycles.specs.Inner.Layers.{Finds, IsFound, noted, left}
 
 module _ (n : ℕ) where
-  pub finds_nothing : (Taken : ℕ → Step → Type 0) (table : List (Option Found)) (next : List ℕ) → ((a : ℕ) (step : Step) → Taken a step → ⊥)
+  pub finds_nothing : (Taken : ℕ → UnitStep → Type 0) (table : List (Option Found)) (next : List ℕ) → ((a : ℕ) (step : UnitStep) → Taken a step → ⊥)
       → Finds n Taken table next table next
   finds_nothing Taken table next none = record {
     shape = refl;
@@ -22,8 +22,8 @@ module _ (n : ℕ) where
     once = refl;
   }
 
-  pub finds_as : (Taken Taken' : ℕ → Step → Type 0) (old : List (Option Found)) (before : List ℕ) (new : List (Option Found)) (after : List ℕ)
-      → ((a : ℕ) (step : Step) → Taken a step → Taken' a step) → ((a : ℕ) (step : Step) → Taken' a step → Taken a step)
+  pub finds_as : (Taken Taken' : ℕ → UnitStep → Type 0) (old : List (Option Found)) (before : List ℕ) (new : List (Option Found)) (after : List ℕ)
+      → ((a : ℕ) (step : UnitStep) → Taken a step → Taken' a step) → ((a : ℕ) (step : UnitStep) → Taken' a step → Taken a step)
       → Finds n Taken old before new after → Finds n Taken' old before new after
   finds_as Taken Taken' old before new after to from w = record {
     shape = w.shape;
@@ -35,7 +35,7 @@ module _ (n : ℕ) where
     once = w.once;
   }
 
-  pub finds_then : (Taken Taken' : ℕ → Step → Type 0) (old : List (Option Found)) (before : List ℕ) (mid : List (Option Found)) (between : List ℕ)
+  pub finds_then : (Taken Taken' : ℕ → UnitStep → Type 0) (old : List (Option Found)) (before : List ℕ) (mid : List (Option Found)) (between : List ℕ)
       (new : List (Option Found)) (after : List ℕ) → Finds n Taken old before mid between → Finds n Taken' mid between new after
       → Finds n (λ a step. Taken a step ⊎ Taken' a step) old before new after
   finds_then Taken Taken' old before mid between new after w v = record {
@@ -63,14 +63,14 @@ module _ (n : ℕ) where
     once = v.once ∙ w.once;
   }
 
-  module _ (table : List (Option Found)) (next : List ℕ) (from : ℕ) (step : Step) where
+  module _ (table : List (Option Found)) (next : List ℕ) (from : ℕ) (step : UnitStep) where
     -- its rule was found before
     pub finds_known : is_some (noted table step.rule) ≡ true → Finds n (λ a s. (a ≡ from) × (s ≡ step)) table next table next
     finds_known some = record {
       shape = refl;
       kept = λ rule f e. e;
       fresh = λ rule f e. inl e;
-      all = λ a s h. subst (λ (s : Step). (found : Found) × (noted table s.rule ≡ Some found)) (sym h.1) (known (noted table step.rule) some);
+      all = λ a s h. subst (λ (s : UnitStep). (found : Found) × (noted table s.rule ≡ Some found)) (sym h.1) (known (noted table step.rule) some);
       waits = λ rule h. inl h;
       still = λ rule h. h;
       once = refl;
@@ -91,7 +91,7 @@ module _ (n : ℕ) where
         | inl same ↦ inl (sym same ∙ e)
         | inr put ↦ inr (is rule f put.0 (sym put.1 ∙ e))
       ];
-      all = λ a s h. subst (λ (s : Step). (found : Found) × (noted new s.rule ≡ Some found)) (sym h.1) (it, own);
+      all = λ a s h. subst (λ (s : UnitStep). (found : Found) × (noted new s.rule ≡ Some found)) (sym h.1) (it, own);
       waits = λ rule h. elim (Contains-push_cases next step.rule rule h) [
         | inl h ↦ inl h
         | inr same ↦ inr (subst (λ r. IsFound new r n) same (record { found = it; is = own; long = refl }))
@@ -138,11 +138,11 @@ module _ (n : ℕ) where
             omega (arith, e, z, length_push next step.rule)
 
 -- the steps of one rule, one by one
-module _ (n from : ℕ) (path : List Step) where
+module _ (n from : ℕ) (path : List UnitStep) where
   abbrev pub FindsPrefix : ℕ → List (Option Found) → List ℕ → List (Option Found) → List ℕ → Type 0
   FindsPrefix i = Finds n (λ a step. (a ≡ from) × Contains (take i path) step)
 
-  pub finds_more : (i : ℕ) (step : Step) (old : List (Option Found)) (before : List ℕ) (mid : List (Option Found)) (between : List ℕ)
+  pub finds_more : (i : ℕ) (step : UnitStep) (old : List (Option Found)) (before : List ℕ) (mid : List (Option Found)) (between : List ℕ)
       (new : List (Option Found)) (after : List ℕ) → i < length path → get_or path i step ≡ step → FindsPrefix i old before mid between
       → Finds n (λ a s. (a ≡ from) × (s ≡ step)) mid between new after → FindsPrefix (i + 1) old before new after
   finds_more i step old before mid between new after lt at w v =
@@ -156,7 +156,7 @@ module _ (n from : ℕ) (path : List Step) where
       (finds_then n _ _ old before mid between new after w v)
 
 -- the steps of a layer, rule by rule
-module _ (n : ℕ) (Has : ℕ → Step → Type 0) (layer : List ℕ) where
+module _ (n : ℕ) (Has : ℕ → UnitStep → Type 0) (layer : List ℕ) where
   abbrev pub FindsLayer : ℕ → List (Option Found) → List ℕ → List (Option Found) → List ℕ → Type 0
   FindsLayer i = Finds n (λ a step. Contains (take i layer) a × Has a step)
 

@@ -3,47 +3,47 @@ use Rattle.std.proofs.Common.{◌≡◌, ℕ, zero, suc, ◌≤◌, inl, inr, Li
 use Rattle.std.proofs.lemmas.Bool.{cases_lt}
 use Rattle.lemmas.proofs.Contained.{contains_none}
 use Rattle.cfgcycles.specs.declared.shortest.Found.{Found}
-use Rattle.cfgcycles.specs.declared.step_paths.Step.{Step}
+use Rattle.cfgcycles.specs.declared.step_paths.UnitStep.{UnitStep}
 use Rattle.cfgcycles.specs.StepPaths.{Leads}
 use Rattle.cfgcycles.specs.Inner.Layers.{AreLayers, Finds, InLayer, PathTo, noted}
 
-module _ (Has : ℕ → Step → Type 0) (first : ℕ) where
+module _ (Has : ℕ → UnitStep → Type 0) (first : ℕ) where
   -- a path followed by a step
-  pub leads_then : (a : ℕ) (path : List Step) (b : ℕ) (step : Step) → Leads Has a path b → Has b step → Leads Has a (path ++ (step ∷ [])) step.rule
+  pub leads_then : (a : ℕ) (path : List UnitStep) (b : ℕ) (step : UnitStep) → Leads Has a path b → Has b step → Leads Has a (path ++ (step ∷ [])) step.rule
   leads_then a [] b step e h = (subst (λ n. Has n step) (sym e) h, refl)
   leads_then a (next ∷ path) b step l h = (l.0, leads_then next.rule path b step l.1 h)
 
   -- a path of one or more steps has a last one
-  record LastOf (a : ℕ) (path : List Step) (b : ℕ) : Type 0 where
-    prefix : List Step
-    step : Step
+  record LastOf (a : ℕ) (path : List UnitStep) (b : ℕ) : Type 0 where
+    prefix : List UnitStep
+    step : UnitStep
     from : ℕ
     leads : Leads Has a prefix from
     has : Has from step
     to : step.rule ≡ b
     long : length path ≡ suc (length prefix)
 
-  last_of : (a : ℕ) (step : Step) (path : List Step) (b : ℕ) → Leads Has a (step ∷ path) b → LastOf a (step ∷ path) b
+  last_of : (a : ℕ) (step : UnitStep) (path : List UnitStep) (b : ℕ) → Leads Has a (step ∷ path) b → LastOf a (step ∷ path) b
   last_of a step [] b l = record { prefix = []; step = step; from = a; leads = refl; has = l.0; to = l.1; long = refl }
   last_of a step (next ∷ path) b l =
       let rest = last_of step.rule next path b l.1 in
       record { prefix = step ∷ rest.prefix; step = rest.step; from = rest.from; leads = (l.0, rest.leads); has = rest.has; to = rest.to; long = ap suc rest.long }
 
-  step_then : (b n : ℕ) (step : Step) → PathTo Has first b n → Has b step → PathTo Has first step.rule (suc n)
+  step_then : (b n : ℕ) (step : UnitStep) → PathTo Has first b n → Has b step → PathTo Has first step.rule (suc n)
   step_then b n step r h = record {
     path = r.path ++ (step ∷ []);
     leads = leads_then first r.path b step r.leads h;
     long = longer r.path ∙ ap suc r.long;
   }
     where
-      longer : (l : List Step) → length (l ++ (step ∷ [])) ≡ suc (length l)
+      longer : (l : List UnitStep) → length (l ++ (step ∷ [])) ≡ suc (length l)
       longer [] = refl
       longer (x ∷ l) = ap suc (longer l)
 
   -- a path of one more step than the one to the rule before
   pub record Before (rule n : ℕ) : Type 0 where
     pub from : ℕ
-    pub step : Step
+    pub step : UnitStep
     pub path : PathTo Has first from n
     pub has : Has from step
     pub to : step.rule ≡ rule
@@ -51,7 +51,7 @@ module _ (Has : ℕ → Step → Type 0) (first : ℕ) where
   pub before : (rule n : ℕ) → PathTo Has first rule (suc n) → Before rule n
   before rule n r = go r.path r.leads r.long
     where
-      go : (path : List Step) → Leads Has first path rule → length path ≡ suc n → Before rule n
+      go : (path : List UnitStep) → Leads Has first path rule → length path ≡ suc n → Before rule n
       go [] l e = absurd (omega (arith, e))
       go (x ∷ path) l e =
           let w = last_of first x path rule l in
@@ -73,7 +73,7 @@ module _ (Has : ℕ → Step → Type 0) (first : ℕ) where
         subst (λ k. PathTo Has first k (suc m)) has.1 (step_then f.from m f.step r has.0)
 
     -- a rule that is found by fewer steps than the last layer leads to rules that have been found
-    pub leads_on : (m from : ℕ) → suc m ≤ n → InLayer Has first table m from → (step : Step) → Has from step
+    pub leads_on : (m from : ℕ) → suc m ≤ n → InLayer Has first table m from → (step : UnitStep) → Has from step
         → (found : Found) × (noted table step.rule ≡ Some found) × (found.length ≤ suc m)
     leads_on m from le h step has = are.all m step.rule le (step_then from m step (path_to_layer m from h) has)
 
@@ -81,7 +81,7 @@ module _ (Has : ℕ → Step → Type 0) (first : ℕ) where
     pub in_some_layer : (m rule : ℕ) → m ≤ n → PathTo Has first rule m → (k : ℕ) × (k ≤ m) × InLayer Has first table k rule
     in_some_layer zero rule le r = (0, omega arith, inl (refl, start r.path r.leads r.long))
       where
-        start : (path : List Step) → Leads Has first path rule → length path ≡ 0 → rule ≡ first
+        start : (path : List UnitStep) → Leads Has first path rule → length path ≡ 0 → rule ≡ first
         start [] l e = sym l
         start (x ∷ path) l e = absurd (omega (arith, e))
     in_some_layer (suc m) rule le r =
@@ -136,7 +136,7 @@ module _ (Has : ℕ → Step → Type 0) (first : ℕ) where
                 subst (λ k. (found : Found) × (noted new k ≡ Some found) × (found.length ≤ suc m)) b.to (after_layer m ge le b.from b.step b.has w)
           ]
             where
-              after_layer : (m : ℕ) → n ≤ m → suc m ≤ suc n → (from : ℕ) (step : Step) → Has from step
+              after_layer : (m : ℕ) → n ≤ m → suc m ≤ suc n → (from : ℕ) (step : UnitStep) → Has from step
                   → (k : ℕ) × (k ≤ m) × InLayer Has first table k from
                   → (found : Found) × (noted new step.rule ≡ Some found) × (found.length ≤ suc m)
               after_layer m ge le from step has w = elim (cases_lt w.0 n) [

@@ -9,7 +9,7 @@ use Rattle.lemmas.proofs.Contained.{contains_none}
 use Rattle.lemmas.proofs.Elements.{get_or-replicate_default}
 use Rattle.lemmas.proofs.Taken.{contains_taken}
 use Rattle.cfgcycles.specs.declared.groups.CyclicGroup.{CyclicGroup}
-use Rattle.cfgcycles.specs.declared.step_paths.Step.{Step}
+use Rattle.cfgcycles.specs.declared.step_paths.UnitStep.{UnitStep}
 use Rattle.cfgcycles.specs.CyclicGroups.{IsGroup, IsGroupOf, LeadsTo, OnCommonCycle}
 use Rattle.cfgcycles.specs.StepLists.{AreWithin, HasStep}
 use Rattle.cfgcycles.specs.StepPaths.{Leads}
@@ -51,19 +51,19 @@ one_more_entry Is table now none entry rule is long below here k less = subst (�
 ])
 
 -- the steps of one rule, one by one
-module _ (numbers : List ℕ) (rule : ℕ) (path : List Step) where
-  abbrev IsSame : Step → Type 0
+module _ (numbers : List ℕ) (rule : ℕ) (path : List UnitStep) where
+  abbrev IsSame : UnitStep → Type 0
   IsSame step = slice_index numbers rule ≡ slice_index numbers step.rule
 
-  pub inner_put : (old : List (List Step)) (step : Step) → rule < length old → IsSame step
+  pub inner_put : (old : List (List UnitStep)) (step : UnitStep) → rule < length old → IsSame step
       → ArePut (λ a s. (a ≡ rule) × (s ≡ step) × IsSame s) old (slice_set old rule (get_or old rule [] ++ step ∷ []))
   inner_put old step within same = put_as _ _ old (slice_set old rule (get_or old rule [] ++ step ∷ [])) (λ a s h. (h.0, h.1, subst IsSame (sym h.1) same)) (λ a s h. (h.0, h.1))
       (put_one old rule step within)
 
-  pub inner_left_out : (old : List (List Step)) (step : Step) → (IsSame step → ⊥) → ArePut (λ a s. (a ≡ rule) × (s ≡ step) × IsSame s) old old
+  pub inner_left_out : (old : List (List UnitStep)) (step : UnitStep) → (IsSame step → ⊥) → ArePut (λ a s. (a ≡ rule) × (s ≡ step) × IsSame s) old old
   inner_left_out old step differs = put_none _ old (λ a s h. differs (subst IsSame h.1 h.2))
 
-  pub inner_more : (i : ℕ) (step : Step) (old mid new : List (List Step)) → i < length path → step ≡ get_or path i step
+  pub inner_more : (i : ℕ) (step : UnitStep) (old mid new : List (List UnitStep)) → i < length path → step ≡ get_or path i step
       → ArePut (λ a s. (a ≡ rule) × Contains (take i path) s × IsSame s) old mid
       → ArePut (λ a s. (a ≡ rule) × (s ≡ step) × IsSame s) mid new
       → ArePut (λ a s. (a ≡ rule) × Contains (take (i + 1) path) s × IsSame s) old new
@@ -78,9 +78,9 @@ module _ (numbers : List ℕ) (rule : ℕ) (path : List Step) where
       ])
       (put_then _ _ old mid new before here)
 
-module _ (steps : List (List Step)) where
+module _ (steps : List (List UnitStep)) where
   -- a rule that has a step is one of those that have lists
-  pub has_list : (rule : ℕ) (step : Step) → HasStep steps rule step → rule < length steps
+  pub has_list : (rule : ℕ) (step : UnitStep) → HasStep steps rule step → rule < length steps
   has_list rule step h = elim (cases_lt rule (length steps)) [
     | inl lt ↦ lt
     | inr past ↦ absurd (contains_none step (subst (λ l. Contains l step) (get_or_past steps rule [] past) h))
@@ -88,10 +88,10 @@ module _ (steps : List (List Step)) where
 
   module _ (numbers : List ℕ) where
     -- the steps of the first rules
-    abbrev pub AreFirstInner : ℕ → List (List Step) → Type 0
+    abbrev pub AreFirstInner : ℕ → List (List UnitStep) → Type 0
     AreFirstInner i = ArePut (λ a step. (a < i) × HasStep steps a step × (slice_index numbers a ≡ slice_index numbers step.rule)) (replicate (length steps) [])
 
-    pub next_inner : (i : ℕ) (path : List Step) (mid new : List (List Step)) → path ≡ get_or steps i [] → AreFirstInner i mid
+    pub next_inner : (i : ℕ) (path : List UnitStep) (mid new : List (List UnitStep)) → path ≡ get_or steps i [] → AreFirstInner i mid
         → ArePut (λ a step. (a ≡ i) × Contains path step × (slice_index numbers i ≡ slice_index numbers step.rule)) mid new → AreFirstInner (i + 1) new
     next_inner i path mid new is before here = put_as _ _ (replicate (length steps) []) new
         (λ a step h. elim h [
@@ -110,7 +110,7 @@ module _ (steps : List (List Step)) where
         ])
         (put_then _ _ (replicate (length steps) []) mid new before here)
 
-    pub all_inner : (i : ℕ) (inner : List (List Step)) → AreFirstInner i inner → length steps ≤ i → AreInner steps numbers inner
+    pub all_inner : (i : ℕ) (inner : List (List UnitStep)) → AreFirstInner i inner → length steps ≤ i → AreInner steps numbers inner
     all_inner i inner first end rule step = (
       (λ h. elim ((first.steps rule step).0 h) [
         | inl none ↦ absurd (contains_none step (subst (λ l. Contains l step) (get_or-replicate_default (length steps) rule []) none))
@@ -119,22 +119,22 @@ module _ (steps : List (List Step)) where
       (λ h. let lt = has_list rule step h.0 in (first.steps rule step).1 (inr (omega (arith, lt, end), h.0, h.1))),
     )
 
-    module _ (inner : List (List Step)) (within : AreWithin steps) (lists : List (List ℕ)) (are : AreComponents (StepsTo steps) (length steps) numbers lists)
+    module _ (inner : List (List UnitStep)) (within : AreWithin steps) (lists : List (List ℕ)) (are : AreComponents (StepsTo steps) (length steps) numbers lists)
         (among : AreInner steps numbers inner) where
-      inner_leads : (a : ℕ) (path : List Step) (b : ℕ) → Leads (HasStep inner) a path b → Leads (HasStep steps) a path b
+      inner_leads : (a : ℕ) (path : List UnitStep) (b : ℕ) → Leads (HasStep inner) a path b → Leads (HasStep steps) a path b
       inner_leads a [] b l = l
       inner_leads a (step ∷ path) b l = (((among a step).0 l.0).0, inner_leads step.rule path b l.1)
 
-      same_number : (a : ℕ) (path : List Step) (b : ℕ) → Leads (HasStep inner) a path b → slice_index numbers a ≡ slice_index numbers b
+      same_number : (a : ℕ) (path : List UnitStep) (b : ℕ) → Leads (HasStep inner) a path b → slice_index numbers a ≡ slice_index numbers b
       same_number a [] b l = ap (slice_index numbers) l
       same_number a (step ∷ path) b l = ((among a step).0 l.0).1 ∙ same_number step.rule path b l.1
 
-      inside : (a : ℕ) (path : List Step) (b : ℕ) → Leads (HasStep steps) a path b → a < length steps → b < length steps
+      inside : (a : ℕ) (path : List UnitStep) (b : ℕ) → Leads (HasStep steps) a path b → a < length steps → b < length steps
       inside a [] b l lt = subst (λ n. n < length steps) l lt
       inside a (step ∷ path) b l lt = inside step.rule path b l.1 (within a step l.0)
 
       -- a path back to where it can be reached from stays in the component
-      stays : (rule a : ℕ) (path : List Step) → Leads (HasStep steps) a path rule → Reaches (HasStep steps) rule a → Leads (HasStep inner) a path rule
+      stays : (rule a : ℕ) (path : List UnitStep) → Leads (HasStep steps) a path rule → Reaches (HasStep steps) rule a → Leads (HasStep inner) a path rule
       stays rule a [] l there = l
       stays rule a (step ∷ path) l there =
           let on = reaches_by (HasStep steps) a step l.0 in

@@ -4,14 +4,14 @@ use Rattle.std.proofs.lemmas.Bool.{cases_eq, cases_lt}
 use Rattle.std.proofs.lemmas.Option.{get_or_from_slice_get, slice_get-get_or, slice_get_within}
 use Rattle.lemmas.proofs.Contained.{contains_cases, contains_first, contains_later, contains_none}
 use Rattle.cfgcycles.specs.declared.groups.CyclicGroup.{CyclicGroup}
-use Rattle.cfgcycles.specs.declared.step_paths.Step.{Step}
+use Rattle.cfgcycles.specs.declared.step_paths.UnitStep.{UnitStep}
 use Rattle.cfgcycles.specs.CyclicGroups.{AreGroups, IsGroup, IsGroupOf, IsInGroup, IsInOneGroup, LeadsTo, OnCommonCycle}
 use Rattle.cfgcycles.specs.StepLists.{HasStep}
 use Rattle.cfgcycles.specs.StepPaths.{Leads}
 use Rattle.cfgcycles.proofs.Members.{has_list}
 use Rattle.cfgcycles.proofs.Reaching.{leads_through}
 
-module _ (Has : ℕ → Step → Type 0) where
+module _ (Has : ℕ → UnitStep → Type 0) where
   on_through : (a b c : ℕ) → LeadsTo Has a b → LeadsTo Has b c → LeadsTo Has a c
   on_through a b c l m = record {
     path = l.path ++ m.path;
@@ -35,11 +35,11 @@ contains_or_not (y ∷ xs) x = elim (cases_eq y x) [
   ]
 ]
 
-module _ (steps : List (List Step)) (groups : List (Option CyclicGroup)) (are : AreGroups (HasStep steps) (length steps) groups) (rule : ℕ) where
+module _ (steps : List (List UnitStep)) (groups : List (Option CyclicGroup)) (are : AreGroups (HasStep steps) (length steps) groups) (rule : ℕ) where
   first_within : (a b : ℕ) → LeadsTo (HasStep steps) a b → a < length steps
   first_within a b l = go l.path l.some l.leads
     where
-      go : (path : List Step) → 0 < length path → Leads (HasStep steps) a path b → a < length steps
+      go : (path : List UnitStep) → 0 < length path → Leads (HasStep steps) a path b → a < length steps
       go [] some l = absurd (omega (arith, some))
       go (step ∷ path) some l = has_list steps a step l.0
 

@@ -9,8 +9,8 @@ use Rattle.derivation.specs.Grammar.{Sym, Rule, Grammar, Production, HasProducti
 use Rattle.derivation.specs.Derivation.{Derives}
 use Rattle.cfgtables.specs.Openings.{nth_production}
 use Rattle.cfgcycles.specs.CyclicGroups.{LeadsTo}
-use Rattle.derivation.specs.UnitPaths.{UnitPath, DerivesRule, IsCyclic, HoldsUnit, one, more}
-use Rattle.cfgcycles.specs.declared.step_paths.Step.{Step}
+use Rattle.derivation.specs.UnitPaths.{UnitPath, DerivesRule, IsCyclic, UnitRefers, one, more}
+use Rattle.cfgcycles.specs.declared.step_paths.UnitStep.{UnitStep}
 use Rattle.cfgcycles.specs.StepPaths.{IsCycle, Leads}
 use Rattle.cfgcycles.specs.UnitSteps.{IsStep}
 use Rattle.derivation.proofs.UnitPaths.{unit_along, path_of_units}
@@ -31,7 +31,7 @@ drop_middle prefix x back =
     ∙ front_rest (prefix ++ (x ∷ back)) (prefix ++ x ∷ []) back (sym (append_assoc prefix (x ∷ []) back))
 
 module _ (g : Grammar) where
-  step_unit : (a : ℕ) (step : Step) → IsStep g a step → HoldsUnit (HasProduction g) a step.rule
+  step_unit : (a : ℕ) (step : UnitStep) → IsStep g a step → UnitRefers (HasProduction g) a step.rule
   step_unit a step h =
       let symbols = (nth_production g step.production).symbols in
       let is : nth_production g step.production ≡ record { rule = a; symbols = symbols } = λ i. record { rule = h.owner i; symbols = symbols } in
@@ -46,11 +46,11 @@ module _ (g : Grammar) where
 
   -- a step to the rule
   record StepTo (a b : ℕ) : Type 0 where
-    step : Step
+    step : UnitStep
     has : IsStep g a step
     to : step.rule ≡ b
 
-  unit_step : (a b : ℕ) → HoldsUnit (HasProduction g) a b → StepTo a b
+  unit_step : (a b : ℕ) → UnitRefers (HasProduction g) a b → StepTo a b
   unit_step a b h =
       let whole = h.before ++ (Rule b ∷ h.after) in
       let at : nth_production g h.has.0 ≡ record { rule = a; symbols = whole } = get_or_default g.productions h.has.0 _ _ h.has.1 ∙ h.has.2 in
@@ -67,8 +67,8 @@ module _ (g : Grammar) where
         to = refl;
       }
 
-  path_of_steps : (a : ℕ) (step : Step) (path : List Step) (b : ℕ) → Leads (IsStep g) a (step ∷ path) b → UnitPath (HasProduction g) a b
-  path_of_steps a step [] b h = one (subst (λ n. HoldsUnit (HasProduction g) a n) h.1 (step_unit a step h.0))
+  path_of_steps : (a : ℕ) (step : UnitStep) (path : List UnitStep) (b : ℕ) → Leads (IsStep g) a (step ∷ path) b → UnitPath (HasProduction g) a b
+  path_of_steps a step [] b h = one (subst (λ n. UnitRefers (HasProduction g) a n) h.1 (step_unit a step h.0))
   path_of_steps a step (next ∷ path) b h = more (step_unit a step h.0) (path_of_steps step.rule next path b h.1)
 
   steps_of_path : {a b : ℕ} → UnitPath (HasProduction g) a b → LeadsTo (IsStep g) a b
@@ -85,12 +85,12 @@ module _ (g : Grammar) where
   pub derivation_of_path : (a b : ℕ) → LeadsTo (IsStep g) a b → DerivesRule (HasProduction g) a b
   derivation_of_path a b l = go l.path l.some l.leads
     where
-      go : (path : List Step) → 0 < length path → Leads (IsStep g) a path b → DerivesRule (HasProduction g) a b
+      go : (path : List UnitStep) → 0 < length path → Leads (IsStep g) a path b → DerivesRule (HasProduction g) a b
       go [] some l = absurd (omega (arith, some))
       go (step ∷ path) some l = unit_along (HasProduction g) (path_of_steps a step path b l)
 
-  pub cycle_of_derivation : (r : ℕ) → IsCyclic (HasProduction g) r → (path : List Step) × IsCycle (IsStep g) r path
+  pub cycle_of_derivation : (r : ℕ) → IsCyclic (HasProduction g) r → (path : List UnitStep) × IsCycle (IsStep g) r path
   cycle_of_derivation r d = let w = path_of_derivation r r d in (w.path, record { some = w.some; leads = w.leads })
 
-  pub derivation_of_cycle : (r : ℕ) → (path : List Step) × IsCycle (IsStep g) r path → IsCyclic (HasProduction g) r
+  pub derivation_of_cycle : (r : ℕ) → (path : List UnitStep) × IsCycle (IsStep g) r path → IsCyclic (HasProduction g) r
   derivation_of_cycle r h = derivation_of_path r r (record { path = h.0; some = h.1.some; leads = h.1.leads })

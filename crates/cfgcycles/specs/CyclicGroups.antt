@@ -2,13 +2,13 @@
 use Rattle.std.specs.Prelude.{◌≡◌, ℕ, ◌<◌, ◌≤◌, ◌↔◌, List, None, Some, Contains, get_or, length, slice_get, Option, MatchOption}
 use Rattle.std.specs.List.Sorted.{IsStrictlyIncreasing}
 use Rattle.cfgcycles.specs.declared.groups.CyclicGroup.{CyclicGroup}
-use Rattle.cfgcycles.specs.declared.step_paths.Step.{Step}
+use Rattle.cfgcycles.specs.declared.step_paths.UnitStep.{UnitStep}
 use Rattle.cfgcycles.specs.StepPaths.{IsShortestCycle, Leads}
 
-module _ (Has : ℕ → Step → Type 0) where
+module _ (Has : ℕ → UnitStep → Type 0) where
   -- one or more steps lead from rule a to rule b
   pub record LeadsTo (a b : ℕ) : Type 0 where
-    pub path : List Step
+    pub path : List UnitStep
     pub some : 0 < length path
     pub leads : Leads Has a path b
 
@@ -24,7 +24,7 @@ module _ (Has : ℕ → Step → Type 0) where
 
   -- exactly the rules on a common cycle with the first one, which has the lowest number, in ascending order, and a shortest cycle of the
   -- first one
-  pub record IsGroup (first : ℕ) (rules : List ℕ) (cycle : List Step) : Type 0 where
+  pub record IsGroup (first : ℕ) (rules : List ℕ) (cycle : List UnitStep) : Type 0 where
     pub ascending : IsStrictlyIncreasing rules
     pub all : (rule : ℕ) → Contains rules rule ↔ OnCommonCycle first rule
     pub least : (rule : ℕ) → Contains rules rule → first ≤ rule

@@ -8,11 +8,11 @@ ghost use Rattle.cfgcycles.specs.StepPaths.{IsCycle, IsShortestCycle};
 ghost use Rattle.cfgcycles.specs.Inner.Components.{Reaches};
 ghost use Rattle.cfgcycles.specs.Inner.Members.{AreInner, IsGroupAmong};
 ghost use Rattle.cfgcycles.specs.Inner.Putting.{ArePut};
-ghost use Rattle.cfgcycles.specs.declared.step_paths.Step.{Step};
+ghost use Rattle.cfgcycles.specs.declared.step_paths.UnitStep.{UnitStep};
 
 use crate::shortest::{Layers, find_cycle};
 use crate::step_edges::StepEdges;
-use crate::step_paths::{Step, Steps};
+use crate::step_paths::{Steps, UnitStep};
 use search::Components;
 use std::alloc::{AllocError, Global};
 
@@ -22,7 +22,7 @@ pub struct CyclicGroup {
     /// The numbers of the rules, in ascending order.
     pub rules: Vec<usize>,
     /// A shortest path of steps from the first rule to itself.
-    pub cycle: Vec<Step>,
+    pub cycle: Vec<UnitStep>,
 }
 
 /// For each rule the group of cyclic rules of which it is the first, or `None` if it is the first of none. In total
@@ -65,11 +65,11 @@ fn inner_steps(alloc: Global, steps: &Steps, numbers: &[usize]) -> Result<Steps,
 fn put_inner(
     inner: &mut Steps,
     rule: usize,
-    path: &[Step],
+    path: &[UnitStep],
     numbers: &[usize],
 ) -> Result<(), AllocError>
     requires rule { rule < length inner.old }
-    requires within { (step : Step) → Contains path.now step → step.rule < length numbers.now }
+    requires within { (step : UnitStep) → Contains path.now step → step.rule < length numbers.now }
     requires numbers { length numbers.now ≡ length inner.old }
     ensures { OnOk result (ArePut (λ a step. (a ≡ rule) × Contains path.now step
         × (slice_index numbers.now rule ≡ slice_index numbers.now step.rule)) inner.old inner.new) }

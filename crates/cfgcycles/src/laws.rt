@@ -1,5 +1,5 @@
 //! What cycles of unit steps say of derivations; groups of cyclic rules; and what `clone` of steps copies. That is
-//! derived, so the law names the impl, as in `⟦<Step as Clone>⟧`.
+//! derived, so the law names the impl, as in `⟦<UnitStep as Clone>⟧`.
 
 ghost use Rattle.std.specs.Prelude.{◌≡◌, ◌↔◌, ℕ, List, Option, length};
 ghost use Rattle.derivation.specs.Grammar.{Grammar, HasProduction};
@@ -9,9 +9,9 @@ ghost use Rattle.cfgcycles.specs.StepLists.{HasStep};
 ghost use Rattle.cfgcycles.specs.StepPaths.{IsCycle};
 ghost use Rattle.cfgcycles.specs.UnitSteps.{IsStep};
 ghost use Rattle.cfgcycles.specs.declared.groups.CyclicGroup.{CyclicGroup};
-ghost use Rattle.cfgcycles.specs.declared.step_paths.Step.{Step};
+ghost use Rattle.cfgcycles.specs.declared.step_paths.UnitStep.{UnitStep};
 
-use crate::step_paths::Step;
+use crate::step_paths::UnitStep;
 
 /// One or more unit steps lead from a rule to another exactly if, in one or more steps, it derives the list of only
 /// that rule.
@@ -22,18 +22,18 @@ pub fn unit_steps_are_derivations()
 /// A rule has a cycle of unit steps exactly if it is cyclic.
 pub fn cycles_are_derivations()
     ensures { (g : Grammar) (r : ℕ)
-        → IsCyclic (HasProduction g) r ↔ ((path : List Step) × IsCycle (IsStep g) r path) }
+        → IsCyclic (HasProduction g) r ↔ ((path : List UnitStep) × IsCycle (IsStep g) r path) }
 {}
 
 /// Each cyclic rule is in exactly one group.
 pub fn cyclic_rules_are_in_one_group()
-    ensures { (steps : List (List Step)) (groups : List (Option CyclicGroup)) (rule : ℕ)
+    ensures { (steps : List (List UnitStep)) (groups : List (Option CyclicGroup)) (rule : ℕ)
         → AreGroups (HasStep steps) (length steps) groups → OnCommonCycle (HasStep steps) rule rule
         → IsInOneGroup groups rule }
 {}
 
 /// A clone of a step equals its source, and allocates nothing.
 pub fn steps_are_copied()
-    ensures clone { (a b : Step) → ⟦<Step as Clone>⟧.is_clone a b → b ≡ a }
-    ensures cloned { (a : Step) → ⟦<Step as Clone>⟧.is_infallible a }
+    ensures clone { (a b : UnitStep) → ⟦<UnitStep as Clone>⟧.is_clone a b → b ≡ a }
+    ensures cloned { (a : UnitStep) → ⟦<UnitStep as Clone>⟧.is_infallible a }
 {}

@@ -10,5 +10,5 @@ mod stepping;
 
 pub use groups::{CyclicGroup, cyclic_groups};
 pub use shortest::shortest_cycle;
-pub use step_paths::{Step, Steps};
+pub use step_paths::{Steps, UnitStep};
 pub use stepping::unit_steps;

@@ -8,7 +8,7 @@ ghost use Rattle.cfgcycles.specs.Inner.Layers.{Finds, HaveLayers, IsPathTo, note
 ghost use Rattle.cfgcycles.specs.StepPaths.{IsShortestOf};
 ghost use Rattle.cfgcycles.specs.declared.shortest.Found.{Found};
 
-use crate::step_paths::{Step, Steps};
+use crate::step_paths::{Steps, UnitStep};
 use std::alloc::{AllocError, Global};
 
 /// A shortest path of steps from the rule to itself, or `None` if there is no such path.
@@ -20,7 +20,7 @@ pub fn shortest_cycle(
     alloc: Global,
     steps: &Steps,
     rule: usize,
-) -> Result<Option<Vec<Step>>, AllocError>
+) -> Result<Option<Vec<UnitStep>>, AllocError>
     requires rule { rule < length steps.now }
     requires within { AreWithin steps.now }
     ensures { IfOk result (λ found. IsShortestOf (HasStep steps.now) rule found) }
@@ -35,7 +35,7 @@ pub(crate) fn find_cycle(
     alloc: Global,
     layers: &mut Layers,
     rule: usize,
-) -> Result<Option<Vec<Step>>, AllocError>
+) -> Result<Option<Vec<UnitStep>>, AllocError>
     requires rule { rule < length layers.old.steps.now }
     requires within { AreWithin layers.old.steps.now }
     requires found { layers.old.found.items ≡ replicate (length layers.old.steps.now) None }
@@ -58,7 +58,7 @@ pub(crate) fn find_cycle(
 #[derive(Clone, Copy)]
 pub(crate) struct Found {
     from: usize,
-    step: Step,
+    step: UnitStep,
     length: usize,
 }
 
@@ -150,7 +150,7 @@ impl<'a> Layers<'a> {
     fn note(
         &mut self,
         from: usize,
-        step: Step,
+        step: UnitStep,
         count: usize,
         next: &mut Vec<usize>,
     ) -> Result<(), AllocError>
@@ -171,7 +171,7 @@ impl<'a> Layers<'a> {
     }
 
     /// The path of steps by which the rule was found from itself, if it was.
-    fn cycle_of(&self, alloc: Global, rule: usize) -> Result<Option<Vec<Step>>, AllocError>
+    fn cycle_of(&self, alloc: Global, rule: usize) -> Result<Option<Vec<UnitStep>>, AllocError>
         requires rule { rule < length self.now.found.items }
         requires layers { HaveLayers (HasStep self.now.steps.now) rule self.now.found.items }
         ensures { IfOk result (λ found. MatchOption found (noted self.now.found.items rule ≡ None)

@@ -15,10 +15,10 @@ pub(crate) struct StepEdges<'a> {
 
 impl<'a> Model for StepEdges<'a> {
     ghost use Rattle.std.specs.Prelude.{List};
-    ghost use Rattle.cfgcycles.specs.declared.step_paths.Step.{Step};
+    ghost use Rattle.cfgcycles.specs.declared.step_paths.UnitStep.{UnitStep};
     ghost use Rattle.cfgcycles.specs.StepLists.{AreWithin};
 
-    ghost Value = { List (List Step) };
+    ghost Value = { List (List UnitStep) };
 
     ghost view = { λ x. x.steps.now };
 

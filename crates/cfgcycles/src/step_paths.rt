@@ -4,7 +4,7 @@ use cfgindex::ListTable;
 
 /// A step from a rule to another, by a production of the rule that has the other rule at this index, counted from 0.
 #[derive(Clone, Copy)]
-pub struct Step {
+pub struct UnitStep {
     /// The number of the rule that the step leads to.
     pub rule: usize,
     /// The number of the production.
@@ -14,4 +14,4 @@ pub struct Step {
 }
 
 /// For each rule its steps.
-pub type Steps = ListTable<Step>;
+pub type Steps = ListTable<UnitStep>;

@@ -6,10 +6,10 @@ ghost use Rattle.cfgtables.specs.NumberedSymbols.{sym_of};
 ghost use Rattle.cfganalysis.specs.Firsts.{AreFirsts};
 ghost use Rattle.cfgcycles.specs.StepLists.{AreAllInOrder, HasStep, IsEarlier};
 ghost use Rattle.cfgcycles.specs.UnitSteps.{AreSteps, IsStep};
-ghost use Rattle.cfgcycles.specs.declared.step_paths.Step.{Step};
+ghost use Rattle.cfgcycles.specs.declared.step_paths.UnitStep.{UnitStep};
 ghost use Rattle.cfgcycles.specs.Inner.Putting.{AreNullableBetween, ArePut, is_empty};
 
-use crate::step_paths::{Step, Steps};
+use crate::step_paths::{Steps, UnitStep};
 use cfganalysis::firsts::YaccFirsts;
 use cfgindex::{PIdx, Storage, Symbol, to_storage};
 use cfgtables::Tables;
@@ -50,7 +50,7 @@ fn put_steps<S: Storage, T: Tables<S>>(
     ensures put { OnOk result (ArePut (λ a step. IsStep (T.grammar tables.now) a step × (step.production ≡ production))
         steps.old steps.new) }
     ensures order { OnOk result (AreAllInOrder steps.old
-        → ((a : ℕ) (step : Step) → HasStep steps.old a step → step.production < production) → AreAllInOrder steps.new) }
+        → ((a : ℕ) (step : UnitStep) → HasStep steps.old a step → step.production < production) → AreAllInOrder steps.new) }
 {
     tables.invariant_holds();
     let pidx = PIdx(to_storage(production));
@@ -83,12 +83,12 @@ fn put_step<S: Storage>(
     ensures put { OnOk result (ArePut (λ a step. (a ≡ rule) × (Rule step.rule ≡ sym_of S.number symbol)
         × (step.production ≡ production) × (step.index ≡ index)) steps.old steps.new) }
     ensures order { OnOk result (AreAllInOrder steps.old
-        → ((step : Step) → HasStep steps.old rule step → IsEarlier production index step) → AreAllInOrder steps.new) }
+        → ((step : UnitStep) → HasStep steps.old rule step → IsEarlier production index step) → AreAllInOrder steps.new) }
     ensures refused { OnErr result ((next : ℕ) × (sym_of S.number symbol ≡ Rule next)) }
 {
     match symbol {
         Symbol::Rule(next) => {
-            let step = Step {
+            let step = UnitStep {
                 rule: usize::from(next),
                 production,
                 index,

@@ -12,19 +12,19 @@ use Rattle.cfgrammar.specs.Numbered.{Numbered, core}
 use Rattle.cfgrammar.specs.Openings.{nth_production}
 use Rattle.cfgrammar.specs.Sentence.{Sentence}
 use Rattle.cfgrammar.specs.StepLists.{HasStep}
-use Rattle.cfgrammar.specs.Step.{Step}
+use Rattle.cfgrammar.specs.UnitStep.{UnitStep}
 use Rattle.cfgfindings.specs.SinkGroups.{Needs}
 use Rattle.cfgfindings.specs.Inner.SinkGroups.{AreNeeds, AreNeedsBelow, IsNeededIn, NeedsBy, Puts, StepsTo}
 use Rattle.cfgfindings.proofs.Read.{has_read, production_there}
 
-puts_none : (Put : ℕ → ℕ → Type 0) (steps : List (List Step)) → ((a b : ℕ) → Put a b → ⊥) → Puts Put steps steps
+puts_none : (Put : ℕ → ℕ → Type 0) (steps : List (List UnitStep)) → ((a b : ℕ) → Put a b → ⊥) → Puts Put steps steps
 puts_none Put steps none = record {
   shape = refl;
   within = λ within. within;
   steps = λ a b. (λ h. inl h, λ h. elim h [ inl i ↦ i | inr i ↦ absurd (none a b i) ]);
 }
 
-puts_as : (Put Put' : ℕ → ℕ → Type 0) (old new : List (List Step)) → ((a b : ℕ) → Put a b → Put' a b) → ((a b : ℕ) → Put' a b → Put a b)
+puts_as : (Put Put' : ℕ → ℕ → Type 0) (old new : List (List UnitStep)) → ((a b : ℕ) → Put a b → Put' a b) → ((a b : ℕ) → Put' a b → Put a b)
     → Puts Put old new → Puts Put' old new
 puts_as Put Put' old new to from w = record {
   shape = w.shape;
@@ -35,7 +35,7 @@ puts_as Put Put' old new to from w = record {
   );
 }
 
-puts_then : (Put Put' : ℕ → ℕ → Type 0) (old mid new : List (List Step)) → Puts Put old mid → Puts Put' mid new → Puts (λ a b. Put a b ⊎ Put' a b) old new
+puts_then : (Put Put' : ℕ → ℕ → Type 0) (old mid new : List (List UnitStep)) → Puts Put old mid → Puts Put' mid new → Puts (λ a b. Put a b ⊎ Put' a b) old new
 puts_then Put Put' old mid new w v = record {
   shape = v.shape ∙ w.shape;
   within = λ within. v.within (w.within within);
@@ -51,19 +51,19 @@ puts_then Put Put' old mid new w v = record {
   );
 }
 
-module _ (old new : List (List Step)) (rule : ℕ) (step : Step) (within : rule < length old) (to_within : step.rule < length old)
+module _ (old new : List (List UnitStep)) (rule : ℕ) (step : UnitStep) (within : rule < length old) (to_within : step.rule < length old)
     (is : new ≡ slice_set old rule (get_or old rule [] ++ step ∷ [])) where
-  abbrev list : List Step
+  abbrev list : List UnitStep
   list = get_or old rule [] ++ step ∷ []
 
-  set : List (List Step)
+  set : List (List UnitStep)
   set = slice_set old rule list
 
-  at_rule : (s : Step) → Contains list s → HasStep (slice_set old rule list) rule s
+  at_rule : (s : UnitStep) → Contains list s → HasStep (slice_set old rule list) rule s
   at_rule s h = subst (λ l. Contains l s) (sym (get_or-set_same old rule list [] within)) h
 
   -- a step of the new lists is an old one, or the one that was put
-  new_cases : (a : ℕ) (s : Step) → HasStep (slice_set old rule list) a s → HasStep old a s ⊎ ((a ≡ rule) × (s ≡ step))
+  new_cases : (a : ℕ) (s : UnitStep) → HasStep (slice_set old rule list) a s → HasStep old a s ⊎ ((a ≡ rule) × (s ≡ step))
   new_cases a s h = elim (get_or-set old rule a list []) [
     | inl e ↦ inl (subst (λ l. Contains l s) e h)
     | inr e ↦ elim (Contains-push_cases (get_or old rule []) step s (subst (λ l. Contains l s) e.1 h)) [
@@ -72,7 +72,7 @@ module _ (old new : List (List Step)) (rule : ℕ) (step : Step) (within : rule 
     ]
   ]
 
-  still : (a : ℕ) (s : Step) → HasStep old a s → HasStep (slice_set old rule list) a s
+  still : (a : ℕ) (s : UnitStep) → HasStep old a s → HasStep (slice_set old rule list) a s
   still a s h = elim (cases_eq a rule) [
     | inl e ↦ subst (λ n. HasStep (slice_set old rule list) n s) (sym e)
         (at_rule s (Contains-append_left (get_or old rule []) (step ∷ []) s (subst (λ n. HasStep old n s) e h)))
@@ -84,7 +84,7 @@ module _ (old new : List (List Step)) (rule : ℕ) (step : Step) (within : rule 
     shape = length-set old rule list;
     within = λ w a s h. subst (λ n. s.rule < n) (sym (length-set old rule list)) (elim (new_cases a s h) [
       | inl i ↦ w a s i
-      | inr i ↦ subst (λ (x : Step). x.rule < length old) (sym i.1) to_within
+      | inr i ↦ subst (λ (x : UnitStep). x.rule < length old) (sym i.1) to_within
     ]);
     steps = λ a b. (to a b, from a b);
   })
@@ -92,7 +92,7 @@ module _ (old new : List (List Step)) (rule : ℕ) (step : Step) (within : rule 
       to : (a b : ℕ) → StepsTo (slice_set old rule list) a b → StepsTo old a b ⊎ ((a ≡ rule) × (b ≡ step.rule))
       to a b h = elim (new_cases a h.step h.has) [
         | inl i ↦ inl (record { step = h.step; has = i; to = h.to })
-        | inr i ↦ inr (i.0, sym h.to ∙ ap (λ (x : Step). x.rule) i.1)
+        | inr i ↦ inr (i.0, sym h.to ∙ ap (λ (x : UnitStep). x.rule) i.1)
       ]
 
       from : (a b : ℕ) → StepsTo old a b ⊎ ((a ≡ rule) × (b ≡ step.rule)) → StepsTo (slice_set old rule list) a b
@@ -109,7 +109,7 @@ module _ (g : Numbered) where
 
   -- steps to the unproductive rules among the first symbols, and then to the next one if it is such a rule
   more_needed : {A : Type 0} (f : A → Sym) (xs : List A) (n : ℕ) (x : A) → n < length xs → x ≡ get_or xs n x → (rule : ℕ) (Next : ℕ → Type 0)
-      → ((b : ℕ) → Next b → (f x ≡ Rule b) × IsUnproductive b) → ((b : ℕ) → f x ≡ Rule b → IsUnproductive b → Next b) → (old mid new : List (List Step))
+      → ((b : ℕ) → Next b → (f x ≡ Rule b) × IsUnproductive b) → ((b : ℕ) → f x ≡ Rule b → IsUnproductive b → Next b) → (old mid new : List (List UnitStep))
       → Puts (λ a b. (a ≡ rule) × IsNeededIn g (map f (take n xs)) b) old mid → Puts (λ a b. (a ≡ rule) × Next b) mid new
       → Puts (λ a b. (a ≡ rule) × IsNeededIn g (map f (take (n + 1) xs)) b) old new
   more_needed f xs n x lt is rule Next next known old mid new before put = puts_as _ _ old new to from (puts_then _ _ old mid new before put)
@@ -140,9 +140,9 @@ module _ (g : Numbered) where
         | inr i ↦ inr (h.0, known b (contains_one (f x) (Rule b) i) h.1.needed)
       ]
 
-  module _ {A : Type 0} (f : A → Sym) (xs : List A) (n : ℕ) (x : A) (lt : n < length xs) (is : x ≡ get_or xs n x) (rule : ℕ) (old mid new : List (List Step)) where
+  module _ {A : Type 0} (f : A → Sym) (xs : List A) (n : ℕ) (x : A) (lt : n < length xs) (is : x ≡ get_or xs n x) (rule : ℕ) (old mid new : List (List UnitStep)) where
     -- the next one is an unproductive rule, and a step to it is put
-    pub needed_put : (q : ℕ) → f x ≡ Rule q → IsUnproductive q → (step : Step) → step.rule ≡ q → rule < length mid → q < length mid
+    pub needed_put : (q : ℕ) → f x ≡ Rule q → IsUnproductive q → (step : UnitStep) → step.rule ≡ q → rule < length mid → q < length mid
         → new ≡ slice_set mid rule (get_or mid rule [] ++ step ∷ [])
         → Puts (λ a b. (a ≡ rule) × IsNeededIn g (map f (take n xs)) b) old mid → Puts (λ a b. (a ≡ rule) × IsNeededIn g (map f (take (n + 1) xs)) b) old new
     needed_put q at none step to within to_within put before = more_needed f xs n x lt is rule (λ b. b ≡ step.rule) next known old mid new before
@@ -167,7 +167,7 @@ module _ (g : Numbered) where
   IsBelow rules productions a b = ((a < rules) × IsUnproductive a × (b ≡ a)) ⊎ ((p : ℕ) × (p < productions) × NeedsBy g p a b)
 
   needs_more : (rules productions rules' productions' : ℕ) (Put : ℕ → ℕ → Type 0) → ((a b : ℕ) → IsBelow rules productions a b ⊎ Put a b → IsBelow rules' productions' a b)
-      → ((a b : ℕ) → IsBelow rules' productions' a b → IsBelow rules productions a b ⊎ Put a b) → (old new : List (List Step))
+      → ((a b : ℕ) → IsBelow rules' productions' a b → IsBelow rules productions a b ⊎ Put a b) → (old new : List (List UnitStep))
       → AreNeedsBelow g rules productions old → Puts Put old new → AreNeedsBelow g rules' productions' new
   needs_more rules productions rules' productions' Put to from old new are put = record {
     entries = put.shape ∙ are.entries;
@@ -179,7 +179,7 @@ module _ (g : Numbered) where
   }
 
   -- steps by one more production
-  pub one_more_production : (rules p : ℕ) (old new : List (List Step)) → AreNeedsBelow g rules p old → Puts (NeedsBy g p) old new → AreNeedsBelow g rules (p + 1) new
+  pub one_more_production : (rules p : ℕ) (old new : List (List UnitStep)) → AreNeedsBelow g rules p old → Puts (NeedsBy g p) old new → AreNeedsBelow g rules (p + 1) new
   one_more_production rules p = needs_more rules p rules (p + 1) (NeedsBy g p) to from
     where
       to : (a b : ℕ) → IsBelow rules p a b ⊎ NeedsBy g p a b → IsBelow rules (p + 1) a b
@@ -196,7 +196,7 @@ module _ (g : Numbered) where
 
   -- the step of one more rule to itself, if it is unproductive
   one_more_rule : (rule : ℕ) (Put : ℕ → ℕ → Type 0) → ((a b : ℕ) → Put a b → (a ≡ rule) × IsUnproductive a × (b ≡ a)) → ((a b : ℕ) → (a ≡ rule) × IsUnproductive a × (b ≡ a) → Put a b)
-      → (old new : List (List Step)) → AreNeedsBelow g rule 0 old → Puts Put old new → AreNeedsBelow g (rule + 1) 0 new
+      → (old new : List (List UnitStep)) → AreNeedsBelow g rule 0 old → Puts Put old new → AreNeedsBelow g (rule + 1) 0 new
   one_more_rule rule Put known as_put = needs_more rule 0 (rule + 1) 0 Put to from
     where
       to : (a b : ℕ) → IsBelow rule 0 a b ⊎ Put a b → IsBelow (rule + 1) 0 a b
@@ -211,20 +211,20 @@ module _ (g : Numbered) where
       ]
       from a b (inr (q, lt, by)) = absurd (omega (arith, lt))
 
-  pub rule_put : (rule k : ℕ) → k ≡ rule → IsUnproductive k → (old new : List (List Step)) (step : Step) → step.rule ≡ rule → rule < length old
+  pub rule_put : (rule k : ℕ) → k ≡ rule → IsUnproductive k → (old new : List (List UnitStep)) (step : UnitStep) → step.rule ≡ rule → rule < length old
       → new ≡ slice_set old rule (get_or old rule [] ++ step ∷ []) → AreNeedsBelow g rule 0 old → AreNeedsBelow g (rule + 1) 0 new
   rule_put rule k same none old new step to within put before = one_more_rule rule (λ a b. (a ≡ rule) × (b ≡ step.rule))
       (λ a b h. (h.0, subst IsUnproductive (same ∙ sym h.0) none, h.1 ∙ to ∙ sym h.0)) (λ a b h. (h.0, h.2 ∙ h.0 ∙ sym to)) old new before
       (puts_one old new rule step within (subst (λ n. n < length old) (sym to) within) put)
 
-  pub rule_left_out : (rule k : ℕ) → k ≡ rule → (w : List ℕ) × Sentence (HasProduction (core g)) k w → (old new : List (List Step)) → new ≡ old
+  pub rule_left_out : (rule k : ℕ) → k ≡ rule → (w : List ℕ) × Sentence (HasProduction (core g)) k w → (old new : List (List UnitStep)) → new ≡ old
       → AreNeedsBelow g rule 0 old → AreNeedsBelow g (rule + 1) 0 new
   rule_left_out rule k same (w, has) old new is before = one_more_rule rule (λ a b. ⊥) (λ a b h. absurd h)
       (λ a b h. h.1 w (subst (λ r. Sentence (HasProduction (core g)) r w) (same ∙ sym h.0) has)) old new before
       (subst (Puts (λ a b. ⊥) old) (sym is) (puts_none (λ a b. ⊥) old (λ a b h. h)))
 
   -- by all productions a rule needs just the rules that it needs
-  pub all_needs : (steps : List (List Step)) → AreNeedsBelow g (length g.rules) (length g.productions) steps → AreNeeds g steps
+  pub all_needs : (steps : List (List UnitStep)) → AreNeedsBelow g (length g.rules) (length g.productions) steps → AreNeeds g steps
   all_needs steps below = record {
     entries = below.entries;
     within = below.within;

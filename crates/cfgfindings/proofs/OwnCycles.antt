@@ -16,14 +16,14 @@ use Rattle.cfgrammar.specs.CyclicGroups.{AreGroups, IsFirst, IsGroup, IsGroupOf,
 use Rattle.cfgrammar.specs.StepLists.{HasStep}
 use Rattle.cfgrammar.specs.StepPaths.{IsCycle, IsShortestCycle, Leads}
 use Rattle.cfgrammar.specs.UnitSteps.{AreSteps, IsStep}
-use Rattle.cfgrammar.specs.Step.{Step}
+use Rattle.cfgrammar.specs.UnitStep.{UnitStep}
 use Rattle.cfgfindings.specs.Findings.{DeriveEachOther, IsCyclicGroup, ReportsGroup, rules_added}
 use Rattle.cfgfindings.specs.Shown.{ShownFinding, cyclic_finding}
 use Rattle.cfgfindings.specs.Inner.CyclicRules.{AreOwnGroups, IsSomeStep}
 
 -- paths after others
-module _ (Has : ℕ → Step → Type 0) where
-  leads_through : (a : ℕ) (path : List Step) (b : ℕ) (more : List Step) (c : ℕ) → Leads Has a path b → Leads Has b more c → Leads Has a (path ++ more) c
+module _ (Has : ℕ → UnitStep → Type 0) where
+  leads_through : (a : ℕ) (path : List UnitStep) (b : ℕ) (more : List UnitStep) (c : ℕ) → Leads Has a path b → Leads Has b more c → Leads Has a (path ++ more) c
   leads_through a [] b more c same l = subst (λ n. Leads Has n more c) (sym same) l
   leads_through a (step ∷ path) b more c l m = (l.0, leads_through step.rule path b more c l.1 m)
 
@@ -35,12 +35,12 @@ module _ (Has : ℕ → Step → Type 0) where
   }
 
 -- steps that are also others
-module _ (Has Has' : ℕ → Step → Type 0) (to : (rule : ℕ) (step : Step) → Has rule step → Has' rule step) where
-  leads_as : (a : ℕ) (path : List Step) (b : ℕ) → Leads Has a path b → Leads Has' a path b
+module _ (Has Has' : ℕ → UnitStep → Type 0) (to : (rule : ℕ) (step : UnitStep) → Has rule step → Has' rule step) where
+  leads_as : (a : ℕ) (path : List UnitStep) (b : ℕ) → Leads Has a path b → Leads Has' a path b
   leads_as a [] b same = same
   leads_as a (step ∷ path) b (first, rest) = (to a step first, leads_as step.rule path b rest)
 
-  pub cycle_as : (rule : ℕ) (path : List Step) → IsCycle Has rule path → IsCycle Has' rule path
+  pub cycle_as : (rule : ℕ) (path : List UnitStep) → IsCycle Has rule path → IsCycle Has' rule path
   cycle_as rule path l = record { some = l.some; leads = leads_as rule path rule l.leads }
 
   leads_to_as : (a b : ℕ) → LeadsTo Has a b → LeadsTo Has' a b
@@ -50,8 +50,8 @@ module _ (Has Has' : ℕ → Step → Type 0) (to : (rule : ℕ) (step : Step) �
   common_as a b h = record { there = leads_to_as a b h.there; back = leads_to_as b a h.back }
 
 -- the same steps
-module _ (Has Has' : ℕ → Step → Type 0) (to : (rule : ℕ) (step : Step) → Has rule step → Has' rule step) (from : (rule : ℕ) (step : Step) → Has' rule step → Has rule step) where
-  pub shortest_as : (rule : ℕ) (path : List Step) → IsShortestCycle Has rule path → IsShortestCycle Has' rule path
+module _ (Has Has' : ℕ → UnitStep → Type 0) (to : (rule : ℕ) (step : UnitStep) → Has rule step → Has' rule step) (from : (rule : ℕ) (step : UnitStep) → Has' rule step → Has rule step) where
+  pub shortest_as : (rule : ℕ) (path : List UnitStep) → IsShortestCycle Has rule path → IsShortestCycle Has' rule path
   shortest_as rule path s = record {
     itself = cycle_as Has Has' to rule path s.itself;
     least = λ other l. s.least other (cycle_as Has' Has from rule other l);
@@ -70,7 +70,7 @@ module _ (Has Has' : ℕ → Step → Type 0) (to : (rule : ℕ) (step : Step) �
   }
 
 -- the groups by the steps of a grammar are its groups
-pub own_groups : (g : Numbered) (steps : List (List Step)) → AreSteps (core g) steps → (groups : List (Option CyclicGroup))
+pub own_groups : (g : Numbered) (steps : List (List UnitStep)) → AreSteps (core g) steps → (groups : List (Option CyclicGroup))
     → AreGroups (HasStep steps) (length steps) groups → AreOwnGroups g steps groups
 own_groups g steps are groups h = record {
   are_steps = are;
@@ -82,12 +82,12 @@ own_groups g steps are groups h = record {
 }
 
 -- a shortest cycle by the steps of a grammar
-pub own_shortest : (g : Numbered) (steps : List (List Step)) → AreSteps (core g) steps → (rule : ℕ) (path : List Step)
+pub own_shortest : (g : Numbered) (steps : List (List UnitStep)) → AreSteps (core g) steps → (rule : ℕ) (path : List UnitStep)
     → IsShortestCycle (HasStep steps) rule path → IsShortestCycle (IsStep (core g)) rule path
 own_shortest g steps are = shortest_as (HasStep steps) (IsStep (core g)) (λ a step. (are.all a step).0) (λ a step. (are.all a step).1)
 
 -- each step of a path is a step of some rule
-pub steps_of_path : (g : Numbered) (a : ℕ) (path : List Step) (b : ℕ) → Leads (IsStep (core g)) a path b → All (IsSomeStep g) path
+pub steps_of_path : (g : Numbered) (a : ℕ) (path : List UnitStep) (b : ℕ) → Leads (IsStep (core g)) a path b → All (IsSomeStep g) path
 steps_of_path g a [] b same = All-nil (IsSomeStep g)
 steps_of_path g a (step ∷ path) b (first, rest) = All-cons (IsSomeStep g) step path (a, first) (steps_of_path g step.rule path b rest)
 
@@ -138,7 +138,7 @@ module _ (law : (g : Grammar) (a b : ℕ) → LeadsTo (IsStep g) a b ↔ Derives
     least = λ other h. is.least other (derive_each_other first other h);
   })
 
-  module _ (steps : List (List Step)) (are : AreSteps (core g) steps) (first : ℕ) (rules : List ℕ) (cycle : List Step)
+  module _ (steps : List (List UnitStep)) (are : AreSteps (core g) steps) (first : ℕ) (rules : List ℕ) (cycle : List UnitStep)
       (group : IsGroup (IsStep (core g)) first rules cycle) (own : List ℕ) (is : own ≡ filter (λ rule. leb (rules_added g) rule) rules) where
     abbrev test : ℕ → Bool
     test rule = leb (rules_added g) rule
@@ -171,7 +171,7 @@ module _ (law : (g : Grammar) (a b : ℕ) → LeadsTo (IsStep g) a b ↔ Derives
     own_within k d lt = let l = (common (get_or own k d) (k, lt, get_or_default own k _ d lt)).1.there in
         inside first l.path (get_or own k d) l.some l.leads
       where
-        inside : (a : ℕ) (path : List Step) (b : ℕ) → 0 < length path → Leads (IsStep (core g)) a path b → b < length g.rules
+        inside : (a : ℕ) (path : List UnitStep) (b : ℕ) → 0 < length path → Leads (IsStep (core g)) a path b → b < length g.rules
         inside a [] b some l = absurd (omega (arith, some))
         inside a (step ∷ []) b some l = subst (λ n. n < length g.rules) l.1 (subst (λ n. step.rule < n) are.rules (are.within a step ((are.all a step).1 l.0)))
         inside a (step ∷ next ∷ path) b some l = inside step.rule (next ∷ path) b (omega arith) l.1
@@ -185,7 +185,7 @@ module _ (law : (g : Grammar) (a b : ℕ) → LeadsTo (IsStep g) a b ↔ Derives
         no_first (y ∷ xs) x e c = let same : Some y ≡ None = e in absurd (cc)
 
     -- it has rules of the file, the first of which has this cycle
-    pub reports_own : (r : ℕ) → slice_get own 0 ≡ Some r → (path : List Step) → IsShortestCycle (IsStep (core g)) r path → (finding : ShownFinding)
+    pub reports_own : (r : ℕ) → slice_get own 0 ≡ Some r → (path : List UnitStep) → IsShortestCycle (IsStep (core g)) r path → (finding : ShownFinding)
         → finding ≡ cyclic_finding g r own path → ReportsGroup g first (Some finding)
     reports_own r head path shortest finding shown = go own own_group head shown
       where
@@ -203,7 +203,7 @@ module _ (law : (g : Grammar) (a b : ℕ) → LeadsTo (IsStep g) a b ↔ Derives
     head_within r head = subst (λ n. n < length g.rules) (get_or_from_slice_get own 0 r r head) (own_within 0 r (slice_get_within own 0 r head))
 
     -- so it has a cycle
-    pub own_cycle : (r : ℕ) → slice_get own 0 ≡ Some r → (path : List Step) × IsCycle (IsStep (core g)) r path
+    pub own_cycle : (r : ℕ) → slice_get own 0 ≡ Some r → (path : List UnitStep) × IsCycle (IsStep (core g)) r path
     own_cycle r head =
         let h = (common r (head_in r head)).1 in
         let l = leads_to_through (IsStep (core g)) r first r h.back h.there in

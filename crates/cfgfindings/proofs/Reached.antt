@@ -14,7 +14,7 @@ use Rattle.cfgrammar.specs.Symbol.{Symbol}
 use Rattle.cfgrammar.specs.Symbol.TheVariants as symbols
 use Rattle.cfgrammar.specs.Uses.{IsUsable}
 use Rattle.cfgfindings.specs.Useless.{IsReachable, IsUseless}
-use Rattle.cfgfindings.specs.Inner.Reached.{AreReached, HeldAt, IsEdge, IsFollowed, IsFollowedAt, IsNodeOf, Knows, node_of}
+use Rattle.cfgfindings.specs.Inner.Reached.{AreReached, RefersAt, IsEdge, IsFollowed, IsFollowedAt, IsNodeOf, Knows, node_of}
 use Rattle.cfgfindings.specs.Inner.Unproductive.{UnproductiveOrNot}
 use Rattle.cfgfindings.proofs.Unusable.{UsesByRules}
 
@@ -90,21 +90,21 @@ module _ (g : Numbered) (is : IsGrammar (core g)) where
 module _ (g : Numbered) (only_usable : Bool) where
   -- a production that is followed has its symbols' nodes, and another none
   pub held_if_followed : (p : ℕ) (symbols : List Sym) → (nth_production (core g) p).symbols ≡ symbols → IsFollowedAt g only_usable p → (old new : SearchState)
-      → Reaches (FoundBy (IsNodeOf g) symbols) old new → Reaches (HeldAt g only_usable p) old new
+      → Reaches (FoundBy (IsNodeOf g) symbols) old new → Reaches (RefersAt g only_usable p) old new
   held_if_followed p symbols read followed old new w = reaches_as _ _ old new
       (λ n h. record { followed = followed; holds = subst (λ l. FoundBy (IsNodeOf g) l n) (sym read) h })
       (λ n h. subst (λ l. FoundBy (IsNodeOf g) l n) read h.holds)
       w
 
-  pub held_unless_followed : (p : ℕ) → (IsFollowedAt g only_usable p → ⊥) → (x : SearchState) → Reaches (HeldAt g only_usable p) x x
-  held_unless_followed p unfollowed x = reaches_known _ x (λ n h. absurd (unfollowed h.followed))
+  pub referred_unless_followed : (p : ℕ) → (IsFollowedAt g only_usable p → ⊥) → (x : SearchState) → Reaches (RefersAt g only_usable p) x x
+  referred_unless_followed p unfollowed x = reaches_known _ x (λ n h. absurd (unfollowed h.followed))
 
   -- the productions of a rule have the nodes that its node leads to
   pub edges_of_rule : (rule : ℕ) → rule < length g.rules → (positions : List ℕ) → ArePositionsOf (core g) rule positions → (old new : SearchState)
-      → Reaches (FoundBy (HeldAt g only_usable) positions) old new → Reaches (IsEdge g only_usable rule) old new
+      → Reaches (FoundBy (RefersAt g only_usable) positions) old new → Reaches (IsEdge g only_usable rule) old new
   edges_of_rule rule within positions are old new w = reaches_as _ _ old new to from w
     where
-      to : (n : ℕ) → FoundBy (HeldAt g only_usable) positions n → IsEdge g only_usable rule n
+      to : (n : ℕ) → FoundBy (RefersAt g only_usable) positions n → IsEdge g only_usable rule n
       to n h =
           let p = h.thing in
           let there = All-contains (λ p. p < length (core g).productions) positions p are.within h.among in
@@ -117,7 +117,7 @@ module _ (g : Numbered) (only_usable : Bool) where
             is = h.finds.holds.finds;
           }
 
-      from : (n : ℕ) → IsEdge g only_usable rule n → FoundBy (HeldAt g only_usable) positions n
+      from : (n : ℕ) → IsEdge g only_usable rule n → FoundBy (RefersAt g only_usable) positions n
       from n h =
           let (symbols, followed, held) = h.leads in
           let (p, there, at) = has_followed g only_usable rule symbols followed in

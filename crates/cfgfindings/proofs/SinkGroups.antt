@@ -14,35 +14,35 @@ use Rattle.cfgrammar.specs.CyclicGroup.{CyclicGroup}
 use Rattle.cfgrammar.specs.CyclicGroups.{AreGroups, IsGroup, IsGroupOf, IsInGroup, IsInOneGroup, LeadsTo, OnCommonCycle}
 use Rattle.cfgrammar.specs.StepLists.{AreWithin, HasStep}
 use Rattle.cfgrammar.specs.StepPaths.{Leads}
-use Rattle.cfgrammar.specs.Step.{Step}
+use Rattle.cfgrammar.specs.UnitStep.{UnitStep}
 use Rattle.cfgfindings.specs.SinkGroups.{DependsOn, IsInSinkGroup}
 use Rattle.cfgfindings.specs.Inner.SinkGroups.{AllLeadTo, AreFirsts, AreGroupOf, AreNeeds, AreSinkGroups, IsClosed, IsFirstOf, IsInClosed, IsMarked, IsSinkGroupOf, IsSet, LeadTo, StepsTo}
 use Rattle.cfgfindings.proofs.OwnCycles.{leads_to_through}
 
 -- the group at an index
-pub group_at : (steps : List (List Step)) (groups : List (Option CyclicGroup)) → AreGroups (HasStep steps) (length steps) groups → (first : ℕ) (group : CyclicGroup)
+pub group_at : (steps : List (List UnitStep)) (groups : List (Option CyclicGroup)) → AreGroups (HasStep steps) (length steps) groups → (first : ℕ) (group : CyclicGroup)
     → slice_get groups first ≡ Some (Some group) → IsGroup (HasStep steps) first group.rules.items group.cycle.items
 group_at steps groups are first group at =
     subst (IsGroupOf (HasStep steps) first) (get_or_from_slice_get groups first (Some group) None at)
     (are.each first (subst (λ n. first < n) are.entries (slice_get_within groups first (Some group) at)))
 
 -- rules that lead to others by steps have lists
-module _ (steps : List (List Step)) (within : AreWithin steps) where
-  leads_within : (a : ℕ) (path : List Step) (b : ℕ) → a < length steps → Leads (HasStep steps) a path b → b < length steps
+module _ (steps : List (List UnitStep)) (within : AreWithin steps) where
+  leads_within : (a : ℕ) (path : List UnitStep) (b : ℕ) → a < length steps → Leads (HasStep steps) a path b → b < length steps
   leads_within a [] b lt same = subst (λ n. n < length steps) same lt
   leads_within a (step ∷ path) b lt l = leads_within step.rule path b (within a step l.0) l.1
 
   leads_to_within : (a b : ℕ) → LeadsTo (HasStep steps) a b → b < length steps
   leads_to_within a b l = go l.path l.some l.leads
     where
-      go : (path : List Step) → 0 < length path → Leads (HasStep steps) a path b → b < length steps
+      go : (path : List UnitStep) → 0 < length path → Leads (HasStep steps) a path b → b < length steps
       go [] some leads = absurd (omega (arith, some))
       go (step ∷ path) some leads = leads_within step.rule path b (within a step leads.0) leads.1
 
-  pub members_within : (first : ℕ) (rules : List ℕ) (cycle : List Step) → IsGroup (HasStep steps) first rules cycle → All (λ rule. rule < length steps) rules
+  pub members_within : (first : ℕ) (rules : List ℕ) (cycle : List UnitStep) → IsGroup (HasStep steps) first rules cycle → All (λ rule. rule < length steps) rules
   members_within first rules cycle group k d lt = leads_to_within first (get_or rules k d) ((group.all (get_or rules k d)).0 (k, lt, get_or_default rules k _ d lt)).there
 
-module _ (g : Numbered) (steps : List (List Step)) (are : AreNeeds g steps) where
+module _ (g : Numbered) (steps : List (List UnitStep)) (are : AreNeeds g steps) where
   abbrev Depends : ℕ → ℕ → Type 0
   Depends = DependsOn (HasProduction (core g))
 
@@ -65,7 +65,7 @@ module _ (g : Numbered) (steps : List (List Step)) (are : AreNeeds g steps) wher
   depends_on_next : (a b : ℕ) → a < length g.rules → StepsTo steps a b → Depends a b
   depends_on_next a b lt to = elim ((are.are a b lt).0 to).1 [ inl same ↦ seed same | inr needs ↦ led (depends_itself a) needs ]
 
-  depends_by : (a : ℕ) (path : List Step) (b : ℕ) → a < length steps → Leads (HasStep steps) a path b → Depends a b
+  depends_by : (a : ℕ) (path : List UnitStep) (b : ℕ) → a < length steps → Leads (HasStep steps) a path b → Depends a b
   depends_by a [] b lt same = seed (sym same)
   depends_by a (step ∷ path) b lt l = depends_through
       (depends_on_next a step.rule (subst (λ n. a < n) are.entries lt) (record { step = step; has = l.0; to = refl }))
@@ -74,7 +74,7 @@ module _ (g : Numbered) (steps : List (List Step)) (are : AreNeeds g steps) wher
   unproductive_by : (a b : ℕ) → a < length steps → LeadsTo (HasStep steps) a b → IsUnproductive a
   unproductive_by a b lt l = go l.path l.some l.leads
     where
-      go : (path : List Step) → 0 < length path → Leads (HasStep steps) a path b → IsUnproductive a
+      go : (path : List UnitStep) → 0 < length path → Leads (HasStep steps) a path b → IsUnproductive a
       go [] some leads = absurd (omega (arith, some))
       go (step ∷ path) some leads = ((are.are a step.rule (subst (λ n. a < n) are.entries lt)).0 (record { step = step; has = leads.0; to = refl })).0
 
@@ -89,7 +89,7 @@ module _ (g : Numbered) (steps : List (List Step)) (are : AreNeeds g steps) wher
       let inside = subst (λ n. x < n) are.entries (leads_to_within steps are.within a x on) in
       leads_to_through (HasStep steps) a x b on (by_one x b ((are.are x b inside).1 (needs.unproductive, inr needs)))
 
-  module _ (first : ℕ) (lt : first < length steps) (rules : List ℕ) (cycle : List Step) (group : IsGroup (HasStep steps) first rules cycle)
+  module _ (first : ℕ) (lt : first < length steps) (rules : List ℕ) (cycle : List UnitStep) (group : IsGroup (HasStep steps) first rules cycle)
       (r : ℕ) (has : Contains rules r) where
     -- a rule of the group: it depends on the first one, and the first one on it
     record IsMember (q : ℕ) : Type 0 where
@@ -140,11 +140,11 @@ module _ (g : Numbered) (steps : List (List Step)) (are : AreNeeds g steps) wher
         is_member b there (depends_through (sink.back b (depends_through (member r has).back there)) (member r has).back)
 
 abbrev pub InOneGroup : Type 0
-InOneGroup = (steps : List (List Step)) (groups : List (Option CyclicGroup)) (rule : ℕ) → AreGroups (HasStep steps) (length steps) groups
+InOneGroup = (steps : List (List UnitStep)) (groups : List (Option CyclicGroup)) (rule : ℕ) → AreGroups (HasStep steps) (length steps) groups
     → OnCommonCycle (HasStep steps) rule rule → IsInOneGroup groups rule
 
 -- the first rules of groups that no step leads out of
-module _ (steps : List (List Step)) (groups : List (Option CyclicGroup)) where
+module _ (steps : List (List UnitStep)) (groups : List (Option CyclicGroup)) where
   pub no_firsts : (firsts : List (Option ℕ)) → firsts ≡ replicate (length groups) None → AreFirsts steps groups 0 firsts
   no_firsts firsts is = record {
     entries = ap length is ∙ length-replicate (length groups) None;
@@ -213,7 +213,7 @@ module _ (steps : List (List Step)) (groups : List (Option CyclicGroup)) where
           ]
 
 -- rules with the entry of a group are those of the group
-module _ (steps : List (List Step)) (rules : List ℕ) (first : ℕ) (old mid : List (Option ℕ)) (set : (rule : ℕ) → IsSet rules (Some first) old mid rule) where
+module _ (steps : List (List UnitStep)) (rules : List ℕ) (first : ℕ) (old mid : List (Option ℕ)) (set : (rule : ℕ) → IsSet rules (Some first) old mid rule) where
   pub marked_closed : ((rule : ℕ) → get_or old rule None ≡ Some first → ⊥) → LeadTo steps mid first rules → IsClosed steps rules
   marked_closed fresh lead a b c to = elim (set b) [
     | inl h ↦ h.0
@@ -234,7 +234,7 @@ set_twice rules one other old mid new rule (inl h) (inr k) = absurd (k.0 h.0)
 set_twice rules one other old mid new rule (inr h) (inr k) = inr (h.0, k.1 ∙ h.1)
 
 -- what is known of all groups of unproductive rules
-module _ (g : Numbered) (steps : List (List Step)) (are : AreNeeds g steps) (law : InOneGroup) (groups : List (Option CyclicGroup))
+module _ (g : Numbered) (steps : List (List UnitStep)) (are : AreNeeds g steps) (law : InOneGroup) (groups : List (Option CyclicGroup))
     (are_groups : AreGroups (HasStep steps) (length steps) groups) where
   there : (r first : ℕ) → IsInGroup groups r first → first < length steps
   there r first within = subst (λ n. first < n) are_groups.entries (slice_get_within groups first (Some within.group) within.is)
@@ -282,7 +282,7 @@ module _ (rules : List ℕ) (n rule : ℕ) (lt : n < length rules) (is : rule �
         ]
   ]
 
-  module _ (steps : List (List Step)) (entries : List (Option ℕ)) (first : ℕ) where
+  module _ (steps : List (List UnitStep)) (entries : List (Option ℕ)) (first : ℕ) where
     pub lead_more_rules : LeadTo steps entries first (take n rules) → AllLeadTo (get_or steps rule []) entries first → LeadTo steps entries first (take (n + 1) rules)
     lead_more_rules before here a b c to = elim ((contains_taken rules n rule lt is a).0 c) [
       | inl i ↦ before a b i to
@@ -292,11 +292,11 @@ module _ (rules : List ℕ) (n rule : ℕ) (lt : n < length rules) (is : rule �
     pub leads_elsewhere : (AllLeadTo (get_or steps rule []) entries first → ⊥) → LeadTo steps entries first rules → ⊥
     leads_elsewhere out lead = out (λ step c. lead rule step.rule (n, lt, sym is) (record { step = step; has = c; to = refl }))
 
-pub lead_more : (steps : List Step) (n : ℕ) (step : Step) → n < length steps → step ≡ get_or steps n step → (entries : List (Option ℕ)) (first : ℕ)
+pub lead_more : (steps : List UnitStep) (n : ℕ) (step : UnitStep) → n < length steps → step ≡ get_or steps n step → (entries : List (Option ℕ)) (first : ℕ)
     → AllLeadTo (take n steps) entries first → get_or entries step.rule None ≡ Some first → AllLeadTo (take (n + 1) steps) entries first
 lead_more steps n step lt is entries first before here s c = elim ((contains_taken steps n step lt is s).0 c) [
   | inl i ↦ before s i
-  | inr e ↦ subst (λ (x : Step). get_or entries x.rule None ≡ Some first) (sym e) here
+  | inr e ↦ subst (λ (x : UnitStep). get_or entries x.rule None ≡ Some first) (sym e) here
 ]
 
 -- what is read of what is known of a sink group

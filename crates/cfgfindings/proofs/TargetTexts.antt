@@ -13,7 +13,7 @@ use Rattle.cfgrammar.specs.NumberedSymbols.{sym_of}
 use Rattle.cfgrammar.specs.Numbered.{Numbered, core}
 use Rattle.cfgrammar.specs.Accessors.{IsSymbolWithin, production_part, rule_part}
 use Rattle.cfgrammar.proofs.Shows.{rule_named}
-use Rattle.cfgrammar.specs.Step.{Step}
+use Rattle.cfgrammar.specs.UnitStep.{UnitStep}
 use Rattle.cfgfindings.specs.Shown.{ShownFinding, cyclic_finding, rule_name, rule_span, step_text, nullable}
 use Rattle.cfgfindings.proofs.Read.{production_there, symbols_read}
 use Rattle.finding_kinds.specs.declared.finding_kind.FindingKind.TheVariants.{CyclicRule}
@@ -22,7 +22,7 @@ regroup : (t a b c d e : List ℕ) → (((t ++ a) ++ b) ++ (c ++ d)) ++ e ≡ t 
 regroup t a b c d e = simp append_assoc
 
 -- the parts of a step's text, one after the other
-pub step_written : (g : Numbered) (step : Step) (prefix back : List Sym) (name before arrow nulled led now : List ℕ)
+pub step_written : (g : Numbered) (step : UnitStep) (prefix back : List Sym) (name before arrow nulled led now : List ℕ)
     → prefix ≡ take step.index (nth_production (core g) step.production).symbols
     → back ≡ drop (step.index + 1) (nth_production (core g) step.production).symbols
     → rule_name g step.rule ≡ name
@@ -48,7 +48,7 @@ rule_among g all within i r at = go (slice_get all i) refl (sym (slice_get-map (
     go (Some (symbols.Token token)) read is = let no : Token token.0 ≡ Rule r = same_Some _ _ is in cc
 
 -- the symbols before and after the index of a step, as they are read
-module _ (g : Numbered) (step : Step) (there : step.production < length (core g).productions) (stored : ℕ) (same : stored ≡ step.production)
+module _ (g : Numbered) (step : UnitStep) (there : step.production < length (core g).productions) (stored : ℕ) (same : stored ≡ step.production)
     (symbols : List (Symbol ℕ)) (read : production_part (λ production. production.symbols) g stored ≡ Some (map (sym_of (λ s. s)) symbols)) where
   abbrev numbered : List Sym
   numbered = map (sym_of {S = ℕ} (λ s. s)) symbols
@@ -90,7 +90,7 @@ quote : (name rest : List ℕ) → (codes "Rule '" ++ (name ++ (codes "' derives
 quote name rest = simp append_assoc
 
 pub target_reported : (g : Numbered) (stored rule : ℕ) → stored ≡ rule → (name : List ℕ) → rule_part (λ rule. rule.name) g stored ≡ Some name
-    → (rules : List ℕ) (spans : List Span) → spans ≡ map (rule_span g) rules → (path : List Step) (begun text : List ℕ)
+    → (rules : List ℕ) (spans : List Span) → spans ≡ map (rule_span g) rules → (path : List UnitStep) (begun text : List ℕ)
     → begun ≡ codes "Rule '" ++ (name ++ (codes "' derives itself: " ++ name)) → text ≡ begun ++ flat_map (step_text g) path
     → (finding : ShownFinding) → finding ≡ record { kind = CyclicRule; spans = spans; text = text } → finding ≡ cyclic_finding g rule rules path
 target_reported g stored rule same name named rules spans located path begun text first written finding is =

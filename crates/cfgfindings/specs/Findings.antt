@@ -8,7 +8,7 @@ use Rattle.cfgrammar.specs.UnitPaths.{DerivesRule, IsCyclic}
 use Rattle.cfgrammar.specs.StepPaths.{IsShortestCycle}
 use Rattle.cfgrammar.specs.UnitSteps.{IsStep}
 use Rattle.cfgrammar.specs.Uses.{IsUsable}
-use Rattle.cfgrammar.specs.Step.{Step}
+use Rattle.cfgrammar.specs.UnitStep.{UnitStep}
 use Rattle.cfgrammar.specs.Span.{Span}
 use Rattle.cfgrammar.specs.Productive.{Productive, Unproductive}
 use Rattle.cfgrammar.specs.Syntax.{Production, Rule as SyntaxRule, Syntax}
@@ -97,7 +97,7 @@ module _ (g : Numbered) where
 
   -- the finding for the group whose first rule has this number, if it has rules of the file: the first of these is r
   abbrev pub ReportsGroup : ℕ → Option ShownFinding → Type 0
-  ReportsGroup first (Some finding) = (r : ℕ) × (others : List ℕ) × (path : List Step) × IsCyclicGroup first (r ∷ others)
+  ReportsGroup first (Some finding) = (r : ℕ) × (others : List ℕ) × (path : List UnitStep) × IsCyclicGroup first (r ∷ others)
       × IsShortestCycle (IsStep (core g)) r path × (finding ≡ cyclic_finding g r (r ∷ others) path)
   ReportsGroup first None = (r : ℕ) (others : List ℕ) → IsCyclicGroup first (r ∷ others) → ⊥
 

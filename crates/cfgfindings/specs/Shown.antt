@@ -4,7 +4,7 @@ use Rattle.std.specs.List.{flat_map}
 use Rattle.std.specs.Option.{option_map_or}
 use Rattle.cfgrammar.specs.FileWords.{Word}
 use Rattle.cfgrammar.specs.Grammar.{Sym, Rule, Token}
-use Rattle.cfgrammar.specs.Step.{Step}
+use Rattle.cfgrammar.specs.UnitStep.{UnitStep}
 use Rattle.cfgrammar.specs.Span.{Span}
 use Rattle.cfgrammar.specs.SpansKind.{SpansKind}
 use Rattle.cfgrammar.specs.SpansKind.TheVariants.{DuplicationError, Error}
@@ -121,13 +121,13 @@ module _ (g : Numbered) where
   nullable symbols = flat_map (λ symbol. codes " [" ++ (sym_name g symbol ++ codes "]")) symbols
 
   -- ` -> ` and the symbols of the step's production: the rule that the step leads to, and the nullable symbols in brackets
-  abbrev pub step_text : Step → List ℕ
+  abbrev pub step_text : UnitStep → List ℕ
   step_text step =
       let symbols = (nth_production (core g) step.production).symbols in
       codes " ->" ++ (nullable (take step.index symbols) ++ (codes " " ++ (rule_name step.rule ++ nullable (drop (step.index + 1) symbols))))
 
   -- that these rules are cyclic, and that the first of them is by this path of steps
-  abbrev pub cyclic_finding : ℕ → List ℕ → List Step → ShownFinding
+  abbrev pub cyclic_finding : ℕ → List ℕ → List UnitStep → ShownFinding
   cyclic_finding r rules path = record {
     kind = CyclicRule;
     spans = map rule_span rules;

@@ -19,7 +19,7 @@ use cfgrammar::laws::unit_steps_are_derivations;
 use cfgrammar::storage::to_storage;
 use cfgrammar::yacc::YaccGrammar;
 use cfgrammar::yacc::cycles::{
-    CyclicGroup, Step, Steps, cyclic_groups, shortest_cycle, unit_steps,
+    CyclicGroup, Steps, UnitStep, cyclic_groups, shortest_cycle, unit_steps,
 };
 use cfgrammar::{PIdx, RIdx, Span, Symbol};
 use std::alloc::{AllocError, Global};
@@ -140,7 +140,7 @@ fn cyclic_group(
     grammar: &YaccGrammar<u32>,
     rule: usize,
     rules: &[usize],
-    path: &[Step],
+    path: &[UnitStep],
 ) -> Result<Finding, AllocError>
     requires rule { rule < length grammar.now.rules }
     requires rules { All (λ r. r < length grammar.now.rules) rules.now }
@@ -177,7 +177,7 @@ pub(crate) fn name_spans(
 fn write_path(
     text: &mut String,
     grammar: &YaccGrammar<u32>,
-    path: &[Step],
+    path: &[UnitStep],
 ) -> Result<(), AllocError>
     requires { All (IsSomeStep grammar.now) path.now }
     ensures { OnOk result (string_bytes text.new ≡ string_bytes text.old ++ flat_map (step_text grammar.now) path.now) }
@@ -189,7 +189,11 @@ fn write_path(
 }
 
 /// Writes the symbols of a step's production: the rule that the step leads to, and the nullable symbols in brackets.
-fn write_step(text: &mut String, grammar: &YaccGrammar<u32>, step: Step) -> Result<(), AllocError>
+fn write_step(
+    text: &mut String,
+    grammar: &YaccGrammar<u32>,
+    step: UnitStep,
+) -> Result<(), AllocError>
     requires { IsSomeStep grammar.now step }
     ensures { OnOk result (string_bytes text.new ≡ string_bytes text.old ++ step_text grammar.now step) }
 {

@@ -12,7 +12,7 @@ ghost use Rattle.cfgfindings.specs.Inner.SinkGroups.{AllLeadTo, IsNeededIn, IsMa
 use crate::sentences::Unproductive;
 use cfgrammar::laws::cyclic_rules_are_in_one_group;
 use cfgrammar::storage::to_storage;
-use cfgrammar::yacc::cycles::{CyclicGroup, Step, Steps, cyclic_groups};
+use cfgrammar::yacc::cycles::{CyclicGroup, Steps, UnitStep, cyclic_groups};
 use cfgrammar::{PIdx, RIdx, Symbol};
 use std::alloc::{AllocError, Global};
 use std::marker::Model;
@@ -151,10 +151,10 @@ fn push_needed(
 }
 
 /// A step to the rule. By which production it leads there doesn't matter.
-fn step_to(rule: usize) -> Step
+fn step_to(rule: usize) -> UnitStep
     ensures { result.rule ≡ rule }
 {
-    Step {
+    UnitStep {
         rule,
         production: 0,
         index: 0,
@@ -224,8 +224,8 @@ fn is_closed(entries: &[Option<usize>], steps: &Steps, rules: &[usize], first: u
 }
 
 /// Whether these steps all lead to rules with this entry.
-fn lead_to(entries: &[Option<usize>], steps: &[Step], first: usize) -> bool
-    requires { (step : Step) → Contains steps.now step → step.rule < length entries.now }
+fn lead_to(entries: &[Option<usize>], steps: &[UnitStep], first: usize) -> bool
+    requires { (step : UnitStep) → Contains steps.now step → step.rule < length entries.now }
     ensures { MatchBool result (AllLeadTo steps.now entries.now first) (AllLeadTo steps.now entries.now first → ⊥) }
 {
     for step in steps {

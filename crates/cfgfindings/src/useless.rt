@@ -7,7 +7,7 @@ ghost use Rattle.cfgrammar.specs.Grammar.{Sym};
 ghost use Rattle.cfgrammar.specs.Numbered.{core};
 ghost use Rattle.cfgrammar.specs.NumberedSymbols.{sym_of};
 ghost use Rattle.cfgfindings.specs.Findings.{ReportsBelow, ReportsUselessRule, ReportsUselessToken};
-ghost use Rattle.cfgfindings.specs.Inner.Reached.{HeldAt, IsFollowedAt, IsNodeOf, Knows, node_of, nodes};
+ghost use Rattle.cfgfindings.specs.Inner.Reached.{RefersAt, IsFollowedAt, IsNodeOf, Knows, node_of, nodes};
 ghost use Rattle.cfgfindings.specs.Inner.Unproductive.{UnproductiveOrNot};
 ghost use Rattle.cfgfindings.specs.Shown.{ShownFinding};
 ghost use Rattle.cfgfindings.specs.Useless.{IsUseless};
@@ -210,10 +210,10 @@ impl<'a> Followed<'a> {
     }
 
     /// Reaches the symbols of the production, if the search follows it.
-    fn reach_held(&self, search: &mut Search, production: PIdx<u32>) -> Result<(), AllocError>
+    fn reach_referred(&self, search: &mut Search, production: PIdx<u32>) -> Result<(), AllocError>
         requires within { production.0 < length self.now.unproductive.now.productions }
         requires nodes { length search.old.reachable ≡ nodes self.now.unproductive.now }
-        ensures { OnOk result (Reaches (HeldAt self.now.unproductive.now self.now.only_usable production.0)
+        ensures { OnOk result (Reaches (RefersAt self.now.unproductive.now self.now.only_usable production.0)
             search.old search.new) }
     {
         if !self.contains(production) {
@@ -239,7 +239,7 @@ impl<'a> Edges<Bits> for Followed<'a> {
             return Ok(());
         }
         for production in grammar.rule_to_prods(RIdx(to_storage(node))) {
-            self.reach_held(search, *production)?;
+            self.reach_referred(search, *production)?;
         }
         Ok(())
     }

@@ -5,8 +5,8 @@ use Rattle.std.proofs.lemmas.List.{length-map, length-append}
 use Rattle.std.proofs.lemmas.List.Elements.{All-nil, All-cons, All-append, All-map, All-from_recursion}
 use Rattle.std.proofs.lemmas.Slice.Zip.{length-zip}
 use Rattle.derivation.specs.Grammar.{Sym, Rule}
-use Rattle.cfgast.specs.Syntax.{Syntax}
-use Rattle.cfgtree.specs.WellFormed.{IsWellFormed}
+use Rattle.cfgitems.specs.Syntax.{Syntax}
+use Rattle.cfgast.specs.WellFormed.{IsWellFormed}
 use Rattle.cfgnumbers.specs.Fits.{productions_after}
 use Rattle.cfgnumbers.specs.Numbered.{NumberedRule, NumberedProduction, rules_before, start_symbols, start_name, implicit_name, implicit_start_name, added_rule, added_rules, added_production, added_productions, numbered_by, file_rule, file_production, file_token, end_token}
 use Rattle.cfgnumbers.proofs.RowLemmas.{added_names, implicit_row}

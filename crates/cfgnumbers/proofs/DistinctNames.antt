@@ -11,9 +11,9 @@ use Rattle.std.proofs.lemmas.Option.{slice_get-map}
 use Rattle.std.proofs.lemmas.Simd.{map-map}
 use Rattle.std.proofs.lemmas.Slice.Zip.{firsts-zip}
 use Rattle.cfgbase.specs.declared.span.Span.{Span}
-use Rattle.cfgast.specs.Syntax.{Syntax}
+use Rattle.cfgitems.specs.Syntax.{Syntax}
 use Rattle.lemmas.proofs.Positions.{position-distinct, position-map}
-use Rattle.cfgtree.specs.Sound.{IsSound}
+use Rattle.cfgast.specs.Sound.{IsSound}
 use Rattle.cfgnumbers.specs.Numbered.{Numbered, NumberedRule, NumberedToken, numbered_by, added_rules, file_rule, file_token, end_token}
 use Rattle.cfgnumbers.specs.Accessors.{rule_part, token_part, has_token_name}
 use Rattle.cfgnumbers.specs.WellNumbered.{HasDistinctNames}

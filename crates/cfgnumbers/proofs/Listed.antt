@@ -1,6 +1,6 @@
 -- Each production of a grammar is in the list of the rule that owns it exactly once, and in no other.
 use Rattle.std.proofs.Common.{ℕ, ◌+◌, ◌<◌, ◌≡◌, List, [], ◌∷◌, ◌++◌, length, map, slice_get, All, Option, Some, None, refl, sym, ap, subst, ◌∙◌, arith, zero, suc, ◌==◌, Bool, true, false, cond, get_or, option_map, append-nil, ◌≢◌, nat_eq, count_by, if◌then◌else◌, eq-eqb}
-use Rattle.cfgast.specs.Syntax as file
+use Rattle.cfgitems.specs.Syntax as file
 use Rattle.std.specs.List.{zip, range_with_len}
 use Rattle.std.specs.Option.{option_map_or}
 use Rattle.std.proofs.lemmas.List.{length-map, map-append}
@@ -13,8 +13,8 @@ use Rattle.std.proofs.lemmas.Bool.Decides.{nat_tests}
 use Rattle.std.proofs.lemmas.List.Sums.{sum_by-cons}
 use Rattle.lemmas.specs.Lists.{positions, positions_from}
 use Rattle.lemmas.proofs.Passing.{positions-map, positions-same}
-use Rattle.cfgast.specs.Syntax.{Syntax, Production}
-use Rattle.cfgtree.specs.WellFormed.{IsWellFormed}
+use Rattle.cfgitems.specs.Syntax.{Syntax, Production}
+use Rattle.cfgast.specs.WellFormed.{IsWellFormed}
 use Rattle.cfgnumbers.specs.Numbered.{NumberedProduction, rules_before, file_production, added_productions, numbered_by, NumberedRule, added_rules, file_rule}
 use Rattle.cfgnumbers.specs.Accessors.{production_part, rule_part}
 use Rattle.cfgnumbers.proofs.Added.{after_implicit}

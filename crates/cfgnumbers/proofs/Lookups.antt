@@ -1,6 +1,6 @@
 -- Where names are found, and the map of tokens by name.
 use Rattle.std.proofs.Common.{◌≡◌, ℕ, Bool, true, List, [], ◌∷◌, ◌++◌, map, position, Some, String, Global, string_bytes, refl, sym, ap, ◌∙◌, ◌+◌, ◌<◌, false, cond, get_or, length, take, slice_get, option_map, Option, Bor, string_eq, subst, arith}
-use Rattle.cfgast.specs.declared.rule.Rule as source
+use Rattle.cfgitems.specs.declared.rule.Rule as source
 use Rattle.std.specs.HashMap as hash
 use Rattle.std.specs.List.{position_or_len, AllByRecursion, IsDistinct}
 use Rattle.std.specs.Map.{keys_of}
@@ -15,9 +15,9 @@ use Rattle.std.proofs.lemmas.Option.{get_or_from_slice_get, slice_get-get_or, sl
 use Rattle.indexmap.proofs.MapLemmas.{distinct-take}
 use Rattle.lemmas.proofs.Positions.{position-map, position-push, first_position, position-distinct}
 use Rattle.lemmas.proofs.Elements.{slice_get_push}
-use Rattle.cfgast.specs.Building.{has_name, has_rule}
-use Rattle.cfgast.specs.Syntax.{Syntax, Rule, index_of}
-use Rattle.cfgast.specs.SyntaxView.{rule_entry}
+use Rattle.cfgitems.specs.Building.{has_name, has_rule}
+use Rattle.cfgitems.specs.Syntax.{Syntax, Rule, index_of}
+use Rattle.cfgitems.specs.SyntaxView.{rule_entry}
 use Rattle.cfgnumbers.specs.Numbered.{NumberedRule, end_token}
 use Rattle.cfgnumbers.specs.Accessors.{has_token_name}
 use Rattle.cfgnumbers.specs.TablesView.{names, rule_view, token_view}

@@ -9,10 +9,10 @@ use Rattle.lemmas.specs.Lists.{pushed}
 use Rattle.lemmas.proofs.Elements.{slice_get_push}
 use Rattle.lemmas.proofs.Pushed.{filter_map-pushed}
 use Rattle.cfgbase.specs.declared.span.Span.{Span}
-use Rattle.cfgast.specs.Building.{has_entry}
-use Rattle.cfgast.specs.Syntax.{Syntax, Symbol, last_of}
-use Rattle.cfgast.specs.SyntaxView.{precedence_entry, printed_entry, span_entry, text_view}
-use Rattle.cfgast.specs.declared.precedence.Precedence.{Precedence}
+use Rattle.cfgitems.specs.Building.{has_entry}
+use Rattle.cfgitems.specs.Syntax.{Syntax, Symbol, last_of}
+use Rattle.cfgitems.specs.SyntaxView.{precedence_entry, printed_entry, span_entry, text_view}
+use Rattle.cfgitems.specs.declared.precedence.Precedence.{Precedence}
 use Rattle.cfgnumbers.specs.Numbered.{precedence_of_token, printed_form, avoids_insert, token_in, last_token}
 use Rattle.cfgnumbers.proofs.Lookups.{is_key}
 

@@ -8,8 +8,8 @@ use Rattle.lemmas.specs.Lists.{positions_from}
 use Rattle.lemmas.proofs.Elements.{element_at}
 use Rattle.lemmas.proofs.Passing.{positions_from-within, positions_from-contains}
 use Rattle.cfgbase.specs.declared.span.Span.{Span}
-use Rattle.cfgast.specs.Syntax.{Rule, Syntax, entry_name}
-use Rattle.cfgtree.specs.WellFormed.{IsWellFormed}
+use Rattle.cfgitems.specs.Syntax.{Rule, Syntax, entry_name}
+use Rattle.cfgast.specs.WellFormed.{IsWellFormed}
 use Rattle.cfgkinds.specs.declared.kind.YaccKind.{YaccKind}
 use Rattle.cfgkinds.specs.declared.kind.YaccKind.TheVariants.{Original, Grmtools, Eco}
 use Rattle.cfgnumbers.specs.Numbered.{implicit_of}

@@ -5,8 +5,8 @@ use Rattle.std.specs.Option.{option_to_list}
 use Rattle.std.proofs.lemmas.List.Elements.{All-nil, All-cons, All-append, All-head, All-tail, All-weaker}
 use Rattle.derivation.specs.Grammar.{Rule}
 use Rattle.cfgwords.specs.FileWords.{Word}
-use Rattle.cfgast.specs.Syntax.{Syntax, Production}
-use Rattle.cfgtree.specs.WellFormed.{IsWellFormed}
+use Rattle.cfgitems.specs.Syntax.{Syntax, Production}
+use Rattle.cfgast.specs.WellFormed.{IsWellFormed}
 use Rattle.cfgnumbers.specs.Numbered.{NumberedProduction, numbered_by, rule_index, rules_before, start_symbols, file_symbols, file_production, added_production, added_productions}
 use Rattle.cfgnumbers.specs.Fits.{Fits, LeavesRoom}
 use Rattle.cfgnumbers.proofs.Added.{All-added, rules_len, tokens_len, productions_len}

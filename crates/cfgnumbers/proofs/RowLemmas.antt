@@ -2,9 +2,9 @@
 use Rattle.std.proofs.Common.{◌≡◌, ℕ, false, cond, List, [], ◌∷◌, ◌++◌, map, String, Global, string_bytes, string_eq, refl, ap, ◌∙◌, ◌+◌, Bool, true, get_or, option_map, Option, Some, None, Bor, Iter, sym, length}
 use Rattle.cfgwords.specs.declared.bytes.ByteClass.TheVariants as bytes
 use Rattle.derivation.specs.Grammar as numbers
-use Rattle.cfgast.specs.declared.precedence.Precedence.{Precedence}
-use Rattle.cfgast.specs.declared.production.Production as source_production
-use Rattle.cfgast.specs.declared.rule.Rule as source
+use Rattle.cfgitems.specs.declared.precedence.Precedence.{Precedence}
+use Rattle.cfgitems.specs.declared.production.Production as source_production
+use Rattle.cfgitems.specs.declared.rule.Rule as source
 use Rattle.std.specs.List.{list_any, range_with_len, zip, AllByRecursion, IsDistinct}
 use Rattle.std.specs.Str.{bytes_eq}
 use Rattle.std.specs.declared.iter.Zip.{Zip}
@@ -30,9 +30,9 @@ use Rattle.cfgindex.specs.declared.idxnewtype.PIdx.{PIdx}
 use Rattle.cfgbase.specs.declared.span.Span.{Span}
 use Rattle.cfgwords.specs.Bytes.{holds}
 use Rattle.constructs.specs.Pieces.{starts}
-use Rattle.cfgast.specs.Syntax.{Syntax, Rule, Production, entry_name}
-use Rattle.cfgast.specs.SyntaxView.{span_entry, rule_entry, rule_view as plain_rule, production_view as plain_production}
-use Rattle.cfgtree.specs.Sound.{IsSound}
+use Rattle.cfgitems.specs.Syntax.{Syntax, Rule, Production, entry_name}
+use Rattle.cfgitems.specs.SyntaxView.{span_entry, rule_entry, rule_view as plain_rule, production_view as plain_production}
+use Rattle.cfgast.specs.Sound.{IsSound}
 use Rattle.cfgnumbers.specs.TablesView.{names, rule_view, token_view}
 use Rattle.cfgnumbers.specs.Numbered.{NumberedRule, NumberedToken, NumberedProduction, added_production, token_index, start_name, implicit_name, implicit_start_name, added_rules, file_rule, file_token, precedence_of_token, printed_form, avoids_insert}
 use Rattle.cfgnumbers.specs.declared.rows.RuleRow.{RuleRow}

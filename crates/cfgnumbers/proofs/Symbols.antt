@@ -5,9 +5,9 @@ use Rattle.std.proofs.lemmas.List.{flat_map_more, length-map, get_or-map}
 use Rattle.std.proofs.lemmas.List as lists
 use Rattle.std.proofs.lemmas.List.Folds.{length-flat_map-take}
 use Rattle.derivation.specs.Grammar.{Sym}
-use Rattle.cfgast.specs.Syntax.{Symbol, Syntax}
-use Rattle.cfgast.specs.SyntaxView.{symbol_view}
-use Rattle.cfgast.specs.declared.symbol.Symbol as source
+use Rattle.cfgitems.specs.Syntax.{Symbol, Syntax}
+use Rattle.cfgitems.specs.SyntaxView.{symbol_view}
+use Rattle.cfgitems.specs.declared.symbol.Symbol as source
 use Rattle.cfgnumbers.specs.Numbered.{file_symbol, file_symbols, spaced}
 use Rattle.cfgnumbers.proofs.Turns.{more_taken}
 

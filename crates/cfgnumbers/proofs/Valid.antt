@@ -4,11 +4,11 @@ use Rattle.std.specs.Option.{option_or, option_and_then}
 use Rattle.std.proofs.lemmas.List.Elements.{All-nil, All-cons, All-contains}
 use Rattle.std.proofs.lemmas.Option.{slice_get-get_or}
 use Rattle.cfgwords.specs.FileWords.{Word}
-use Rattle.cfgast.specs.Building.{has_rule}
-use Rattle.cfgast.specs.Syntax.{Syntax, Production}
-use Rattle.cfgtree.specs.Check.{first_error, start_error, symbol_error, precedence_error, printed_error, production_error, locate_error, rule_error, check_of}
+use Rattle.cfgitems.specs.Building.{has_rule}
+use Rattle.cfgitems.specs.Syntax.{Syntax, Production}
+use Rattle.cfgast.specs.Check.{first_error, start_error, symbol_error, precedence_error, printed_error, production_error, locate_error, rule_error, check_of}
 use Rattle.cfgerrors.specs.Errors.{GrammarError, InvalidStartRule, error_at}
-use Rattle.cfgtree.specs.Sound.{IsSound}
+use Rattle.cfgast.specs.Sound.{IsSound}
 use Rattle.cfgnumbers.specs.Resolved.{IsResolved}
 use Rattle.cfgnumbers.proofs.Positions.{listed_somewhere}
 

@@ -1,6 +1,6 @@
 -- What a grammar refers to exists: its rules and tokens, and the symbols of its productions.
 use Rattle.std.proofs.Common.{◌≡◌, ℕ, ◌+◌, ◌<◌, Bool, true, false, cond, List, [], ◌∷◌, length, get_or, Option, Some, None, All, option_map, refl, sym, subst, ◌∙◌, arith, ltb-true, ◌↔◌, ◌==◌, ◌≤◌, ◌++◌, map, slice_get, IfSome, ap}
-use Rattle.cfgast.specs.Syntax as file
+use Rattle.cfgitems.specs.Syntax as file
 use Rattle.std.specs.List.{zip}
 use Rattle.std.specs.Option.{option_to_list}
 use Rattle.std.specs.Str.{bytes_eq}
@@ -16,14 +16,14 @@ use Rattle.lemmas.proofs.Passing.{positions_from-within}
 use Rattle.lemmas.proofs.Zips.{All-zip}
 use Rattle.cfgwords.specs.FileWords.{Word}
 use Rattle.derivation.specs.Grammar.{Sym, Rule, Token, Grammar, IsSymbolOf}
-use Rattle.cfgast.proofs.Keeps.{All-flat_map}
-use Rattle.cfgast.specs.Building.{has_name, has_rule}
-use Rattle.cfgast.specs.Syntax.{Syntax, Production, Symbol, RuleSymbol, TokenSymbol}
-use Rattle.cfgtree.specs.Check.{symbol_error}
+use Rattle.cfgitems.proofs.Keeps.{All-flat_map}
+use Rattle.cfgitems.specs.Building.{has_name, has_rule}
+use Rattle.cfgitems.specs.Syntax.{Syntax, Production, Symbol, RuleSymbol, TokenSymbol}
+use Rattle.cfgast.specs.Check.{symbol_error}
 use Rattle.cfgerrors.specs.Errors.{GrammarError, UnknownRuleRef, UnknownToken, error_at}
-use Rattle.cfgtree.specs.Sound.{IsSound}
+use Rattle.cfgast.specs.Sound.{IsSound}
 use Rattle.cfgbase.specs.declared.span.Span.{Span}
-use Rattle.cfgtree.specs.WellFormed.{IsWellFormed}
+use Rattle.cfgast.specs.WellFormed.{IsWellFormed}
 use Rattle.cfgnumbers.specs.Numbered.{NumberedProduction, rules_before, rule_index, token_index, file_symbol, file_symbols, spaced, start_symbols, added_production, added_productions, Numbered, core, production_core, numbered_by, file_production, file_token, end_token}
 use Rattle.cfgnumbers.specs.Resolved.{AreTokens, Resolves}
 use Rattle.cfgnumbers.proofs.Added.{All-added, rules_len, tokens_len}

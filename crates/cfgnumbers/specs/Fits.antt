@@ -1,6 +1,6 @@
 -- Which grammars an index type can count.
 use Rattle.std.specs.Prelude.{ℕ, ◌+◌, ◌≤◌, ◌<◌, List, Option, Some, None, length, All}
-use Rattle.cfgast.specs.Syntax.{Syntax}
+use Rattle.cfgitems.specs.Syntax.{Syntax}
 use Rattle.cfgnumbers.specs.Numbered.{Numbered, file_symbols, rules_before}
 
 -- the final counts, including all that was added, are at most max

@@ -6,11 +6,11 @@ use Rattle.std.specs.Option.{option_and_then, option_map_or, option_or, option_t
 use Rattle.std.specs.Str.{bytes_eq}
 use Rattle.derivation.specs.Grammar.{Sym, Rule, Token, Production, Grammar}
 use Rattle.cfgbase.specs.declared.span.Span.{Span}
-use Rattle.cfgast.specs.Syntax as file
-use Rattle.cfgast.specs.declared.precedence.Precedence.{Precedence}
-use Rattle.cfgast.specs.Building.{has_entry}
-use Rattle.cfgast.specs.Syntax.{Settings, Syntax, RuleSymbol, TokenSymbol, entry_name, index_of, last_of}
-use Rattle.cfgtree.specs.Check.{nowhere}
+use Rattle.cfgitems.specs.Syntax as file
+use Rattle.cfgitems.specs.declared.precedence.Precedence.{Precedence}
+use Rattle.cfgitems.specs.Building.{has_entry}
+use Rattle.cfgitems.specs.Syntax.{Settings, Syntax, RuleSymbol, TokenSymbol, entry_name, index_of, last_of}
+use Rattle.cfgast.specs.Check.{nowhere}
 use Rattle.cfgkinds.specs.declared.kind.YaccKind.{YaccKind}
 use Rattle.cfgkinds.specs.declared.kind.YaccKind.TheVariants.{Eco}
 

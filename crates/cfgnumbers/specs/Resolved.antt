@@ -1,9 +1,9 @@
 -- Syntaxes in which every name refers to something that exists.
 use Rattle.std.specs.Prelude.{◌≡◌, ℕ, List, Option, true, All, IfSome, Some, None}
 use Rattle.cfgwords.specs.FileWords.{Word}
-use Rattle.cfgast.specs.Building.{has_name, has_rule}
-use Rattle.cfgast.specs.Syntax.{Syntax, Production}
-use Rattle.cfgtree.specs.Check.{symbol_error}
+use Rattle.cfgitems.specs.Building.{has_name, has_rule}
+use Rattle.cfgitems.specs.Syntax.{Syntax, Production}
+use Rattle.cfgast.specs.Check.{symbol_error}
 
 -- the symbols name rules and tokens of the syntax
 abbrev pub Resolves : Syntax → Production → Type 0

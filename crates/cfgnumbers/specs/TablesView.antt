@@ -5,10 +5,10 @@ use Rattle.std.specs.declared.alloc.Global.{Global}
 use Rattle.cfgindex.specs.declared.idxnewtype.PIdx.{PIdx}
 use Rattle.cfgindex.specs.declared.idxnewtype.RIdx.{RIdx}
 use Rattle.cfgindex.specs.declared.idxnewtype.Symbol.{Symbol}
-use Rattle.cfgast.specs.declared.settings.Settings.{Settings}
-use Rattle.cfgast.specs.Syntax.{Syntax}
-use Rattle.cfgast.specs.SyntaxView.{settings_view}
-use Rattle.cfgtree.specs.TreeView.{syntax}
+use Rattle.cfgitems.specs.declared.settings.Settings.{Settings}
+use Rattle.cfgitems.specs.Syntax.{Syntax}
+use Rattle.cfgitems.specs.SyntaxView.{settings_view}
+use Rattle.cfgast.specs.TreeView.{syntax}
 use Rattle.cfgtables.specs.NumberedSymbols.{sym_of}
 use Rattle.cfgnumbers.specs.Numbered.{Numbered, NumberedRule, NumberedToken, NumberedProduction, end_token}
 use Rattle.cfgnumbers.specs.declared.numbering.Numbering.{Numbering}

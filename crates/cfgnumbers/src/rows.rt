@@ -1,8 +1,8 @@
 //! The rows of a grammar's tables.
 
-use cfgast::Precedence;
 use cfgbase::Span;
 use cfgindex::PIdx;
+use cfgitems::Precedence;
 
 /// A rule, stored under its name.
 #[derive(Drop)]

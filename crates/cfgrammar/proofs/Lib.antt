@@ -8,7 +8,7 @@ pub use Rattle.lemmas.proofs.Tests
 pub use Rattle.lemmas.proofs.Zips
 pub use Rattle.cfgchoices.proofs.SentenceTokens
 pub use Rattle.cfgcosts.proofs.Joins
-pub use Rattle.cfgtree.proofs.Found
+pub use Rattle.cfgast.proofs.Found
 pub use Rattle.cfgnumbers.proofs.ListedPositions
 pub use Rattle.cfgnumbers.proofs.Turns
 pub use Rattle.cfgyacc.proofs.SelfNamed

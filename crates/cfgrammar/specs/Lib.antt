@@ -105,18 +105,18 @@ pub use Rattle.cfgreader.specs.Keywords
 pub use Rattle.cfgreader.specs.FileWordKinds
 pub use Rattle.cfgreader.specs.Rules
 -- The syntax of a file, the tree that stores it, and the tables made from it.
-pub use Rattle.cfgast.specs.Items
-pub use Rattle.cfgast.specs.Occurrences
-pub use Rattle.cfgast.specs.Syntax
-pub use Rattle.cfgast.specs.Building
-pub use Rattle.cfgast.specs.SyntaxView
-pub use Rattle.cfgtree.specs.Check
-pub use Rattle.cfgtree.specs.Duplicates
-pub use Rattle.cfgtree.specs.Sound
-pub use Rattle.cfgtree.specs.TreeView
-pub use Rattle.cfgtree.specs.WellFormed
-pub use Rattle.cfgtree.specs.Unused
-pub use Rattle.cfgtree.specs.Writing
+pub use Rattle.cfgitems.specs.Items
+pub use Rattle.cfgitems.specs.Occurrences
+pub use Rattle.cfgitems.specs.Syntax
+pub use Rattle.cfgitems.specs.Building
+pub use Rattle.cfgitems.specs.SyntaxView
+pub use Rattle.cfgast.specs.Check
+pub use Rattle.cfgast.specs.Duplicates
+pub use Rattle.cfgast.specs.Sound
+pub use Rattle.cfgast.specs.TreeView
+pub use Rattle.cfgast.specs.WellFormed
+pub use Rattle.cfgast.specs.Unused
+pub use Rattle.cfgast.specs.Writing
 pub use Rattle.cfgnumbers.specs.Fits
 pub use Rattle.cfgnumbers.specs.Numbered
 pub use Rattle.cfgnumbers.specs.Accessors
@@ -154,7 +154,7 @@ pub use Rattle.cfgmarks.specs.declared.markmap.fault.MergeFault
 pub use Rattle.derivation.specs.declared.errors.CostError
 pub use Rattle.cfgcosts.specs.declared.errors.SentenceError
 pub use Rattle.cfgcycles.specs.declared.groups.CyclicGroup
-pub use Rattle.cfgcycles.specs.declared.step_paths.Step
+pub use Rattle.cfgcycles.specs.declared.step_paths.UnitStep
 pub use Rattle.cfgerrors.specs.declared.header.HeaderErrorKind
 pub use Rattle.cfgerrors.specs.declared.header.HeaderError
 pub use Rattle.cfgerrors.specs.declared.error.YaccGrammarErrorKind
@@ -171,12 +171,12 @@ pub use Rattle.cfgkinds.specs.declared.kind.YaccOriginalActionKind
 pub use Rattle.cfgkinds.specs.declared.kind.YaccKind
 pub use Rattle.cfgkinds.specs.declared.fault.KindFault
 pub use Rattle.cfgsection.specs.declared.section.header_fault.HeaderFault
-pub use Rattle.cfgast.specs.declared.symbol.Symbol as AstSymbol
-pub use Rattle.cfgast.specs.declared.production.Production as AstProduction
-pub use Rattle.cfgast.specs.declared.rule.Rule as AstRule
-pub use Rattle.cfgast.specs.declared.precedence.AssocKind
-pub use Rattle.cfgast.specs.declared.precedence.Precedence
-pub use Rattle.cfgtree.specs.declared.ast.GrammarAST
+pub use Rattle.cfgitems.specs.declared.symbol.Symbol as AstSymbol
+pub use Rattle.cfgitems.specs.declared.production.Production as AstProduction
+pub use Rattle.cfgitems.specs.declared.rule.Rule as AstRule
+pub use Rattle.cfgitems.specs.declared.precedence.AssocKind
+pub use Rattle.cfgitems.specs.declared.precedence.Precedence
+pub use Rattle.cfgast.specs.declared.ast.GrammarAST
 pub use Rattle.cfgsyntax.specs.declared.yacc.ast.ASTWithValidityInfo
 pub use Rattle.cfgsyntax.specs.declared.yacc.ast.source.KindSource
 pub use Rattle.cfgsyntax.specs.declared.yacc.ast.start.ASTModificationError

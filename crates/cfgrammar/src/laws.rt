@@ -23,14 +23,14 @@ pub use derivation::{
 };
 
 // What texts say.
-pub use cfgast::built_is_syntax;
+pub use cfgast::writing::{syntax_is_well_formed, written_is_tree};
+pub use cfgitems::built_is_syntax;
 pub use cfgkinds::laws::{kinds_come_back, refusals_have_offsets};
 pub use cfgreader::file_is_graph;
 pub use cfgrender::laws::{carets_begin_at_column, carets_count_characters, shows_no_controls};
 pub use cfgsection::section::{
     entry_is_graph, section_errors_are_at_offsets, section_is_graph, section_returns_its_reading,
 };
-pub use cfgtree::writing::{syntax_is_well_formed, written_is_tree};
 pub use cfgwords::laws::{
     actions_found, blank_is_graph, colon_text_is_graph, epp_string_is_graph, identifiers_found,
     integers_found, line_rest_is_graph, names_found, prefix_is_graph, quoted_tokens_found,
@@ -39,10 +39,6 @@ pub use cfgwords::laws::{
 pub use cfgyacc::laws::texts_are_read_as_the_kind_they_name;
 
 // What `==`, order, hash and `clone` of types compare and copy.
-pub use cfgast::laws::{
-    precedences_are_what_they_are, productions_are_what_they_show, rules_are_what_they_show,
-    symbols_are_what_they_show, unique_are_what_they_show, unique_kinds_are_distinct,
-};
 pub use cfgbase::laws::{
     locations_are_what_they_show, spans_are_their_ends, spans_kinds_are_distinct,
 };
@@ -56,6 +52,10 @@ pub use cfgheader::laws::parsers_are_cloned;
 pub use cfgindex::laws::{
     positions_are_their_numbers, productions_are_their_numbers, rules_are_their_numbers,
     symbols_are_their_indices, tokens_are_their_numbers,
+};
+pub use cfgitems::laws::{
+    precedences_are_what_they_are, productions_are_what_they_show, rules_are_what_they_show,
+    symbols_are_what_they_show, unique_are_what_they_show, unique_kinds_are_distinct,
 };
 pub use cfgkinds::laws::{
     action_kinds_are_distinct, values_are_compared_whole, yacc_kinds_are_distinct,

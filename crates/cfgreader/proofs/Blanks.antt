@@ -3,7 +3,7 @@ use Rattle.std.proofs.Common.{◌≡◌, ℕ, Bool, List, Some, None, Ok, Err, s
 use Rattle.constructs.specs.Steps.{Fails}
 use Rattle.cfgwords.specs.Blank.{blank, part_of, prefix_of}
 use Rattle.cfgwords.proofs.Blanks.{blank_next, blank_ends, blank_stops}
-use Rattle.cfgast.specs.SyntaxView.{syntax_built}
+use Rattle.cfgitems.specs.SyntaxView.{syntax_built}
 use Rattle.cfgreader.specs.declared.reader.Reader.{Reader}
 use Rattle.cfgreader.specs.declared.reader.ReadFault.{ReadFault}
 use Rattle.cfgreader.specs.declared.reader.ReadFault.TheVariants as errors

@@ -3,11 +3,11 @@ use Rattle.std.proofs.Common.{◌≡◌, ℕ, List, [], fold, Option, Result, Ok
 use Rattle.constructs.specs.Construct.{computes}
 use Rattle.constructs.specs.Read.{stop_of}
 use Rattle.cfgwords.specs.declared.fault.Fault.{Fault}
-use Rattle.cfgast.specs.Building.{add, adds}
-use Rattle.cfgast.specs.Syntax.{Syntax, syntax_of}
-use Rattle.cfgast.specs.SyntaxView.{syntax_view, syntax_built}
-use Rattle.cfgast.specs.declared.syntax.Syntax.{Syntax as CodeSyntax}
-use Rattle.cfgast.proofs.Law.{adds_syntax_of}
+use Rattle.cfgitems.specs.Building.{add, adds}
+use Rattle.cfgitems.specs.Syntax.{Syntax, syntax_of}
+use Rattle.cfgitems.specs.SyntaxView.{syntax_view, syntax_built}
+use Rattle.cfgitems.specs.declared.syntax.Syntax.{Syntax as CodeSyntax}
+use Rattle.cfgitems.proofs.Law.{adds_syntax_of}
 use Rattle.cfgkinds.specs.declared.kind.YaccKind.{YaccKind}
 use Rattle.cfgreader.specs.declared.reader.Reader.{Reader}
 use Rattle.cfgreader.specs.ReadFile.{IsFile}

@@ -5,7 +5,7 @@ use denote.Ref.{Bor}
 use Rattle.constructs.specs.Pieces.{strip}
 use Rattle.constructs.specs.Read.{Read, after_word}
 use Rattle.cfgwords.specs.declared.fault.Fault.{Fault}
-use Rattle.cfgast.specs.Items.{Item}
+use Rattle.cfgitems.specs.Items.{Item}
 use Rattle.constructs.specs.Construct.{then, again, ends, computes}
 use Rattle.cfgkinds.specs.declared.kind.YaccKind.{YaccKind}
 use Rattle.cfgreader.specs.declared.keywords.Declaration.{Declaration}

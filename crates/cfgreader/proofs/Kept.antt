@@ -12,8 +12,8 @@ use Rattle.cfgwords.specs.FileWords.{Word, IsName, IsInteger, word_at, integer_a
 use Rattle.cfgwords.specs.TextSpans.{IsPiece, IsWithin}
 use Rattle.cfgwords.proofs.NameStarts.{begins_as_name}
 use Rattle.cfgwords.proofs.WordOffsets.{IsWordAt, ComesAfter, name_at, integer_is_at}
-use Rattle.cfgast.specs.Items.{Item, TokenDeclared, StartDeclared, ActionTypeDeclared, PrintedFormDeclared, ExpectDeclared, ExpectReduceReduceDeclared, ExpectedUnused, AvoidInsertDeclared, ImplicitTokenDeclared, PrecedenceDeclared, RuleBegun, RuleNamed, TokenQuoted, PrecedenceUsed, Alternative}
-use Rattle.cfgast.specs.Syntax.{symbol_word}
+use Rattle.cfgitems.specs.Items.{Item, TokenDeclared, StartDeclared, ActionTypeDeclared, PrintedFormDeclared, ExpectDeclared, ExpectReduceReduceDeclared, ExpectedUnused, AvoidInsertDeclared, ImplicitTokenDeclared, PrecedenceDeclared, RuleBegun, RuleNamed, TokenQuoted, PrecedenceUsed, Alternative}
+use Rattle.cfgitems.specs.Syntax.{symbol_word}
 
 -- a name is a piece of the text, and begins with a byte that names begin with
 abbrev pub IsNameAt : List ℕ → Word → Type 0

@@ -11,9 +11,9 @@ use Rattle.cfgwords.specs.TextSpans.{IsPiece}
 use Rattle.cfgwords.specs.Text.{offset_of}
 use Rattle.cfgwords.proofs.Cuts.{boundary_cut}
 use Rattle.cfgwords.proofs.WordOffsets.{is_ascii_word, IsWordAt, ComesAfter, name_at, token_is_at, word_passed, fault_is_at, blank_is_at, line_rest_is_at, epp_string_is_at, colon_text_is_at, piece_after}
-use Rattle.cfgast.specs.declared.precedence.AssocKind.{AssocKind}
-use Rattle.cfgast.specs.declared.precedence.AssocKind.TheVariants.{Left, Right, Nonassoc}
-use Rattle.cfgast.specs.Items.{Item, ExpectDeclared, ExpectReduceReduceDeclared, AvoidInsertBegun, AvoidInsertDeclared, ImplicitTokensBegun, ImplicitTokenDeclared, PrecedenceDeclared}
+use Rattle.cfgitems.specs.declared.precedence.AssocKind.{AssocKind}
+use Rattle.cfgitems.specs.declared.precedence.AssocKind.TheVariants.{Left, Right, Nonassoc}
+use Rattle.cfgitems.specs.Items.{Item, ExpectDeclared, ExpectReduceReduceDeclared, AvoidInsertBegun, AvoidInsertDeclared, ImplicitTokensBegun, ImplicitTokenDeclared, PrecedenceDeclared}
 use Rattle.cfgkinds.specs.declared.kind.YaccKind.{YaccKind}
 use Rattle.cfgkinds.specs.declared.kind.YaccKind.TheVariants.{Original, Grmtools, Eco}
 use Rattle.cfgreader.specs.Keywords.{Keyword, one_of}

@@ -15,8 +15,8 @@ use Rattle.cfgwords.specs.TextSpans.{IsPiece}
 use Rattle.cfgwords.proofs.Cuts.{IsCut, offset_cut, boundary_cut}
 use Rattle.cfgwords.proofs.NameStarts.{name_begins}
 use Rattle.cfgwords.proofs.WordOffsets.{IsWordAt, ComesAfter, IsTokenAfter, whole_cut, is_here, moves_on, name_at, token_is_at, word_passed, fault_is_at, blank_is_at, colon_text_is_at, action_is_at}
-use Rattle.cfgast.specs.Items.{Item, RuleHead}
-use Rattle.cfgast.specs.Syntax.{last_of}
+use Rattle.cfgitems.specs.Items.{Item, RuleHead}
+use Rattle.cfgitems.specs.Syntax.{last_of}
 use Rattle.cfgkinds.specs.declared.kind.YaccKind.{YaccKind}
 use Rattle.cfgreader.specs.Here.{Turn}
 use Rattle.cfgreader.specs.Rules.{Part, SymbolPart, PrecedencePart, EmptyPart, Parts, no_parts, with_parts, part_end, symbol_in, precedence_in, end_of, parts_sequence, precedence, empty, misplaced_empty, prefix_part, symbol_part, part, brace_fault, end_fault, another, finish, production_end, production, rule_type, rule_body, rule}

@@ -9,7 +9,7 @@ use Rattle.constructs.proofs.Agree.{leaves}
 use Rattle.constructs.proofs.Steps.{Gathers, gathers_start, gathers_on, turn_shorter, many_done, many_stops, returns_then, stops_then}
 use Rattle.cfgwords.specs.FileWords.{Token}
 use Rattle.cfgwords.specs.Text.{offset_of}
-use Rattle.cfgast.specs.Syntax.{last_of}
+use Rattle.cfgitems.specs.Syntax.{last_of}
 use Rattle.cfgreader.specs.declared.bodies.Part.{Part as CodePart}
 use Rattle.cfgreader.specs.declared.bodies.Parts.{Parts as CodeParts}
 use Rattle.cfgreader.specs.declared.reader.Reader.{Reader}

@@ -7,11 +7,11 @@ use Rattle.lemmas.proofs.Prefixes.{All-with_prefixes}
 use Rattle.lemmas.proofs.Options.{All-slice_get, All-filter_map}
 use Rattle.cfgbase.specs.declared.span.Span.{Span}
 use Rattle.cfgwords.specs.FileWords.{Word, Token, word_of}
-use Rattle.cfgast.specs.declared.precedence.Precedence.{Precedence}
-use Rattle.cfgast.specs.Items.{Item, TokenDeclared, StartDeclared, ActionTypeDeclared, PrintedFormDeclared, ExpectDeclared, ExpectReduceReduceDeclared, ExpectedUnused, AvoidInsertBegun, AvoidInsertDeclared, ImplicitTokensBegun, ImplicitTokenDeclared, PrecedenceDeclared, RuleBegun, RuleNamed, TokenQuoted, PrecedenceUsed, Alternative}
-use Rattle.cfgast.specs.Occurrences.{declared_once}
-use Rattle.cfgast.specs.Syntax.{Production, RuleSymbol, TokenSymbol, EachProductionSpan, EachTableSpan, EachSpan, symbol_word, word_name, head_name, entry_name, word_entry, firsts, token_named, start_named, printed_form_declared, expected, expected_reduce_reduce, expected_unused, avoid_insert_said, implicit_tokens_said, precedence_declared, precedence_at, marked, rule_named, typed, typed_rule, symbol_of, finished, alternative, alternatives, declared_again, repeated_token, overridden, without_last, token_words, rule_heads, rule_of, settings_of, tables_of, syntax_of}
-use Rattle.cfgast.proofs.Keeps.{All-firsts, All-flat_map}
+use Rattle.cfgitems.specs.declared.precedence.Precedence.{Precedence}
+use Rattle.cfgitems.specs.Items.{Item, TokenDeclared, StartDeclared, ActionTypeDeclared, PrintedFormDeclared, ExpectDeclared, ExpectReduceReduceDeclared, ExpectedUnused, AvoidInsertBegun, AvoidInsertDeclared, ImplicitTokensBegun, ImplicitTokenDeclared, PrecedenceDeclared, RuleBegun, RuleNamed, TokenQuoted, PrecedenceUsed, Alternative}
+use Rattle.cfgitems.specs.Occurrences.{declared_once}
+use Rattle.cfgitems.specs.Syntax.{Production, RuleSymbol, TokenSymbol, EachProductionSpan, EachTableSpan, EachSpan, symbol_word, word_name, head_name, entry_name, word_entry, firsts, token_named, start_named, printed_form_declared, expected, expected_reduce_reduce, expected_unused, avoid_insert_said, implicit_tokens_said, precedence_declared, precedence_at, marked, rule_named, typed, typed_rule, symbol_of, finished, alternative, alternatives, declared_again, repeated_token, overridden, without_last, token_words, rule_heads, rule_of, settings_of, tables_of, syntax_of}
+use Rattle.cfgitems.proofs.Keeps.{All-firsts, All-flat_map}
 use Rattle.cfgwords.specs.TextSpans.{IsPiece, IsWithin}
 use Rattle.cfgwords.proofs.WordOffsets.{IsWordAt}
 use Rattle.cfgwords.proofs.NameStarts.{begins_as_name}

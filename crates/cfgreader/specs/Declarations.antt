@@ -8,9 +8,9 @@ use Rattle.cfgwords.specs.declared.fault.Fault.{Fault}
 use Rattle.cfgwords.specs.declared.fault.FaultKind.TheVariants.{PrematureEnd, ReachedEOL, UnknownDeclaration, UnknownSymbol}
 use Rattle.cfgwords.specs.Text.{offset_of, fault_at}
 use Rattle.cfgwords.specs.FileWords.{Word, word_at, word_of}
-use Rattle.cfgast.specs.declared.precedence.AssocKind.{AssocKind}
-use Rattle.cfgast.specs.declared.precedence.AssocKind.TheVariants.{Left, Right, Nonassoc}
-use Rattle.cfgast.specs.Items.{Item, TokenDeclared, StartDeclared, ActionTypeDeclared, PrintedFormDeclared, ExpectDeclared, ExpectReduceReduceDeclared, ExpectedUnused, ParseParamDeclared, GenericsDeclared, AvoidInsertBegun, AvoidInsertDeclared, ImplicitTokensBegun, ImplicitTokenDeclared, PrecedenceDeclared, LevelEnded, RuleSymbol, TokenSymbol}
+use Rattle.cfgitems.specs.declared.precedence.AssocKind.{AssocKind}
+use Rattle.cfgitems.specs.declared.precedence.AssocKind.TheVariants.{Left, Right, Nonassoc}
+use Rattle.cfgitems.specs.Items.{Item, TokenDeclared, StartDeclared, ActionTypeDeclared, PrintedFormDeclared, ExpectDeclared, ExpectReduceReduceDeclared, ExpectedUnused, ParseParamDeclared, GenericsDeclared, AvoidInsertBegun, AvoidInsertDeclared, ImplicitTokensBegun, ImplicitTokenDeclared, PrecedenceDeclared, LevelEnded, RuleSymbol, TokenSymbol}
 use Rattle.cfgkinds.specs.declared.kind.YaccKind.{YaccKind}
 use Rattle.cfgkinds.specs.declared.kind.YaccKind.TheVariants.{Original, Grmtools, Eco}
 use Rattle.cfgreader.specs.FileWordKinds.{name_kind}

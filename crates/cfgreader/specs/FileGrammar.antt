@@ -1,7 +1,7 @@
 -- The grammar of a grammar file: declarations, `%%`, rules, and the programs after a second `%%`.
 use Rattle.std.specs.Prelude.{ℕ, true, codes}
 use Rattle.constructs.specs.Construct.{◌>>◌, case_of, here, repeat, while_test, gives, emits, expect}
-use Rattle.cfgast.specs.Items.{ProgramsGiven}
+use Rattle.cfgitems.specs.Items.{ProgramsGiven}
 use Rattle.cfgkinds.specs.declared.kind.YaccKind.{YaccKind}
 use Rattle.cfgreader.specs.Here.{Strict, Lax, blank_here}
 use Rattle.cfgreader.specs.Declarations.{declaration, separator_fault}

@@ -10,7 +10,7 @@ use Rattle.cfgwords.specs.declared.fault.FaultKind.TheVariants.{IllegalInteger, 
 use Rattle.cfgwords.specs.Text.{fault_at}
 use Rattle.cfgwords.specs.Blank.{passes_line_end}
 use Rattle.cfgwords.specs.FileWords.{Word, Token, word_at, token_at, integer_at}
-use Rattle.cfgast.specs.Items.{Item}
+use Rattle.cfgitems.specs.Items.{Item}
 use Rattle.cfgreader.specs.FileWordKinds.{name_kind, token_kind, integer_kind, blank_kind, line_rest_kind, epp_string_kind, colon_text_kind}
 
 -- a construct that leaves a shorter rest, as each turn of a repetition must

@@ -3,7 +3,7 @@ use Rattle.std.specs.Prelude.{ℕ, List, [], ◌∷◌}
 use Rattle.constructs.specs.Leaves.{Leaves, One}
 use Rattle.constructs.specs.Construct.{Construct, case_of, then, again}
 use Rattle.cfgwords.specs.declared.fault.Fault.{Fault}
-use Rattle.cfgast.specs.Items.{Item}
+use Rattle.cfgitems.specs.Items.{Item}
 use Rattle.cfgreader.specs.Here.{Turn}
 
 -- a construct, whatever it leaves

@@ -1,9 +1,9 @@
 -- What the reader of a file returns.
 use Rattle.std.specs.Prelude.{◌≡◌, ℕ, List, Option}
 use Rattle.cfgwords.specs.declared.fault.Fault.{Fault}
-use Rattle.cfgast.specs.Syntax.{syntax_of}
-use Rattle.cfgast.specs.SyntaxView.{syntax_view}
-use Rattle.cfgast.specs.declared.syntax.Syntax.{Syntax as CodeSyntax}
+use Rattle.cfgitems.specs.Syntax.{syntax_of}
+use Rattle.cfgitems.specs.SyntaxView.{syntax_view}
+use Rattle.cfgitems.specs.declared.syntax.Syntax.{Syntax as CodeSyntax}
 use Rattle.cfgkinds.specs.declared.kind.YaccKind.{YaccKind}
 use Rattle.constructs.specs.Construct.{computes}
 use Rattle.constructs.specs.Read.{stop_of}

@@ -11,8 +11,8 @@ use Rattle.cfgwords.specs.declared.fault.FaultKind.TheVariants.{IllegalString, I
 use Rattle.cfgwords.specs.Text.{offset_of, fault_at}
 use Rattle.cfgwords.specs.FileWords.{Token, word_of}
 use Rattle.cfgwords.specs.Actions.{action_at}
-use Rattle.cfgast.specs.Syntax.{last_of}
-use Rattle.cfgast.specs.Items.{Item, RuleHead, Body, RuleBegun, RuleNamed, TokenQuoted, PrecedenceUsed, Alternative}
+use Rattle.cfgitems.specs.Syntax.{last_of}
+use Rattle.cfgitems.specs.Items.{Item, RuleHead, Body, RuleBegun, RuleNamed, TokenQuoted, PrecedenceUsed, Alternative}
 use Rattle.cfgkinds.specs.declared.kind.YaccKind.{YaccKind}
 use Rattle.cfgkinds.specs.declared.kind.YaccKind.TheVariants.{Grmtools}
 use Rattle.cfgreader.specs.FileWordKinds.{action_kind}

@@ -3,8 +3,8 @@
 ghost use Rattle.std.specs.Prelude.{◌≡◌, codes};
 ghost use Rattle.std.specs.String.{string_bytes};
 ghost use Rattle.constructs.specs.Construct.{expect, goes_on, repeat};
-ghost use Rattle.cfgast.specs.SyntaxView.{word_view};
-ghost use Rattle.cfgast.specs.Items.{ExpectDeclared, ExpectReduceReduceDeclared};
+ghost use Rattle.cfgitems.specs.SyntaxView.{word_view};
+ghost use Rattle.cfgitems.specs.Items.{ExpectDeclared, ExpectReduceReduceDeclared};
 ghost use Rattle.cfgreader.specs.Declarations.{listed_token, start_declaration, action_type_declaration};
 ghost use Rattle.cfgreader.specs.Declarations.{printed_token, printed_form, epp_declaration, number_declaration};
 ghost use Rattle.cfgreader.specs.Declarations.{unused_symbol, parse_param_declaration, parse_generics_declaration};

@@ -5,7 +5,7 @@ ghost use Rattle.cfgreader.specs.Inner.Keywords.{IsKeywordHere, IsSequenceHere, 
 
 use super::lists::{Listed, Marking};
 use super::reader::Reader;
-use cfgast::AssocKind;
+use cfgitems::AssocKind;
 use cfgkinds::YaccKind;
 
 /// What a keyword declares.

@@ -2,14 +2,14 @@
 
 ghost use Rattle.std.specs.Prelude.{◌≡◌, OnOk};
 ghost use Rattle.constructs.specs.Construct.{goes_on, repeat, while_test};
-ghost use Rattle.cfgast.specs.Building.{add};
-ghost use Rattle.cfgast.specs.SyntaxView.{syntax_built, word_view};
+ghost use Rattle.cfgitems.specs.Building.{add};
+ghost use Rattle.cfgitems.specs.SyntaxView.{syntax_built, word_view};
 ghost use Rattle.cfgreader.specs.Declarations.{is_listed, list_declaration, line_token, precedence_declaration};
 ghost use Rattle.cfgreader.specs.Declarations.{marking_declaration};
 ghost use Rattle.cfgreader.specs.Inner.Lists.{begun, listed_in, marked, said, turn_in};
 
 use super::reader::{ReadFault, Reader};
-use cfgast::{AssocKind, AstBuilder};
+use cfgitems::{AssocKind, AstBuilder};
 use cfgwords::blank::passes_line_end;
 use cfgwords::words::Word;
 use std::alloc::{AllocError, Global};

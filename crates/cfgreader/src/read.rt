@@ -8,7 +8,7 @@ ghost use Rattle.cfgreader.specs.Inner.Builds.{Grows};
 ghost use Rattle.cfgreader.specs.FileGrammar.{file};
 
 use super::reader::{ReadFault, Reader};
-use cfgast::Syntax;
+use cfgitems::Syntax;
 use cfgkinds::YaccKind;
 use cfgwords::fault::Fault;
 use std::alloc::{AllocError, Global};

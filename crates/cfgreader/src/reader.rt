@@ -9,8 +9,8 @@ ghost use Rattle.cfgreader.specs.Here.{is_open, holds, blank_here, name_here, to
 ghost use Rattle.cfgreader.specs.Here.{line_rest_here, epp_string_here, colon_text_here};
 
 use super::bodies::Parts;
-use cfgast::{AstBuilder, Syntax};
 use cfgbase::Span;
+use cfgitems::{AstBuilder, Syntax};
 use cfgwords::blank::Prefix;
 use cfgwords::bytes::ByteClass;
 use cfgwords::colon_text::text_to_colon;
@@ -52,8 +52,8 @@ pub(crate) struct Reader<'a> {
 
 impl<'a> Reader<'a> {
     ghost use Rattle.cfgreader.specs.Inner.Builds.{Builds, IsPartHere, IsNameHere, IsTokenHere};
-    ghost use Rattle.cfgast.specs.SyntaxView.{syntax_view, syntax_built, word_view, token_view};
-    ghost use Rattle.cfgast.specs.Syntax.{syntax_of};
+    ghost use Rattle.cfgitems.specs.SyntaxView.{syntax_view, syntax_built, word_view, token_view};
+    ghost use Rattle.cfgitems.specs.Syntax.{syntax_of};
 
     /// Before the rest of a text of `len` bytes, with nothing read.
     pub(super) fn new(alloc: Global, len: usize, rest: &'a str) -> Self

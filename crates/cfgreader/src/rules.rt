@@ -3,7 +3,7 @@
 ghost use Rattle.std.specs.Prelude.{◌≡◌, ◌≤◌, IfSome, Some, is_some};
 ghost use Rattle.constructs.specs.Construct.{goes_on, repeat, while_test};
 ghost use Rattle.cfgwords.specs.Text.{offset_of};
-ghost use Rattle.cfgast.specs.Items.{Alternative};
+ghost use Rattle.cfgitems.specs.Items.{Alternative};
 ghost use Rattle.cfgreader.specs.Inner.Builds.{IsActionHere, parts_view};
 ghost use Rattle.cfgreader.specs.FileGrammar.{file, programs};
 ghost use Rattle.cfgreader.specs.Rules.{another, end_fault, finish, is_rule_next, production};
@@ -11,8 +11,8 @@ ghost use Rattle.cfgreader.specs.Rules.{production_end, rule, rule_body, rule_ty
 
 use super::bodies::Parts;
 use super::reader::{ReadFault, Reader};
-use cfgast::{Body, RuleHead};
 use cfgbase::Span;
+use cfgitems::{Body, RuleHead};
 use cfgkinds::YaccKind;
 use cfgwords::actions::leading_action;
 use cfgwords::fault::FaultKind;
@@ -20,7 +20,7 @@ use std::mem;
 
 impl<'a> Reader<'a> {
     ghost use Rattle.cfgreader.specs.Inner.Builds.{Builds};
-    ghost use Rattle.cfgast.specs.SyntaxView.{head_view, body_view};
+    ghost use Rattle.cfgitems.specs.SyntaxView.{head_view, body_view};
 
     /// The fault if there is no `|` or `;`: after an action, or elsewhere in a body.
     fn end_fault(&self, has_action: bool) -> ReadFault

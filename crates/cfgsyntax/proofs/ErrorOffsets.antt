@@ -13,12 +13,12 @@ use Rattle.constructs.proofs.Yields.{EndsIn}
 use Rattle.cfgwords.specs.declared.fault.Fault.{Fault}
 use Rattle.cfgwords.specs.FileWords.{Word}
 use Rattle.cfgwords.proofs.Cuts.{IsCut, cut_here}
-use Rattle.cfgast.specs.Items.{Item}
-use Rattle.cfgast.specs.Building.{has_entry, has_name, has_rule}
-use Rattle.cfgast.specs.Occurrences.{Occurrence}
-use Rattle.cfgtree.specs.Duplicates.{declared_by, duplicates, is_same, spans_of}
-use Rattle.cfgtree.proofs.Repeats.{is_same_equivalence, repeats}
-use Rattle.cfgast.specs.Syntax.{Symbol, RuleSymbol, TokenSymbol, EachProductionSpan, EachSpan, symbol_word, Production, Rule, Syntax, syntax_of}
+use Rattle.cfgitems.specs.Items.{Item}
+use Rattle.cfgitems.specs.Building.{has_entry, has_name, has_rule}
+use Rattle.cfgitems.specs.Occurrences.{Occurrence}
+use Rattle.cfgast.specs.Duplicates.{declared_by, duplicates, is_same, spans_of}
+use Rattle.cfgast.proofs.Repeats.{is_same_equivalence, repeats}
+use Rattle.cfgitems.specs.Syntax.{Symbol, RuleSymbol, TokenSymbol, EachProductionSpan, EachSpan, symbol_word, Production, Rule, Syntax, syntax_of}
 use Rattle.cfgkinds.specs.declared.kind.YaccKind.{YaccKind}
 use Rattle.cfgerrors.specs.HeaderErrors.{ShownError}
 use Rattle.cfgsection.specs.SectionGrammar.{Entry}
@@ -27,7 +27,7 @@ use Rattle.cfgsection.specs.SectionOffsets.{IsErrorAt as IsSectionErrorAt}
 use Rattle.cfgsection.proofs.SectionOne.{section_answered}
 use Rattle.cfgsection.proofs.SectionOffsets.{IsSectionAt, section_at}
 use Rattle.cfgerrors.specs.Errors.{ErrorKind, GrammarError, header_error, InvalidStartRule, UnknownRuleRef, UnknownToken, NoPrecForToken, UnknownEPP, NoStartRule, error_at}
-use Rattle.cfgtree.specs.Check.{nowhere, first_error, start_error, symbol_error, precedence_error, production_error, printed_error, locate_error, rule_error, check_of}
+use Rattle.cfgast.specs.Check.{nowhere, first_error, start_error, symbol_error, precedence_error, production_error, printed_error, locate_error, rule_error, check_of}
 use Rattle.cfgsyntax.specs.Faults.{kind_of, error_of, duplicate_error, stop_errors, errors_of}
 use Rattle.cfgwords.specs.TextSpans.{IsPiece, IsWithin}
 use Rattle.cfgsyntax.specs.Reads.{Stop, InSection, InFile, ReadsFile, ReadsAfter, Reads}

@@ -2,9 +2,9 @@
 use Rattle.std.proofs.Common.{◌≡◌, List, [], ◌∷◌, ◌++◌, Option, Some, None, slice_get, refl, ap, ◌∙◌, append-nil, append_assoc}
 use Rattle.std.specs.List.{cons_option, filter_map, flat_map}
 use Rattle.std.specs.Option.{option_map_or, option_or, option_and_then, option_to_list}
-use Rattle.cfgast.specs.Syntax.{Syntax, Production}
+use Rattle.cfgitems.specs.Syntax.{Syntax, Production}
 use Rattle.cfgerrors.specs.Errors.{GrammarError}
-use Rattle.cfgtree.specs.Check.{check_of, first_error, locate_error, precedence_error, printed_error, production_error, rule_error, start_error, symbol_error}
+use Rattle.cfgast.specs.Check.{check_of, first_error, locate_error, precedence_error, printed_error, production_error, rule_error, start_error, symbol_error}
 use Rattle.cfgsyntax.specs.EveryError.{every_error, located_errors, production_errors, rule_errors}
 
 abbrev first_of : List GrammarError → Option GrammarError

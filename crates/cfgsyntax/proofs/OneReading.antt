@@ -6,10 +6,10 @@ use Rattle.constructs.specs.Read.{Read, stop_of}
 use Rattle.constructs.proofs.Agree.{agree}
 use Rattle.cfgbase.specs.declared.span.Span.{Span}
 use Rattle.cfgwords.specs.declared.fault.Fault.{Fault}
-use Rattle.cfgast.specs.Items.{Item}
-use Rattle.cfgast.specs.Syntax.{Syntax, syntax_of}
-use Rattle.cfgtree.specs.TreeView.{syntax}
-use Rattle.cfgtree.specs.declared.ast.GrammarAST.{GrammarAST}
+use Rattle.cfgitems.specs.Items.{Item}
+use Rattle.cfgitems.specs.Syntax.{Syntax, syntax_of}
+use Rattle.cfgast.specs.TreeView.{syntax}
+use Rattle.cfgast.specs.declared.ast.GrammarAST.{GrammarAST}
 use Rattle.cfgkinds.specs.declared.kind.YaccKind.{YaccKind}
 use Rattle.cfgerrors.specs.HeaderErrors.{ShownError}
 use Rattle.cfgsection.specs.SectionGrammar.{Entry}

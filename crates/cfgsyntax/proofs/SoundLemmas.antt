@@ -1,17 +1,17 @@
 -- What was read is well formed, and without errors it passes validation.
 use Rattle.std.proofs.Common.{◌≡◌, ℕ, true, List, [], ◌∷◌, ◌++◌, Option, Some, None, if◌then◌else◌, refl, sym, ap, ◌∙◌, subst, append_assoc}
 use Rattle.std.specs.Option.{option_to_list, option_or}
-use Rattle.cfgast.specs.Building.{has_rule}
-use Rattle.cfgast.specs.Syntax.{Syntax, syntax_of}
+use Rattle.cfgitems.specs.Building.{has_rule}
+use Rattle.cfgitems.specs.Syntax.{Syntax, syntax_of}
 use Rattle.cfgkinds.specs.declared.kind.YaccKind.{YaccKind}
 use Rattle.cfgerrors.specs.Errors.{GrammarError, InvalidStartRule, error_at}
-use Rattle.cfgtree.specs.Check.{first_error, start_error, rule_error, printed_error, symbol_error, check_of}
+use Rattle.cfgast.specs.Check.{first_error, start_error, rule_error, printed_error, symbol_error, check_of}
 use Rattle.cfgsyntax.specs.Faults.{all_errors, errors_of}
 use Rattle.cfgsyntax.specs.Reads.{Stop, Reads, HasOneReading}
-use Rattle.cfgast.specs.Items.{Item}
+use Rattle.cfgitems.specs.Items.{Item}
 use Rattle.cfgwords.specs.FileWords.{Word}
-use Rattle.cfgtree.specs.Writing.{started_at}
-use Rattle.cfgtree.specs.Sound.{IsSound}
+use Rattle.cfgast.specs.Writing.{started_at}
+use Rattle.cfgast.specs.Sound.{IsSound}
 
 -- no errors at all, so none of the last kind
 none_second : (first : List GrammarError) (second : Option GrammarError) → [] ≡ first ++ option_to_list second → second ≡ None

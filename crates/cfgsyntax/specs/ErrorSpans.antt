@@ -1,7 +1,7 @@
 -- What holds of each span of an error, which has at least one, and of everything that was parsed.
 use Rattle.std.specs.Prelude.{◌<◌, All, length}
 use Rattle.cfgbase.specs.declared.span.Span.{Span}
-use Rattle.cfgast.specs.Syntax.{EachSpan}
+use Rattle.cfgitems.specs.Syntax.{EachSpan}
 use Rattle.cfgerrors.specs.Errors.{GrammarError}
 use Rattle.cfgerrors.specs.declared.error.YaccFault.{YaccFault}
 use Rattle.cfgerrors.specs.declared.error.YaccFault.TheVariants as faults

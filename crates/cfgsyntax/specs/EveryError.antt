@@ -2,8 +2,8 @@
 use Rattle.std.specs.Prelude.{ℕ, List, [], ◌++◌, slice_get}
 use Rattle.std.specs.List.{filter_map, flat_map}
 use Rattle.std.specs.Option.{option_map_or, option_to_list}
-use Rattle.cfgast.specs.Syntax.{Syntax, Rule, Production}
-use Rattle.cfgtree.specs.Check.{precedence_error, printed_error, start_error, symbol_error}
+use Rattle.cfgitems.specs.Syntax.{Syntax, Rule, Production}
+use Rattle.cfgast.specs.Check.{precedence_error, printed_error, start_error, symbol_error}
 use Rattle.cfgerrors.specs.Errors.{GrammarError}
 
 abbrev pub production_errors : Syntax → Production → List GrammarError

@@ -4,14 +4,14 @@ use Rattle.std.specs.Option.{option_to_list}
 use Rattle.cfgwords.specs.declared.fault.Fault.{Fault}
 use Rattle.cfgwords.specs.declared.fault.FaultKind.{FaultKind}
 use Rattle.cfgwords.specs.declared.fault.FaultKind.TheVariants as faults
-use Rattle.cfgast.specs.declared.occurrence.UniqueKind.{UniqueKind}
-use Rattle.cfgast.specs.declared.occurrence.UniqueKind.TheVariants as unique
-use Rattle.cfgast.specs.Items.{Item}
-use Rattle.cfgtree.specs.Duplicates.{Duplicate, duplicates}
-use Rattle.cfgast.specs.Syntax.{Syntax, syntax_of}
+use Rattle.cfgitems.specs.declared.occurrence.UniqueKind.{UniqueKind}
+use Rattle.cfgitems.specs.declared.occurrence.UniqueKind.TheVariants as unique
+use Rattle.cfgitems.specs.Items.{Item}
+use Rattle.cfgast.specs.Duplicates.{Duplicate, duplicates}
+use Rattle.cfgitems.specs.Syntax.{Syntax, syntax_of}
 use Rattle.cfgerrors.specs.Errors as kinds
 use Rattle.cfgerrors.specs.Errors.{ErrorKind, GrammarError, error_at, header_error}
-use Rattle.cfgtree.specs.Check.{check_of}
+use Rattle.cfgast.specs.Check.{check_of}
 use Rattle.cfgsyntax.specs.Reads.{Stop, InSection, InFile}
 
 abbrev pub kind_of : FaultKind → ErrorKind

@@ -1,6 +1,6 @@
 -- What callers see of an `ASTWithValidityInfo`.
 use Rattle.std.specs.Prelude.{List}
-use Rattle.cfgast.specs.Syntax.{Syntax}
+use Rattle.cfgitems.specs.Syntax.{Syntax}
 use Rattle.cfgerrors.specs.Errors.{GrammarError}
 use Rattle.cfgkinds.specs.declared.kind.YaccKind.{YaccKind}
 

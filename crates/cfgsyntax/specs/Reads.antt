@@ -5,7 +5,7 @@ use Rattle.constructs.specs.Construct.{Says}
 use Rattle.constructs.specs.Read.{Read, stop_of}
 use Rattle.cfgbase.specs.declared.span.Span.{Span}
 use Rattle.cfgwords.specs.declared.fault.Fault.{Fault}
-use Rattle.cfgast.specs.Items.{Item}
+use Rattle.cfgitems.specs.Items.{Item}
 use Rattle.cfgkinds.specs.declared.kind.YaccKind.{YaccKind}
 use Rattle.cfgerrors.specs.HeaderErrors.{ShownError}
 use Rattle.cfgsection.specs.SectionGrammar.{Entry, Fault as SectionFault}

@@ -1,7 +1,7 @@
 -- What is returned for a text that names its own kind.
 use Rattle.std.specs.Prelude.{◌≡◌, ℕ, List, map, Option, Result, Ok, Err}
-use Rattle.cfgast.specs.Items.{Item}
-use Rattle.cfgast.specs.Syntax.{syntax_of}
+use Rattle.cfgitems.specs.Items.{Item}
+use Rattle.cfgitems.specs.Syntax.{syntax_of}
 use Rattle.cfgkinds.specs.declared.kind.YaccKind.{YaccKind}
 use Rattle.cfgsection.specs.Named.{Names, NamesNoKind, Naming}
 use Rattle.cfgerrors.specs.Errors.{GrammarError, header_error}

@@ -1,9 +1,9 @@
 -- What was parsed, with another start, or why it isn't given one.
 use Rattle.std.specs.Prelude.{◌≡◌, ℕ, List, true, false, codes}
 use Rattle.cfgwords.specs.FileWords.{Word}
-use Rattle.cfgast.specs.Building.{has_rule}
-use Rattle.cfgast.specs.Syntax.{Syntax}
-use Rattle.cfgtree.specs.Writing.{started_at}
+use Rattle.cfgitems.specs.Building.{has_rule}
+use Rattle.cfgitems.specs.Syntax.{Syntax}
+use Rattle.cfgast.specs.Writing.{started_at}
 use Rattle.cfgerrors.specs.Errors.{InvalidStartRule}
 use Rattle.cfgerrors.specs.ErrorTexts.{error_text}
 use Rattle.cfgsyntax.specs.Parsed.{Parsed}

@@ -1,19 +1,19 @@
 //! Reading a whole text: its section, and the file after that.
 
 ghost use Rattle.std.specs.Prelude.{◌≡◌, ◌≤◌, length, List, Option, IfOk, option_map};
-ghost use Rattle.cfgast.specs.Items.{Item};
-ghost use Rattle.cfgast.specs.Syntax.{syntax_of};
-ghost use Rattle.cfgtree.specs.TreeView.{syntax};
+ghost use Rattle.cfgitems.specs.Items.{Item};
+ghost use Rattle.cfgitems.specs.Syntax.{syntax_of};
+ghost use Rattle.cfgast.specs.TreeView.{syntax};
 ghost use Rattle.cfgsyntax.specs.Reads.{HasOneReading, InFile, Reads, Stop};
 ghost use Rattle.cfgsyntax.specs.Inner.Steps.{IsReadAfter, IsReadSection, stop_view};
 
-use cfgast::Syntax;
+use cfgast::{GrammarAST, tree_of};
 use cfgbase::Span;
 use cfgerrors::HeaderError;
+use cfgitems::Syntax;
 use cfgkinds::YaccKind;
 use cfgreader::read_file;
 use cfgsection::{HeaderFault, section_entries};
-use cfgtree::{GrammarAST, tree_of};
 use cfgwords::fault::Fault;
 use std::alloc::{AllocError, Global};
 

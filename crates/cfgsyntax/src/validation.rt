@@ -1,21 +1,21 @@
 //! Validation: whether what a syntax names exists.
 
 ghost use Rattle.std.specs.Prelude.{◌≡◌, IfOk, map, option_map, string_bytes};
-ghost use Rattle.cfgast.specs.Building.{has_entry, has_name, has_rule};
-ghost use Rattle.cfgast.specs.SyntaxView.{symbol_view, text_view, production_view};
-ghost use Rattle.cfgtree.specs.TreeView.{syntax};
-ghost use Rattle.cfgtree.specs.Check.{start_error, symbol_error};
-ghost use Rattle.cfgtree.specs.Check.{precedence_error, production_error, printed_error, locate_error, rule_error};
-ghost use Rattle.cfgtree.specs.Check.{first_error, check_of};
+ghost use Rattle.cfgitems.specs.Building.{has_entry, has_name, has_rule};
+ghost use Rattle.cfgitems.specs.SyntaxView.{symbol_view, text_view, production_view};
+ghost use Rattle.cfgast.specs.TreeView.{syntax};
+ghost use Rattle.cfgast.specs.Check.{start_error, symbol_error};
+ghost use Rattle.cfgast.specs.Check.{precedence_error, production_error, printed_error, locate_error, rule_error};
+ghost use Rattle.cfgast.specs.Check.{first_error, check_of};
 ghost use Rattle.cfgsyntax.specs.Inner.ValidationError.{found, validation_error};
 
-use cfgast::{Production, Rule, Symbol};
+use cfgast::GrammarAST;
 use cfgbase::Span;
 use cfgerrors::YaccGrammarErrorKind::{
     InvalidStartRule, NoPrecForToken, NoStartRule, UnknownEPP, UnknownRuleRef, UnknownToken,
 };
 use cfgerrors::{YaccGrammarError, error_at};
-use cfgtree::GrammarAST;
+use cfgitems::{Production, Rule, Symbol};
 use std::alloc::{AllocError, Global};
 
 /// What a check finds wrong. It borrows the name, so checks allocate nothing.
@@ -209,7 +209,7 @@ fn check_printed_forms(ast: &GrammarAST) -> Result<(), ValidationError<'_>>
 /// # Errors
 ///
 /// The first check that the syntax fails.
-#[tactic(auto, unfolding(cfgtree::specs::Check::check_of))]
+#[tactic(auto, unfolding(cfgast::specs::Check::check_of))]
 pub(crate) fn check(ast: &GrammarAST) -> Result<(), ValidationError<'_>>
     ensures { found result ≡ check_of (syntax ast.now) }
 {

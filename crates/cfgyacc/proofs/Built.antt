@@ -3,11 +3,11 @@ use Rattle.std.proofs.Common.{◌≡◌, ℕ, List, [], ◌∷◌, ◌++◌, len
 use Rattle.std.specs.List.{zip}
 use Rattle.cfgindex.specs.declared.idxnewtype.PIdx.{PIdx}
 use Rattle.cfgindex.specs.declared.idxnewtype.RIdx.{RIdx}
-use Rattle.cfgast.specs.declared.settings.Settings.{Settings}
-use Rattle.cfgast.specs.Syntax.{Syntax}
-use Rattle.cfgast.specs.SyntaxView.{settings_view}
+use Rattle.cfgitems.specs.declared.settings.Settings.{Settings}
+use Rattle.cfgitems.specs.Syntax.{Syntax}
+use Rattle.cfgitems.specs.SyntaxView.{settings_view}
 use Rattle.cfgerrors.specs.Errors.{GrammarError}
-use Rattle.cfgtree.specs.Sound.{IsSound}
+use Rattle.cfgast.specs.Sound.{IsSound}
 use Rattle.cfgkinds.specs.declared.kind.YaccKind.{YaccKind}
 use Rattle.cfgerrors.specs.declared.error.YaccFault.{YaccFault}
 use Rattle.cfgerrors.specs.declared.error.YaccFault.TheVariants as faults

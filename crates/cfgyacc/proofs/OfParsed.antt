@@ -2,8 +2,8 @@
 use Rattle.std.proofs.Common.{◌≡◌, ℕ, List, Option, Result, Ok, Err, IfOk, IfErr, MatchResult, IsErrAnd, refl, sym, subst, ap, ◌∙◌}
 use Rattle.std.specs.Str.{IsUtf8}
 use Rattle.cfgwords.specs.TextSpans.{IsPiece, IsWithin}
-use Rattle.cfgast.specs.Items.{Item}
-use Rattle.cfgast.specs.Syntax.{syntax_of}
+use Rattle.cfgitems.specs.Items.{Item}
+use Rattle.cfgitems.specs.Syntax.{syntax_of}
 use Rattle.cfgkinds.specs.declared.kind.YaccKind.{YaccKind}
 use Rattle.cfgsection.specs.Named.{HasOneNaming, Naming, Names}
 use Rattle.cfgerrors.specs.declared.error.YaccFault.{YaccFault}

@@ -5,7 +5,7 @@ use Rattle.cfgsection.specs.Named.{HasOneNaming, Naming, Names}
 use Rattle.cfgerrors.specs.Errors.{header_error}
 use Rattle.cfgerrors.specs.declared.error.YaccFault.{YaccFault}
 use Rattle.cfgerrors.specs.declared.error.YaccFault.TheVariants as faults
-use Rattle.cfgast.specs.Syntax.{syntax_of}
+use Rattle.cfgitems.specs.Syntax.{syntax_of}
 use Rattle.cfgsyntax.specs.Faults.{errors_of}
 use Rattle.cfgsyntax.specs.SelfNamed.{IsParsedAs, ReturnsNaming}
 use Rattle.cfgsyntax.specs.Parsed.{Parsed}

@@ -6,7 +6,7 @@ use Rattle.std.specs.Option.{option_map_or}
 use Rattle.std.proofs.lemmas.Option.{get_or_from_slice_get, slice_get_within}
 use Rattle.cfgindex.specs.declared.idxnewtype.PIdx.{PIdx}
 use Rattle.cfgindex.specs.declared.idxnewtype.RIdx.{RIdx}
-use Rattle.cfgast.specs.declared.settings.Settings.{Settings}
+use Rattle.cfgitems.specs.declared.settings.Settings.{Settings}
 use Rattle.derivation.specs.Grammar.{Rule, Sym, Token}
 use Rattle.cfgnumbers.specs.Numbered.{Numbered, NumberedRule, NumberedToken, NumberedProduction}
 use Rattle.cfgnumbers.specs.Fits.{Fits}

@@ -8,8 +8,8 @@ use Rattle.std.proofs.lemmas.Str.{IsCharBoundary-start}
 use Rattle.lemmas.proofs.Zips.{All-zip}
 use Rattle.cfgbase.specs.declared.span.Span.{Span}
 use Rattle.cfgwords.specs.TextSpans.{IsPiece}
-use Rattle.cfgast.specs.Syntax.{EachProductionSpan, EachSpan, Production, Syntax}
-use Rattle.cfgtree.specs.Check.{nowhere}
+use Rattle.cfgitems.specs.Syntax.{EachProductionSpan, EachSpan, Production, Syntax}
+use Rattle.cfgast.specs.Check.{nowhere}
 use Rattle.cfgerrors.specs.Errors.{StorageTooSmall, error_at}
 use Rattle.cfgsyntax.specs.ErrorSpans.{EachErrorSpan, EachFaultSpan}
 use Rattle.cfgkinds.specs.declared.kind.YaccKind.{YaccKind}

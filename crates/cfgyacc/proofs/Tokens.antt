@@ -2,7 +2,7 @@
 use Rattle.std.proofs.Common.{◌≡◌, ℕ, zero, suc, ◌<◌, List, [], ◌∷◌, ◌++◌, length, map, slice_get, Option, Some, None, option_map, String, Global, refl, sym, ap, ◌∙◌, arith}
 use Rattle.cfgindex.specs.declared.idxnewtype.PIdx.{PIdx}
 use Rattle.cfgindex.specs.declared.idxnewtype.RIdx.{RIdx}
-use Rattle.cfgast.specs.declared.settings.Settings.{Settings}
+use Rattle.cfgitems.specs.declared.settings.Settings.{Settings}
 use Rattle.cfgnumbers.specs.Numbered.{Numbered, NumberedProduction, NumberedToken, end_token}
 use Rattle.cfgnumbers.specs.Accessors.{token_part}
 use Rattle.cfgnumbers.specs.TablesView.{token_view, tables}

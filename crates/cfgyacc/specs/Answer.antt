@@ -1,6 +1,6 @@
 -- What a constructor of a grammar returns.
 use Rattle.std.specs.Prelude.{◌≡◌, ℕ, List, [], ◌∷◌, Result, Ok, Err}
-use Rattle.cfgtree.specs.Check.{nowhere}
+use Rattle.cfgast.specs.Check.{nowhere}
 use Rattle.cfgerrors.specs.Errors.{GrammarError, StorageTooSmall, error_at}
 use Rattle.cfgerrors.specs.declared.error.YaccFault.{YaccFault}
 use Rattle.cfgerrors.specs.declared.error.YaccFault.TheVariants as faults

@@ -1,7 +1,7 @@
 -- What is true of each span of a grammar, and of each span in what a constructor returns.
 use Rattle.std.specs.Prelude.{All, IfSome, Result, Ok, Err}
 use Rattle.cfgbase.specs.declared.span.Span.{Span}
-use Rattle.cfgast.specs.Syntax.{EachSettingSpan}
+use Rattle.cfgitems.specs.Syntax.{EachSettingSpan}
 use Rattle.cfgsyntax.specs.ErrorSpans.{EachErrorSpan}
 use Rattle.cfgerrors.specs.declared.error.YaccFault.{YaccFault}
 use Rattle.cfgerrors.specs.declared.error.YaccFault.TheVariants as faults

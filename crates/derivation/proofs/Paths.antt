@@ -3,7 +3,7 @@ use Rattle.std.proofs.Common.{◌≡◌, ℕ, List, [], ◌∷◌, ◌++◌, Con
 use Rattle.std.proofs.lemmas.List.Elements.{Contains-append_left, Contains-append_right, Contains-append_cases, Contains-push, Contains-push_cases}
 use Rattle.derivation.specs.Grammar.{Sym, Rule}
 use Rattle.derivation.specs.Derivation.{Step, Derives, none, next}
-use Rattle.derivation.specs.Path.{Holds, Path, one, more, DerivesContaining}
+use Rattle.derivation.specs.Path.{Refers, Path, one, more, DerivesContaining}
 use Rattle.derivation.proofs.Concatenation.{step_production, derives_left, derives_right}
 
 -- what is around a symbol of a list
@@ -43,7 +43,7 @@ module _ (P : ℕ → List Sym → Type 0) where
   derives_between x y e l =
       simp (e, append_assoc) (simp append_assoc at (derives_left P x (derives_right P y (next l.first l.derives))))
 
-  derives_containing_on : {a b c : ℕ} → Holds P a b → DerivesContaining P b c → DerivesContaining P a c
+  derives_containing_on : {a b c : ℕ} → Refers P a b → DerivesContaining P b c → DerivesContaining P a c
   derives_containing_on {a = a} {b = b} h l = let w = around h.symbols (Rule b) h.holds in record {
     middle = h.symbols;
     before = w.before ++ l.before;
@@ -72,8 +72,8 @@ module _ (P : ℕ → List Sym → Type 0) where
   reaches_itself before b after =
       record { rule = b; among = contains_between before (Rule b) after; path = inl refl }
 
-  path_on : {a b c : ℕ} → Holds P a b → (b ≡ c) ⊎ Path P b c → Path P a c
-  path_on {a = a} h (inl e) = one (subst (λ n. Holds P a n) e h)
+  path_on : {a b c : ℕ} → Refers P a b → (b ≡ c) ⊎ Path P b c → Path P a c
+  path_on {a = a} h (inl e) = one (subst (λ n. Refers P a n) e h)
   path_on h (inr p) = more h p
 
   -- what a list reaches after a step, it reached before

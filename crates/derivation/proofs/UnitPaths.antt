@@ -2,7 +2,7 @@
 use Rattle.std.proofs.Common.{◌≡◌, ℕ, List, [], ◌∷◌, ◌++◌, ◌⊎◌, inl, inr, append_assoc, append-nil, refl, sym, subst, ◌∙◌}
 use Rattle.derivation.specs.Grammar.{Sym, Rule, Token}
 use Rattle.derivation.specs.Derivation.{Step, Derives, none, next}
-use Rattle.derivation.specs.UnitPaths.{DerivesRule, HoldsUnit, UnitPath, one, more}
+use Rattle.derivation.specs.UnitPaths.{DerivesRule, UnitRefers, UnitPath, one, more}
 use Rattle.derivation.proofs.Concatenation.{derives_trans, derives_left, derives_right, derives_both, derives_production, step_production}
 use Rattle.derivation.proofs.Parts.{in_parts}
 
@@ -83,8 +83,8 @@ module _ (P : ℕ → List Sym → Type 0) where
     | inr k ↦ inr (derives_both P [] [] h.0 k.0, k.1)
   ]
 
-  path_on : {a b c : ℕ} → HoldsUnit P a b → (b ≡ c) ⊎ UnitPath P b c → UnitPath P a c
-  path_on {a = a} h (inl e) = one (subst (λ n. HoldsUnit P a n) e h)
+  path_on : {a b c : ℕ} → UnitRefers P a b → (b ≡ c) ⊎ UnitPath P b c → UnitPath P a c
+  path_on {a = a} h (inl e) = one (subst (λ n. UnitRefers P a n) e h)
   path_on h (inr p) = more h p
 
   -- a production of a rule has these symbols after nullable ones

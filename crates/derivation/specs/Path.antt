@@ -4,15 +4,15 @@ use Rattle.derivation.specs.Grammar.{Sym, Rule}
 use Rattle.derivation.specs.Derivation.{Step, Derives}
 
 -- a production of rule a contains rule b
-pub record Holds (P : ℕ → List Sym → Type 0) (a b : ℕ) : Type 0 where
+pub record Refers (P : ℕ → List Sym → Type 0) (a b : ℕ) : Type 0 where
   pub symbols : List Sym
   pub has : P a symbols
   pub holds : Contains symbols (Rule b)
 
 -- a sequence of two or more rules, each of which has a production that contains the next
 pub data Path (P : ℕ → List Sym → Type 0) : ℕ → ℕ → Type 0 where
-  one : {a b : ℕ} → Holds P a b → Path P a b
-  more : {a b c : ℕ} → Holds P a b → Path P b c → Path P a c
+  one : {a b : ℕ} → Refers P a b → Path P a b
+  more : {a b c : ℕ} → Refers P a b → Path P b c → Path P a c
 
 -- in one or more steps, rule a derives a list that contains rule b
 pub record DerivesContaining (P : ℕ → List Sym → Type 0) (a b : ℕ) : Type 0 where

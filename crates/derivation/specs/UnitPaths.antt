@@ -14,7 +14,7 @@ abbrev pub IsCyclic : (ℕ → List Sym → Type 0) → ℕ → Type 0
 IsCyclic P r = DerivesRule P r r
 
 -- a unit step: a production of rule a contains rule b, and all symbols before and after b there are nullable
-pub record HoldsUnit (P : ℕ → List Sym → Type 0) (a b : ℕ) : Type 0 where
+pub record UnitRefers (P : ℕ → List Sym → Type 0) (a b : ℕ) : Type 0 where
   pub before : List Sym
   pub after : List Sym
   pub has : P a (before ++ (Rule b ∷ after))
@@ -23,5 +23,5 @@ pub record HoldsUnit (P : ℕ → List Sym → Type 0) (a b : ℕ) : Type 0 wher
 
 -- a path of one or more unit steps
 pub data UnitPath (P : ℕ → List Sym → Type 0) : ℕ → ℕ → Type 0 where
-  one : {a b : ℕ} → HoldsUnit P a b → UnitPath P a b
-  more : {a b c : ℕ} → HoldsUnit P a b → UnitPath P b c → UnitPath P a c
+  one : {a b : ℕ} → UnitRefers P a b → UnitPath P a b
+  more : {a b c : ℕ} → UnitRefers P a b → UnitPath P b c → UnitPath P a c

@@ -18,10 +18,10 @@ abbrev pub CoverFirstsOf : FirstSets → Production → Type 0
 CoverFirstsOf x p = Covers (IsNullableRule x) (IsAmongFirsts x) p.rule p.symbols
 
 -- rule r is in the production; what the production gives depends on r's set
-abbrev pub HoldsRule : Production → ℕ → Type 0
-HoldsRule p r = Contains p.symbols (Rule r)
+abbrev pub ProductionRefers : Production → ℕ → Type 0
+ProductionRefers p r = Contains p.symbols (Rule r)
 
--- the rule's set gained no token, and the rule didn't become nullable
+-- the rule's set grown no token, and the rule didn't become nullable
 pub record HasNoMoreFirsts (r : ℕ) (old new : FirstSets) : Type 0 where
   pub first : (t : ℕ) → IsAmongFirsts new r t → IsAmongFirsts old r t
   pub empty : IsNullableRule new r → IsNullableRule old r

@@ -10,7 +10,7 @@ use Rattle.cfgtables.specs.NumberedSymbols.{sym_of}
 use Rattle.cfganalysis.specs.Inner.Waiting.{Waits}
 use Rattle.cfganalysis.specs.Firsts.{FirstSets, FitsGrammar, AreFirsts, IsAmongFirsts, IsNullableRule}
 use Rattle.cfganalysis.specs.declared.follows.Lookahead.{Lookahead}
-use Rattle.cfganalysis.specs.declared.follows.Lookahead.TheVariants as prefixes
+use Rattle.cfganalysis.specs.declared.follows.Lookahead.TheVariants as lookaheads
 
 -- the FIRST sets, and for each rule a row of bits that says which tokens follow it
 pub record FollowSets : Type 0 where
@@ -41,7 +41,7 @@ CoverFollowsOf x p = CoversFollowIn x p.rule p.symbols
 abbrev pub IsOwner : Production → ℕ → Type 0
 IsOwner p r = r ≡ p.rule
 
--- the rule's set gained no token
+-- the rule's set grown no token
 abbrev pub HasNoMoreFollows : ℕ → FollowSets → FollowSets → Type 0
 HasNoMoreFollows r old new = (t : ℕ) → HasBit new.follows r t → HasBit old.follows r t
 
@@ -73,7 +73,7 @@ pub record PutsAfter (gives : ℕ → ℕ → Type 0) (old new : FollowSets) (wa
   pub no_less : count_follows old ≤ count_follows new
   pub rules : length waiting' ≡ length waiting
   pub kept : (r : ℕ) → Waits waiting r → Waits waiting' r
-  pub gained : (r : ℕ) → Waits waiting' r → Waits waiting r ⊎ (count_follows old < count_follows new)
+  pub grown : (r : ℕ) → Waits waiting' r → Waits waiting r ⊎ (count_follows old < count_follows new)
   pub more : (r : ℕ) → Waits waiting' r → Waits waiting r ⊎ (HasNoMoreFollows r old new → ⊥)
   pub reported : (r t : ℕ) → HasBit new.follows r t → HasBit old.follows r t ⊎ Waits waiting' r
 
@@ -88,22 +88,22 @@ pub record Gathers (gives : ℕ → Type 0) (old new : List Bool) : Type 0 where
 
 -- the next tokens (the lookahead) at a position in a production of `rule`: FOLLOW of `rule`, FIRST of the next symbol, or what was gathered
 abbrev pub LookaheadHas : {S : Type 0} → (S → ℕ) → FollowSets → ℕ → List Bool → Lookahead S → ℕ → Type 0
-LookaheadHas number x rule tokens prefixes.End t = HasBit x.follows rule t
-LookaheadHas number x rule tokens (prefixes.Symbol symbol) t = BeginsList x (sym_of number symbol ∷ []) t
-LookaheadHas number x rule tokens prefixes.Gathered t = IsGathered tokens t
+LookaheadHas number x rule tokens lookaheads.End t = HasBit x.follows rule t
+LookaheadHas number x rule tokens (lookaheads.Symbol symbol) t = BeginsList x (sym_of number symbol ∷ []) t
+LookaheadHas number x rule tokens lookaheads.Gathered t = IsGathered tokens t
 
 -- if the prefix has a symbol, it is a symbol of the grammar
 abbrev pub IsLookaheadOf : {S : Type 0} → (S → ℕ) → Grammar → Lookahead S → Type 0
-IsLookaheadOf number g prefixes.End = ⊤
-IsLookaheadOf number g (prefixes.Symbol symbol) = IsSymbolOf g (sym_of number symbol)
-IsLookaheadOf number g prefixes.Gathered = ⊤
+IsLookaheadOf number g lookaheads.End = ⊤
+IsLookaheadOf number g (lookaheads.Symbol symbol) = IsSymbolOf g (sym_of number symbol)
+IsLookaheadOf number g lookaheads.Gathered = ⊤
 
 abbrev pub IsEnd : {S : Type 0} → Lookahead S → Type 0
-IsEnd prefixes.End = ⊤
-IsEnd (prefixes.Symbol symbol) = ⊥
-IsEnd prefixes.Gathered = ⊥
+IsEnd lookaheads.End = ⊤
+IsEnd (lookaheads.Symbol symbol) = ⊥
+IsEnd lookaheads.Gathered = ⊥
 
--- prefix' and tokens' give the next tokens before symbol s: what s begins with and, if it is nullable, the next tokens after it, which
+-- lookahead' and tokens' give the next tokens before symbol s: what s begins with and, if it is nullable, the next tokens after it, which
 -- prefix and tokens give
 pub record LookaheadBefore {S : Type 0} (number : S → ℕ) (x : FollowSets) (rule : ℕ) (s : Sym) (lookahead : Lookahead S) (tokens : List Bool)
     (lookahead' : Lookahead S) (tokens' : List Bool) : Type 0 where

@@ -5,7 +5,7 @@ ghost use Rattle.cfgleast.specs.Generator.{cost_answer};
 ghost use Rattle.cfgcosts.specs.Inner.Minimal.{AreRequested};
 
 use crate::generator::SentenceGenerator;
-use cfganalysis::reach_held;
+use cfganalysis::reach_referred;
 use cfgindex::{RIdx, Storage, to_storage};
 use cfgleast::queue::Queue;
 use cfgtables::Tables;
@@ -41,7 +41,7 @@ impl<'a, S: Storage, T: Tables<S>> SentenceGenerator<'a, S, T> {
         while let Some(node) = search.next() {
             let reachable = RIdx(to_storage(node));
             let base = self.base_productions(alloc, reachable)?;
-            reach_held(&mut search, self.tables, &base)?;
+            reach_referred(&mut search, self.tables, &base)?;
             requested.push(self.known_cost(reachable), reachable.0.to_usize() as u32)?;
         }
         Ok(requested)

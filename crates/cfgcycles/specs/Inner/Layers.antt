@@ -2,7 +2,7 @@
 use Rattle.std.specs.Prelude.{◌≡◌, ℕ, suc, ◌+◌, ◌<◌, ◌≤◌, ◌⊎◌, ◌↔◌, List, Option, None, Some, Contains, get_or, is_none, length}
 use Rattle.std.specs.List.{count_by}
 use Rattle.cfgcycles.specs.declared.shortest.Found.{Found}
-use Rattle.cfgcycles.specs.declared.step_paths.Step.{Step}
+use Rattle.cfgcycles.specs.declared.step_paths.UnitStep.{UnitStep}
 use Rattle.cfgcycles.specs.StepPaths.{Leads}
 
 -- what is recorded for a rule
@@ -21,20 +21,20 @@ pub record IsFound (table : List (Option Found)) (rule n : ℕ) : Type 0 where
 
 -- Rules that such steps lead to were found by paths of n steps, unless they were found before, and added after those that wait. No other
 -- rules were.
-pub record Finds (n : ℕ) (Taken : ℕ → Step → Type 0) (old : List (Option Found)) (before : List ℕ) (new : List (Option Found)) (after : List ℕ) : Type 0 where
+pub record Finds (n : ℕ) (Taken : ℕ → UnitStep → Type 0) (old : List (Option Found)) (before : List ℕ) (new : List (Option Found)) (after : List ℕ) : Type 0 where
   pub shape : length new ≡ length old
   pub kept : (rule : ℕ) (found : Found) → noted old rule ≡ Some found → noted new rule ≡ Some found
   pub fresh : (rule : ℕ) (found : Found) → noted new rule ≡ Some found → (noted old rule ≡ Some found)
       ⊎ (Taken found.from found.step × (found.step.rule ≡ rule) × (found.length ≡ n) × Contains after rule)
-  pub all : (rule : ℕ) (step : Step) → Taken rule step → (found : Found) × (noted new step.rule ≡ Some found)
+  pub all : (rule : ℕ) (step : UnitStep) → Taken rule step → (found : Found) × (noted new step.rule ≡ Some found)
   pub waits : (rule : ℕ) → Contains after rule → Contains before rule ⊎ IsFound new rule n
   pub still : (rule : ℕ) → Contains before rule → Contains after rule
   pub once : left new + length after ≡ left old + length before
 
-module _ (Has : ℕ → Step → Type 0) (first : ℕ) where
+module _ (Has : ℕ → UnitStep → Type 0) (first : ℕ) where
   -- a path of n steps leads from the first rule to this one
   pub record PathTo (rule n : ℕ) : Type 0 where
-    pub path : List Step
+    pub path : List UnitStep
     pub leads : Leads Has first path rule
     pub long : length path ≡ n
 
@@ -57,7 +57,7 @@ module _ (Has : ℕ → Step → Type 0) (first : ℕ) where
     pub are : AreLayers count table layer
 
   -- the path leads to the rule, and is as long as recorded for it
-  pub record IsPathTo (table : List (Option Found)) (rule : ℕ) (path : List Step) : Type 0 where
+  pub record IsPathTo (table : List (Option Found)) (rule : ℕ) (path : List UnitStep) : Type 0 where
     pub found : Found
     pub is : noted table rule ≡ Some found
     pub leads : Leads Has first path rule

@@ -3,12 +3,12 @@ use Rattle.std.specs.Prelude.{◌≡◌, ℕ, ◌<◌, ◌≤◌, ◌⊎◌, ◌
 use Rattle.derivation.specs.Grammar.{Sym, Rule, Token}
 use Rattle.cfganalysis.specs.Firsts.{FirstSets, nullable_bit}
 use Rattle.cfgcycles.specs.StepLists.{HasStep}
-use Rattle.cfgcycles.specs.declared.step_paths.Step.{Step}
+use Rattle.cfgcycles.specs.declared.step_paths.UnitStep.{UnitStep}
 
 -- these steps were put, and nothing else changed
-pub record ArePut (Put : ℕ → Step → Type 0) (old new : List (List Step)) : Type 0 where
+pub record ArePut (Put : ℕ → UnitStep → Type 0) (old new : List (List UnitStep)) : Type 0 where
   pub shape : length new ≡ length old
-  pub steps : (rule : ℕ) (step : Step) → HasStep new rule step ↔ (HasStep old rule step ⊎ Put rule step)
+  pub steps : (rule : ℕ) (step : UnitStep) → HasStep new rule step ↔ (HasStep old rule step ⊎ Put rule step)
 
 -- whether the symbol is a nullable rule
 abbrev pub is_empty : FirstSets → Sym → Bool

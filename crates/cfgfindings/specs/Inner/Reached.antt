@@ -30,7 +30,7 @@ abbrev pub IsFollowedAt : Numbered → Bool → ℕ → Type 0
 IsFollowedAt g only_usable p = IsFollowed g only_usable (nth_production (core g) p).rule (nth_production (core g) p).symbols
 
 -- and a symbol in it has this node
-pub record HeldAt (g : Numbered) (only_usable : Bool) (p node : ℕ) : Type 0 where
+pub record RefersAt (g : Numbered) (only_usable : Bool) (p node : ℕ) : Type 0 where
   pub followed : IsFollowedAt g only_usable p
   pub holds : FoundBy (IsNodeOf g) (nth_production (core g) p).symbols node
 

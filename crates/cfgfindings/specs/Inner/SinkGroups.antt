@@ -8,17 +8,17 @@ use Rattle.cfgrammar.specs.Openings.{nth_production}
 use Rattle.cfgrammar.specs.CyclicGroup.{CyclicGroup}
 use Rattle.cfgrammar.specs.CyclicGroups.{IsInGroup}
 use Rattle.cfgrammar.specs.StepLists.{AreWithin, HasStep}
-use Rattle.cfgrammar.specs.Step.{Step}
+use Rattle.cfgrammar.specs.UnitStep.{UnitStep}
 use Rattle.cfgfindings.specs.SinkGroups.{DependsOn, IsInSinkGroup, Needs}
 
 -- a step leads from rule a to rule b
-pub record StepsTo (steps : List (List Step)) (a b : ℕ) : Type 0 where
-  pub step : Step
+pub record StepsTo (steps : List (List UnitStep)) (a b : ℕ) : Type 0 where
+  pub step : UnitStep
   pub has : HasStep steps a step
   pub to : step.rule ≡ b
 
 -- steps between these rules were put, and nothing else changed
-pub record Puts (Put : ℕ → ℕ → Type 0) (old new : List (List Step)) : Type 0 where
+pub record Puts (Put : ℕ → ℕ → Type 0) (old new : List (List UnitStep)) : Type 0 where
   pub shape : length new ≡ length old
   pub within : AreWithin old → AreWithin new
   pub steps : (a b : ℕ) → StepsTo new a b ↔ (StepsTo old a b ⊎ Put a b)
@@ -36,14 +36,14 @@ module _ (g : Numbered) where
     pub needs : IsNeededIn (nth_production (core g) p).symbols b
 
   -- a step from each unproductive one of the first `rules` rules to itself, steps by the first `productions` productions, and no others
-  pub record AreNeedsBelow (rules productions : ℕ) (steps : List (List Step)) : Type 0 where
+  pub record AreNeedsBelow (rules productions : ℕ) (steps : List (List UnitStep)) : Type 0 where
     pub entries : length steps ≡ length g.rules
     pub within : AreWithin steps
     pub are : (a b : ℕ) → StepsTo steps a b
         ↔ (((a < rules) × Unproductive (HasProduction (core g)) a × (b ≡ a)) ⊎ ((p : ℕ) × (p < productions) × NeedsBy p a b))
 
   -- a step from each unproductive rule to itself, steps to the rules that it needs, and no others
-  pub record AreNeeds (steps : List (List Step)) : Type 0 where
+  pub record AreNeeds (steps : List (List UnitStep)) : Type 0 where
     pub entries : length steps ≡ length g.rules
     pub within : AreWithin steps
     pub are : (a b : ℕ) → a < length g.rules
@@ -68,15 +68,15 @@ module _ (g : Numbered) where
         → MatchOption (get_or firsts r None) (IsInSinkGroup (HasProduction (core g)) r → ⊥) (IsSinkGroupOf groups r)
 
 -- these steps all lead to rules with this entry
-abbrev pub AllLeadTo : List Step → List (Option ℕ) → ℕ → Type 0
-AllLeadTo steps entries first = (step : Step) → Contains steps step → get_or entries step.rule None ≡ Some first
+abbrev pub AllLeadTo : List UnitStep → List (Option ℕ) → ℕ → Type 0
+AllLeadTo steps entries first = (step : UnitStep) → Contains steps step → get_or entries step.rule None ≡ Some first
 
 -- the steps from these rules all lead to rules with this entry
-abbrev pub LeadTo : List (List Step) → List (Option ℕ) → ℕ → List ℕ → Type 0
+abbrev pub LeadTo : List (List UnitStep) → List (Option ℕ) → ℕ → List ℕ → Type 0
 LeadTo steps entries first rules = (a b : ℕ) → Contains rules a → StepsTo steps a b → get_or entries b None ≡ Some first
 
 -- no step leads from these rules to another
-abbrev pub IsClosed : List (List Step) → List ℕ → Type 0
+abbrev pub IsClosed : List (List UnitStep) → List ℕ → Type 0
 IsClosed steps rules = (a b : ℕ) → Contains rules a → StepsTo steps a b → Contains rules b
 
 -- what is true of a rule's entry once these rules were given one
@@ -85,16 +85,16 @@ IsSet rules entry old new rule = (Contains rules rule × (get_or new rule None �
     ⊎ ((Contains rules rule → ⊥) × (get_or new rule None ≡ get_or old rule None))
 
 -- the rules have this entry if no step leads from them to another, and otherwise none
-abbrev pub IsMarked : List (List Step) → List ℕ → ℕ → List (Option ℕ) → List (Option ℕ) → Type 0
+abbrev pub IsMarked : List (List UnitStep) → List ℕ → ℕ → List (Option ℕ) → List (Option ℕ) → Type 0
 IsMarked steps rules first old new = (IsClosed steps rules × ((rule : ℕ) → IsSet rules (Some first) old new rule))
     ⊎ ((IsClosed steps rules → ⊥) × ((rule : ℕ) → IsSet rules None old new rule))
 
 -- no step leads out of the group with this first rule, which has the rule
-pub record IsInClosed (steps : List (List Step)) (groups : List (Option CyclicGroup)) (rule first : ℕ) : Type 0 where
+pub record IsInClosed (steps : List (List UnitStep)) (groups : List (Option CyclicGroup)) (rule first : ℕ) : Type 0 where
   pub within : IsInGroup groups rule first
   pub closed : IsClosed steps within.group.rules.items
 
-module _ (steps : List (List Step)) (groups : List (Option CyclicGroup)) (count : ℕ) where
+module _ (steps : List (List UnitStep)) (groups : List (Option CyclicGroup)) (count : ℕ) where
   -- the first rule of the rule's group, if no step leads out of it and it is one of the first `count` groups
   abbrev pub IsFirstOf : ℕ → Option ℕ → Type 0
   IsFirstOf rule found = MatchOption found ((first : ℕ) → first < count → IsInClosed steps groups rule first → ⊥)

@@ -2,15 +2,15 @@
 
 ghost use Rattle.std.specs.Prelude.{◌≡◌, Some, option_map, slice_get, string_bytes, map, IfOk};
 ghost use Rattle.std.specs.Option.{option_and_then, option_flatten, option_map_or};
-ghost use Rattle.cfgast.specs.SyntaxView.{production_view};
-ghost use Rattle.cfgtree.specs.TreeView.{syntax};
+ghost use Rattle.cfgitems.specs.SyntaxView.{production_view};
+ghost use Rattle.cfgast.specs.TreeView.{syntax};
 ghost use Rattle.cfgnumbers.specs.Numbered.{precedence_of_token, precedence_of, last_token, printed_form};
 ghost use Rattle.cfgnumbers.specs.Numbered.{avoids_insert};
 
 use crate::rows::TokenRow;
-use cfgast::{Precedence, Production};
+use cfgast::GrammarAST;
 use cfgindex::{Storage, TIdx};
-use cfgtree::GrammarAST;
+use cfgitems::{Precedence, Production};
 use indexmap::IndexMap;
 use std::alloc::AllocError;
 

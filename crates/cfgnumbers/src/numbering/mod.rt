@@ -8,15 +8,15 @@ mod symbols;
 mod tokens;
 
 ghost use Rattle.std.specs.Prelude.{◌≡◌, option_map};
-ghost use Rattle.cfgtree.specs.TreeView.{syntax};
+ghost use Rattle.cfgast.specs.TreeView.{syntax};
 ghost use Rattle.cfgnumbers.specs.Fits.{LeavesRoom};
 ghost use Rattle.cfgnumbers.specs.Numbered.{implicit_of, rules_before};
 ghost use Rattle.cfgnumbers.specs.TablesView.{file_of, implicit_in};
 
+use cfgast::GrammarAST;
 use cfgbase::Span;
 use cfgindex::{RIdx, Storage, to_storage};
 use cfgkinds::YaccKind;
-use cfgtree::GrammarAST;
 use indexmap::IndexMap;
 
 /// What a numbering uses: the syntax of a file, and its implicit tokens, if it is an Eco file with lists of them.

@@ -1,14 +1,14 @@
 //! Whether an index type can count all that a grammar will have, including what is added to the file's.
 
 ghost use Rattle.std.specs.Prelude.{◌≡◌, ◌↔◌, ◌+◌, ◌≤◌, ◌<◌, All, length, map, IsTrue};
-ghost use Rattle.cfgast.specs.SyntaxView.{symbol_view};
+ghost use Rattle.cfgitems.specs.SyntaxView.{symbol_view};
 ghost use Rattle.cfgnumbers.specs.Fits.{LeavesRoom, productions_after};
 ghost use Rattle.cfgnumbers.specs.Numbered.{rules_before, spaced, file_symbol, file_symbols};
 ghost use Rattle.cfgnumbers.specs.TablesView.{file_of, implicit_in};
 
 use super::Numbering;
-use cfgast::{Production, Symbol};
 use cfgindex::Storage;
+use cfgitems::{Production, Symbol};
 
 impl Numbering<'_> {
     /// Whether the index type can count the rules, tokens and productions of the numbered grammar, and the symbols of

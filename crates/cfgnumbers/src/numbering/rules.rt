@@ -4,17 +4,17 @@ ghost use Rattle.std.specs.Prelude.{◌≡◌, ◌+◌, ◌≤◌, ◌∷◌, �
 ghost use Rattle.std.specs.Prelude.{IfOk, OnOk};
 ghost use Rattle.std.specs.List.{list_any, range_with_len};
 ghost use Rattle.std.specs.Str.{bytes_eq};
-ghost use Rattle.cfgast.specs.SyntaxView.{rule_view as plain_rule};
-ghost use Rattle.cfgtree.specs.Sound.{IsSound};
+ghost use Rattle.cfgitems.specs.SyntaxView.{rule_view as plain_rule};
+ghost use Rattle.cfgast.specs.Sound.{IsSound};
 ghost use Rattle.cfgnumbers.specs.Fits.{LeavesRoom};
 ghost use Rattle.cfgnumbers.specs.Numbered.{added_rule, added_rules, file_rule};
 ghost use Rattle.cfgnumbers.specs.TablesView.{names, file_of, implicit_in, rule_view};
 
 use super::Numbering;
 use crate::rows::RuleRow;
-use cfgast::Rule;
 use cfgbase::Span;
 use cfgindex::{PIdx, Storage, to_storage};
+use cfgitems::Rule;
 use indexmap::IndexMap;
 use std::alloc::{AllocError, Global};
 

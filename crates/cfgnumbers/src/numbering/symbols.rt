@@ -2,9 +2,9 @@
 
 ghost use Rattle.std.specs.Prelude.{◌≡◌, ◌+◌, ◌≤◌, ◌++◌, ◌∷◌, [], true, All, None, Some, map, option_map, slice_get};
 ghost use Rattle.std.specs.Prelude.{IfOk, OnOk};
-ghost use Rattle.cfgast.specs.Building.{has_name, has_rule};
-ghost use Rattle.cfgast.specs.SyntaxView.{symbol_view};
-ghost use Rattle.cfgtree.specs.Check.{symbol_error};
+ghost use Rattle.cfgitems.specs.Building.{has_name, has_rule};
+ghost use Rattle.cfgitems.specs.SyntaxView.{symbol_view};
+ghost use Rattle.cfgast.specs.Check.{symbol_error};
 ghost use Rattle.cfgnumbers.specs.Fits.{LeavesRoom};
 ghost use Rattle.cfgnumbers.specs.Numbered.{rule_index, rules_before, token_index, file_symbol, file_symbols, spaced};
 ghost use Rattle.cfgnumbers.specs.Numbered.{start_symbols, last_token, token_in};
@@ -22,7 +22,7 @@ impl Numbering<'_> {
     pub(super) fn number_symbols<S: Storage>(
         &self,
         numbered: &mut Vec<Symbol<S>>,
-        symbols: &[cfgast::Symbol],
+        symbols: &[cfgitems::Symbol],
     ) -> Result<Option<TIdx<S>>, AllocError>
         requires known { All (λ symbol. symbol_error (file_of self.now) symbol ≡ None)
             (map symbol_view symbols.now) }
@@ -46,7 +46,7 @@ impl Numbering<'_> {
     fn push_symbol<S: Storage>(
         &self,
         numbered: &mut Vec<Symbol<S>>,
-        symbol: &cfgast::Symbol,
+        symbol: &cfgitems::Symbol,
     ) -> Result<Option<TIdx<S>>, AllocError>
         requires known { symbol_error (file_of self.now) (symbol_view symbol.now) ≡ None }
         requires room { LeavesRoom S.MAX (implicit_in self.now) (file_of self.now) }
@@ -59,11 +59,11 @@ impl Numbering<'_> {
             ≡ option_map Some (token_in (symbol_view symbol.now))) }
     {
         match symbol {
-            cfgast::Symbol::Rule(name, _) => {
+            cfgitems::Symbol::Rule(name, _) => {
                 numbered.push(Symbol::Rule(self.rule_of(name.as_str())))?;
                 Ok(None)
             }
-            cfgast::Symbol::Token(name, _) => {
+            cfgitems::Symbol::Token(name, _) => {
                 let token = self.token_of(name.as_str());
                 numbered.push(Symbol::Token(token))?;
                 if let Some(rule) = self.implicit_rule() {

@@ -3,7 +3,7 @@
 ghost use Rattle.std.specs.Prelude.{◌≡◌, ◌∷◌, ◌++◌, [], false, map, IfOk, OnOk};
 ghost use Rattle.std.specs.List.{list_any, zip};
 ghost use Rattle.std.specs.Str.{bytes_eq};
-ghost use Rattle.cfgtree.specs.WellFormed.{IsWellFormed};
+ghost use Rattle.cfgast.specs.WellFormed.{IsWellFormed};
 ghost use Rattle.cfgnumbers.specs.Numbered.{file_token};
 ghost use Rattle.cfgnumbers.specs.TablesView.{names, file_of, token_view};
 

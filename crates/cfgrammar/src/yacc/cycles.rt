@@ -1,3 +1,3 @@
 //! Cyclic rules, their groups, and shortest cycles.
 
-pub use cfgcycles::{CyclicGroup, Step, Steps, cyclic_groups, shortest_cycle, unit_steps};
+pub use cfgcycles::{CyclicGroup, Steps, UnitStep, cyclic_groups, shortest_cycle, unit_steps};

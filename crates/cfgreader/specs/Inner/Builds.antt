@@ -11,10 +11,10 @@ use Rattle.cfgwords.specs.declared.fault.Fault.{Fault}
 use Rattle.cfgwords.specs.FileWords.{TokenText, name_of, token_of, word_at, token_at}
 use Rattle.cfgwords.specs.declared.words.Word.{Word as CodeWord}
 use Rattle.cfgwords.specs.declared.words.Token.{Token as CodeToken}
-use Rattle.cfgast.specs.Items.{Item}
-use Rattle.cfgast.specs.Building.{add}
-use Rattle.cfgast.specs.Syntax.{Syntax}
-use Rattle.cfgast.specs.SyntaxView.{syntax_built, word_view, token_view}
+use Rattle.cfgitems.specs.Items.{Item}
+use Rattle.cfgitems.specs.Building.{add}
+use Rattle.cfgitems.specs.Syntax.{Syntax}
+use Rattle.cfgitems.specs.SyntaxView.{syntax_built, word_view, token_view}
 use Rattle.constructs.specs.Construct.{Construct}
 use Rattle.constructs.specs.Steps as steps
 use Rattle.constructs.specs.Steps.{ReaderKind}

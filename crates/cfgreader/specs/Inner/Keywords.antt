@@ -4,7 +4,7 @@ use denote.Ref.{Bor}
 use Rattle.constructs.specs.Pieces.{strip}
 use Rattle.constructs.specs.Read.{gives}
 use Rattle.constructs.specs.Construct.{then, again, computes}
-use Rattle.cfgast.specs.Items.{ExpectDeclared, ExpectReduceReduceDeclared}
+use Rattle.cfgitems.specs.Items.{ExpectDeclared, ExpectReduceReduceDeclared}
 use Rattle.cfgkinds.specs.declared.kind.YaccKind.{YaccKind}
 use Rattle.cfgreader.specs.declared.keywords.Declaration.{Declaration}
 use Rattle.cfgreader.specs.declared.keywords.Declaration.TheVariants as code

@@ -1,7 +1,7 @@
 -- What the code's lists say, as constructs and items.
 use Rattle.std.specs.Prelude.{ℕ}
 use Rattle.cfgwords.specs.FileWords.{Word}
-use Rattle.cfgast.specs.Items.{Item, AvoidInsertBegun, AvoidInsertDeclared, ImplicitTokensBegun, ImplicitTokenDeclared, PrecedenceDeclared}
+use Rattle.cfgitems.specs.Items.{Item, AvoidInsertBegun, AvoidInsertDeclared, ImplicitTokensBegun, ImplicitTokenDeclared, PrecedenceDeclared}
 use Rattle.cfgreader.specs.declared.lists.Listed.{Listed}
 use Rattle.cfgreader.specs.declared.lists.Listed.TheVariants as listed
 use Rattle.cfgreader.specs.declared.lists.Marking.{Marking}

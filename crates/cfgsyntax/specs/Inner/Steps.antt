@@ -3,9 +3,9 @@ use Rattle.std.specs.Prelude.{◌≡◌, ℕ, false, List, map, Option, option_m
 use denote.Ref.{Bor}
 use Rattle.constructs.specs.Construct.{computes}
 use Rattle.constructs.specs.Read.{stop_of}
-use Rattle.cfgast.specs.Syntax.{syntax_of}
-use Rattle.cfgtree.specs.TreeView.{syntax}
-use Rattle.cfgtree.specs.declared.ast.GrammarAST.{GrammarAST}
+use Rattle.cfgitems.specs.Syntax.{syntax_of}
+use Rattle.cfgast.specs.TreeView.{syntax}
+use Rattle.cfgast.specs.declared.ast.GrammarAST.{GrammarAST}
 use Rattle.cfgkinds.specs.declared.kind.YaccKind.{YaccKind}
 use Rattle.cfgsection.specs.declared.section.header_fault.HeaderFault.{HeaderFault}
 use Rattle.cfgsection.specs.declared.section.header_fault.HeaderFault.TheVariants as header

@@ -1,6 +1,6 @@
 -- What a check finds wrong, as the error that validation returns for a syntax.
 use Rattle.std.specs.Prelude.{Option, Some, None, Result, Ok, Err}
-use Rattle.cfgtree.specs.Check.{nowhere}
+use Rattle.cfgast.specs.Check.{nowhere}
 use Rattle.cfgerrors.specs.Errors.{GrammarError, InvalidStartRule, UnknownRuleRef, UnknownToken, NoPrecForToken, UnknownEPP, NoStartRule, error_at}
 use Rattle.cfgsyntax.specs.declared.validation.ValidationError.{ValidationError}
 use Rattle.cfgsyntax.specs.declared.validation.ValidationError.TheVariants as invalid

@@ -8,31 +8,31 @@ mod start;
 
 ghost use Rattle.std.specs.Prelude.{◌≡◌, ◌↔◌, [], true, List, Option, string_bytes, IsTrue, IfOk, IfErr};
 ghost use Rattle.std.specs.Prelude.{OnOk};
-ghost use Rattle.cfgast.specs.Building.{has_rule};
-ghost use Rattle.cfgast.specs.Items.{Item};
-ghost use Rattle.cfgast.specs.Syntax.{syntax_of};
-ghost use Rattle.cfgast.specs.SyntaxView.{named_view};
+ghost use Rattle.cfgitems.specs.Building.{has_rule};
+ghost use Rattle.cfgitems.specs.Items.{Item};
+ghost use Rattle.cfgitems.specs.Syntax.{syntax_of};
+ghost use Rattle.cfgitems.specs.SyntaxView.{named_view};
 ghost use Rattle.cfgerrors.specs.Refusal.{ListsErrors};
-ghost use Rattle.cfgtree.specs.TreeView.{syntax};
+ghost use Rattle.cfgast.specs.TreeView.{syntax};
 ghost use Rattle.cfgsection.specs.Named.{HasOneNaming, Names, Naming};
 ghost use Rattle.cfgsyntax.specs.Faults.{errors_of};
 ghost use Rattle.cfgwords.specs.TextSpans.{IsPiece, IsWithin};
 ghost use Rattle.cfgsyntax.specs.Inner.Steps.{IsReadSection};
 ghost use Rattle.cfgsyntax.specs.SelfNamed.{ReturnsNaming, ReturnsNamedOr, IsParsedAs};
 ghost use Rattle.cfgsyntax.specs.Reads.{Reads, HasOneReading, Stop};
-ghost use Rattle.cfgtree.specs.Sound.{IsSound};
+ghost use Rattle.cfgast.specs.Sound.{IsSound};
 ghost use Rattle.cfgsyntax.specs.ErrorSpans.{EachFaultSpan, EachParsedSpan};
 ghost use Rattle.cfgsyntax.specs.Starts.{restarted, IsStartFault};
 
 use crate::read::{after_section, read};
 use crate::validation::has_rule;
-pub use cfgast::{Production, Rule, Settings, Symbol};
+pub use cfgast::GrammarAST;
+use cfgast::{clone_with_start, tree_with};
 use cfgerrors::{YaccGrammarError, YaccGrammarErrorKind, YaccGrammarResult};
+pub use cfgitems::{Production, Rule, Settings, Symbol};
 use cfgkinds::YaccKind;
 use cfgsection::HeaderFault;
 use cfgsection::named::{kind_if_named, kind_named};
-pub use cfgtree::GrammarAST;
-use cfgtree::{clone_with_start, tree_with};
 use errors::{errors_found, fault_of};
 pub use every_check::every_error;
 pub use source::KindSource;
@@ -49,9 +49,9 @@ pub struct ASTWithValidityInfo {
 }
 
 impl Model for ASTWithValidityInfo {
-    ghost use Rattle.cfgtree.specs.TreeView.{syntax};
+    ghost use Rattle.cfgast.specs.TreeView.{syntax};
     ghost use Rattle.cfgsyntax.specs.Parsed.{Parsed};
-    ghost use Rattle.cfgtree.specs.Sound.{IsSound};
+    ghost use Rattle.cfgast.specs.Sound.{IsSound};
 
     ghost Value = { Parsed };
 

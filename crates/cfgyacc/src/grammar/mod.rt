@@ -7,7 +7,7 @@ mod printed;
 mod tables;
 
 pub use cfganalysis::{CountedTables, Productions, Tables};
-pub use cfgast::{AssocKind, Precedence};
+pub use cfgitems::{AssocKind, Precedence};
 pub use iter::{PIdxIter, RIdxIter, TIdxIter};
 pub use tables::YaccGrammar;
 

@@ -4,4 +4,4 @@ use Rattle.cfganalysis.proofs.Noting.{NotesLookahead}
 use Rattle.cfganalysis.proofs.firsts.note_rules.Given as goal
 
 abbrev pub invariant-loop-held : goal.invariant-loop-held
-invariant-loop-held g l = NotesLookahead l.production (map (sym_of g.S.Storage.number) l.symbols) l.held-index l.fn.users l.users
+invariant-loop-held g l = NotesLookahead l.production (map (sym_of g.S.Storage.number) l.symbols) l.held-index l.fn.dependents l.dependents

@@ -13,7 +13,7 @@ visit_each-requires g c =
       all = all;
       visited = visited_none _ _ _ _ _ _ _ _ c.to_usize-rules.result c.to_usize-prods_len.result _ _ _ c.requires.holds
           (c.to_usize-rules.ensures.value ∙ c.rules_len.ensures.value) all
-          c.in_ok-work.ensures.users c.in_ok-work.ensures.waiting c.in_ok-work.ensures.gained c.requires.fresh c.requires.all_fresh;
+          c.in_ok-work.ensures.dependents c.in_ok-work.ensures.waiting c.in_ok-work.ensures.grown c.requires.fresh c.requires.all_fresh;
     }
 
 pub loop-init : goal.loop-init
@@ -23,7 +23,7 @@ loop-init g c =
     record {
       content = same;
       visited = subst (λ n. Visited g.A.Analysis.holds g.A.Analysis.covers g.A.Analysis.bits g.A.Analysis.depends_on (g.P.Productions.content c.visit_each.new.productions) n
-          c.visit_each.new.analysis c.visit_each.new.work.users c.visit_each.new.work.waiting c.visit_each.new.work.gained
+          c.visit_each.new.analysis c.visit_each.new.work.dependents c.visit_each.new.work.waiting c.visit_each.new.work.grown
           (g.P.Productions.opened c.visit_each.new.productions) (g.P.Productions.opened_all c.visit_each.new.productions)) all c.in_ok-visit_each.ensures.visited;
     }
 

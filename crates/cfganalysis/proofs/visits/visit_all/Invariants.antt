@@ -7,7 +7,7 @@ invariant-loop g l = record {
   content : g.P.Productions.content l.productions ≡ g.P.Productions.content l.fn.productions;
   visited : Visited g.A.Analysis.holds g.A.Analysis.covers g.A.Analysis.bits g.A.Analysis.depends_on (g.P.Productions.content l.productions)
       (length (g.P.Productions.content l.productions).productions) l.analysis
-      l.work.users l.work.waiting l.work.gained (g.P.Productions.opened l.productions) (g.P.Productions.opened_all l.productions);
+      l.work.dependents l.work.waiting l.work.grown (g.P.Productions.opened l.productions) (g.P.Productions.opened_all l.productions);
 }
 
 abbrev pub decreases-loop : goal.decreases-loop

@@ -6,5 +6,5 @@ abbrev pub invariant-loop-number : goal.invariant-loop-number
 invariant-loop-number g l = record {
   content : g.P.Productions.content l.productions ≡ g.P.Productions.content l.fn.productions;
   visited : Visited g.A.Analysis.holds g.A.Analysis.covers g.A.Analysis.bits g.A.Analysis.depends_on (g.P.Productions.content l.productions) l.number l.analysis
-      l.work.users l.work.waiting l.work.gained (g.P.Productions.opened l.productions) (g.P.Productions.opened_all l.productions);
+      l.work.dependents l.work.waiting l.work.grown (g.P.Productions.opened l.productions) (g.P.Productions.opened_all l.productions);
 }

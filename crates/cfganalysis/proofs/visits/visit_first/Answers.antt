@@ -38,4 +38,4 @@ pub returns-clause-visited : goal.returns-clause-visited
 returns-clause-visited g c =
     visited_first _ _ _ _ _ _ _ _ _ _ _ _ c.requires.visited _ _ _ (shown g.S.Storage.number c.rule_of-rule.result c.open-symbols.result.now) _ _ _ _ _ _ _ c.requires.can.grammar c.requires.number c.to_storage.ensures
     c.rule_of-rule.ensures c.open-symbols.ensures.symbols c.open-symbols.follows.holds-at-none c.in_ok-note.ensures c.add_production.ensures.takes
-    c.add_production.ensures.users c.add_production.ensures.gained c.add_production.ensures.rules
+    c.add_production.ensures.dependents c.add_production.ensures.grown c.add_production.ensures.rules

@@ -19,7 +19,7 @@ pub returns-clause-visited : goal.returns-clause-visited
 returns-clause-visited g c =
     visited_next _ _ _ _ _ _ _ _ _ _ _ _ c.requires.visited _ _ _ _ (shown g.S.Storage.number c.rule_of-rule.result c.open.result.now) _ _ _ _ _ _ _ c.requires.can.grammar refl c.to_storage.ensures
     c.rule_of-rule.ensures c.open.ensures.symbols c.in-Some.ensures c.open.follows.holds-at-none c.add_production.ensures.takes
-    c.add_production.ensures.users c.add_production.ensures.gained c.add_production.ensures.rules
+    c.add_production.ensures.dependents c.add_production.ensures.grown c.add_production.ensures.rules
 
 pub returns-clause-less : goal.returns-clause-less
 returns-clause-less g c =

@@ -1,7 +1,7 @@
 use Rattle.std.proofs.Common.{◌≡◌, ◌<◌, Contains, get_or, length, slice_index, arith, sym, subst, ◌∙◌}
 use Rattle.std.proofs.lemmas.List.{get_or_default, take_all}
 use Rattle.std.proofs.lemmas.List.Elements.{Contains-get_or}
-use Rattle.cfgcycles.specs.declared.step_paths.Step.{Step}
+use Rattle.cfgcycles.specs.declared.step_paths.UnitStep.{UnitStep}
 use Rattle.cfgcycles.specs.Inner.Putting.{ArePut}
 use Rattle.cfgcycles.proofs.Members.{inner_left_out, inner_more, inner_put}
 use Rattle.cfgcycles.proofs.groups.put_inner.Goals as goal
@@ -9,13 +9,13 @@ use Rattle.cfgcycles.proofs.groups.put_inner.Goals.{then-numbers-rule+in_ok-push
 
 pub offset_bounds-numbers-step : goal.offset_bounds-numbers-step
 offset_bounds-numbers-step c =
-    let none : Step = record { rule = 0; production = 0; index = 0 } in
+    let none : UnitStep = record { rule = 0; production = 0; index = 0 } in
     let within = c.requires.within (get_or c.args.path.now c.loop-step.step-index none) (Contains-get_or c.args.path.now c.loop-step.step-index none c.loop-step-test.true) in
     omega (arith, within)
 
 pub bounds-numbers-step : goal.bounds-numbers-step
 bounds-numbers-step c =
-    let none : Step = record { rule = 0; production = 0; index = 0 } in
+    let none : UnitStep = record { rule = 0; production = 0; index = 0 } in
     c.requires.within (get_or c.args.path.now c.loop-step.step-index none) (Contains-get_or c.args.path.now c.loop-step.step-index none c.loop-step-test.true)
 
 pub loop-step-preserved : goal.loop-step-preserved
@@ -24,7 +24,7 @@ loop-step-preserved c =
     let rule = c.args.rule in
     let path = c.args.path.now in
     let i = c.loop-step.step-index in
-    let none : Step = record { rule = 0; production = 0; index = 0 } in
+    let none : UnitStep = record { rule = 0; production = 0; index = 0 } in
     let step = get_or path i none in
     let mid = c.loop-step.inner in
     let within : rule < length mid = subst (λ n. rule < n) (sym c.loop-step.invariant.shape) c.requires.rule in

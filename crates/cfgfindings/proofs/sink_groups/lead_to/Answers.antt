@@ -1,12 +1,12 @@
 use Rattle.std.proofs.Common.{◌<◌, None, get_or, length, arith, subst, ◌∙◌}
 use Rattle.std.proofs.lemmas.List.{get_or_default, take_all}
 use Rattle.std.proofs.lemmas.List.Elements.{Contains-get_or}
-use Rattle.cfgrammar.specs.Step.{Step}
+use Rattle.cfgrammar.specs.UnitStep.{UnitStep}
 use Rattle.cfgfindings.specs.Inner.SinkGroups.{AllLeadTo}
 use Rattle.cfgfindings.proofs.SinkGroups.{lead_more, same_entry}
 use Rattle.cfgfindings.proofs.sink_groups.lead_to.Goals as goal
 
-abbrev no_step : Step
+abbrev no_step : UnitStep
 no_step = record { rule = 0; production = 0; index = 0 }
 
 pub offset_bounds-entries-step : goal.offset_bounds-entries-step

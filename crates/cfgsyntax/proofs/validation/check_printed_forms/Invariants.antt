@@ -1,7 +1,7 @@
 use Rattle.std.proofs.Common.{◌≡◌, map}
-use Rattle.cfgast.specs.SyntaxView.{printed_entry}
-use Rattle.cfgtree.specs.TreeView.{syntax}
-use Rattle.cfgtree.specs.Check.{first_error, printed_error}
+use Rattle.cfgitems.specs.SyntaxView.{printed_entry}
+use Rattle.cfgast.specs.TreeView.{syntax}
+use Rattle.cfgast.specs.Check.{first_error, printed_error}
 use Rattle.cfgsyntax.proofs.validation.check_printed_forms.Given as goal
 
 abbrev pub invariant-loop-name : goal.invariant-loop-name

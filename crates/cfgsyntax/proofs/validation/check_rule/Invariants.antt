@@ -1,6 +1,6 @@
 use Rattle.std.proofs.Common.{◌≡◌, drop}
-use Rattle.cfgtree.specs.TreeView.{syntax}
-use Rattle.cfgtree.specs.Check.{first_error, locate_error}
+use Rattle.cfgast.specs.TreeView.{syntax}
+use Rattle.cfgast.specs.Check.{first_error, locate_error}
 use Rattle.cfgsyntax.proofs.validation.check_rule.Given as goal
 
 abbrev pub invariant-loop-index : goal.invariant-loop-index

@@ -1,7 +1,7 @@
 use Rattle.std.proofs.Common.{◌≡◌, map}
-use Rattle.cfgast.specs.SyntaxView.{rule_entry}
-use Rattle.cfgtree.specs.TreeView.{syntax}
-use Rattle.cfgtree.specs.Check.{first_error, rule_error}
+use Rattle.cfgitems.specs.SyntaxView.{rule_entry}
+use Rattle.cfgast.specs.TreeView.{syntax}
+use Rattle.cfgast.specs.Check.{first_error, rule_error}
 use Rattle.cfgsyntax.proofs.validation.check_rules.Given as goal
 
 abbrev pub invariant-loop-rule : goal.invariant-loop-rule

@@ -1,7 +1,7 @@
 use Rattle.std.proofs.Common.{◌≡◌, map, drop}
-use Rattle.cfgast.specs.SyntaxView.{symbol_view}
-use Rattle.cfgtree.specs.TreeView.{syntax}
-use Rattle.cfgtree.specs.Check.{first_error, symbol_error}
+use Rattle.cfgitems.specs.SyntaxView.{symbol_view}
+use Rattle.cfgast.specs.TreeView.{syntax}
+use Rattle.cfgast.specs.Check.{first_error, symbol_error}
 use Rattle.cfgsyntax.proofs.validation.check_symbols.Given as goal
 
 abbrev pub invariant-loop-symbol : goal.invariant-loop-symbol

@@ -1,6 +1,6 @@
 use Rattle.std.proofs.Common.{sym, ap, ◌∙◌}
-use Rattle.cfgast.specs.Building.{has_entry}
-use Rattle.cfgast.proofs.Views.{has_entry-entries}
+use Rattle.cfgitems.specs.Building.{has_entry}
+use Rattle.cfgitems.proofs.Views.{has_entry-entries}
 use Rattle.cfgsyntax.proofs.validation.has_precedence.Goals as goal
 
 pub returns : goal.returns

@@ -1,7 +1,7 @@
 use Rattle.std.proofs.Common.{is_some, bytes_eq, sym, ap, ◌∙◌}
 use Rattle.lemmas.proofs.Lookups.{found-lookup}
 use Rattle.lemmas.proofs.Options.{is_some-option_map}
-use Rattle.cfgtree.specs.TreeView.{syntax}
+use Rattle.cfgast.specs.TreeView.{syntax}
 use Rattle.cfgsyntax.proofs.validation.has_rule.Goals as goal
 
 pub returns : goal.returns

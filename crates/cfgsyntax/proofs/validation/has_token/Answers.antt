@@ -3,7 +3,7 @@ use Rattle.std.specs.Cmp.Lexicographic.{bytes_decides, nat_list_eq_equiv}
 use Rattle.std.specs.List.{list_any}
 use Rattle.std.proofs.lemmas.Bool.Decides.{same_from_decides}
 use Rattle.std.proofs.lemmas.Map.Views.{Contains-from_any, list_any-from_Contains}
-use Rattle.cfgtree.specs.TreeView.{syntax}
+use Rattle.cfgast.specs.TreeView.{syntax}
 use Rattle.cfgsyntax.proofs.validation.has_token.Goals as goal
 
 pub returns : goal.returns

@@ -1,9 +1,9 @@
 //! The errors of a file, in order.
 
 ghost use Rattle.std.specs.Prelude.{◌≡◌, map, option_map, IfOk};
-ghost use Rattle.cfgtree.specs.Duplicates.{duplicates};
-ghost use Rattle.cfgast.specs.SyntaxView.{occurrence_view};
-ghost use Rattle.cfgtree.specs.TreeView.{syntax};
+ghost use Rattle.cfgast.specs.Duplicates.{duplicates};
+ghost use Rattle.cfgitems.specs.SyntaxView.{occurrence_view};
+ghost use Rattle.cfgast.specs.TreeView.{syntax};
 ghost use Rattle.cfgsection.specs.SectionReads.{errors_view};
 ghost use Rattle.cfgerrors.specs.Errors.{kind_view, header_error};
 ghost use Rattle.cfgsyntax.specs.Faults.{repeated_kind, duplicate_error, stop_errors, all_errors};
@@ -12,7 +12,8 @@ ghost use Rattle.cfgsyntax.specs.Inner.Steps.{IsFaultOf, stop_view};
 use super::fault::error_of;
 use crate::read::Stopped;
 use crate::validation::check;
-use cfgast::{Occurrence, UniqueKind};
+use cfgast::GrammarAST;
+use cfgast::duplicates::duplicates;
 use cfgbase::Span;
 use cfgerrors::YaccGrammarErrorKind::{
     DuplicateActiontypeDeclaration, DuplicateAvoidInsertDeclaration, DuplicateEPP,
@@ -20,9 +21,8 @@ use cfgerrors::YaccGrammarErrorKind::{
     DuplicatePrecedence, DuplicateStartDeclaration,
 };
 use cfgerrors::{HeaderError, YaccFault, YaccGrammarError, YaccGrammarErrorKind};
+use cfgitems::{Occurrence, UniqueKind};
 use cfgsection::HeaderFault;
-use cfgtree::GrammarAST;
-use cfgtree::duplicates::duplicates;
 use std::alloc::{AllocError, Global};
 
 /// The kind of error for what is declared more than once.

@@ -3,18 +3,18 @@
 ghost use Rattle.std.specs.Prelude.{◌≡◌, ◌++◌, IfOk, OnOk, map, slice_get};
 ghost use Rattle.std.specs.List.{filter_map, flat_map};
 ghost use Rattle.std.specs.Option.{option_to_list};
-ghost use Rattle.cfgast.specs.SyntaxView.{production_view, symbol_view};
-ghost use Rattle.cfgtree.specs.Check.{check_of, printed_error, symbol_error};
-ghost use Rattle.cfgtree.specs.TreeView.{syntax};
+ghost use Rattle.cfgitems.specs.SyntaxView.{production_view, symbol_view};
+ghost use Rattle.cfgast.specs.Check.{check_of, printed_error, symbol_error};
+ghost use Rattle.cfgast.specs.TreeView.{syntax};
 ghost use Rattle.cfgsyntax.specs.EveryError.{every_error, located_errors, production_errors, rule_errors};
 ghost use Rattle.cfgsyntax.specs.Inner.ValidationError.{found};
 
 use crate::validation::{
     ValidationError, check_precedence, check_printed_form, check_start, check_symbol,
 };
-use cfgast::{Production, Rule, Symbol};
+use cfgast::GrammarAST;
 use cfgerrors::YaccGrammarError;
-use cfgtree::GrammarAST;
+use cfgitems::{Production, Rule, Symbol};
 use std::alloc::{AllocError, Global};
 
 /// Every check of validation that the tree fails, as its error, in the order of the checks: that there is a start and

@@ -5,8 +5,8 @@ use Rattle.cfganalysis.proofs.firsts.GrowingFirstsAnalysis.visit.Goals as goal
 
 pub returns-then-add_production-clause-takes : goal.returns-then-add_production-clause-takes
 returns-then-add_production-clause-takes g c =
-    gains_put _ _ _ _ _ _ c.args.gained.now _ c.requires.3
-    (subst (λ n. n < length c.args.gained.now) (sym c.from.ensures)
+    gains_put _ _ _ _ _ _ c.args.grown.now _ c.requires.3
+    (subst (λ n. n < length c.args.grown.now) (sym c.from.ensures)
     (subst (λ n. g.S.Storage.number c.args.rule.0 < n) (sym c.requires.4) (owner _ _ c.requires.1 c.requires.5)))
     c.from.ensures c.put.ensures c.if-add_production.true c.add_production.ensures
 

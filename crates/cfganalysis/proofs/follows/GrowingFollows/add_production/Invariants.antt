@@ -1,12 +1,12 @@
 use Rattle.std.proofs.Common.{map, length}
 use Rattle.cfgtables.specs.NumberedSymbols.{sym_of}
 use Rattle.cfganalysis.proofs.FollowVisits.{Flowing}
-use Rattle.cfganalysis.proofs.Gathering.{Fronting}
+use Rattle.cfganalysis.proofs.Gathering.{HasLookahead}
 use Rattle.cfganalysis.proofs.follows.GrowingFollows.add_production.Given as goal
 
 abbrev pub invariant-loop-index : goal.invariant-loop-index
 invariant-loop-index g l = record {
-  flowing : Flowing (g.S.Storage.number l.rule.0) (map (sym_of g.S.Storage.number) l.symbols) l.index l.fn.self l.self l.fn.gained l.gained;
-  fronting : Fronting g.S.Storage.number (g.S.Storage.number l.rule.0) (map (sym_of g.S.Storage.number) l.symbols) l.index (length l.fn.gathered)
+  flowing : Flowing (g.S.Storage.number l.rule.0) (map (sym_of g.S.Storage.number) l.symbols) l.index l.fn.self l.self l.fn.grown l.grown;
+  has_lookahead : HasLookahead g.S.Storage.number (g.S.Storage.number l.rule.0) (map (sym_of g.S.Storage.number) l.symbols) l.index (length l.fn.gathered)
       l.fn.self l.self l.lookahead l.gathered;
 }

@@ -5,7 +5,7 @@ use Rattle.cfganalysis.proofs.productive.GrowingProductiveAnalysis.visit.Goals a
 use Rattle.cfganalysis.proofs.productive.GrowingProductiveAnalysis.visit.Goals.{then-set, else-set}
 
 pub returns-then-not-has_all-clause-takes : goal.returns-then-not-has_all-clause-takes
-returns-then-not-has_all-clause-takes g c = takes_none _ c.args.self.now c.args.gained.now c.requires.3 _ refl (λ all. absurd (c.if-not-has_all.ensures all))
+returns-then-not-has_all-clause-takes g c = takes_none _ c.args.self.now c.args.grown.now c.requires.3 _ refl (λ all. absurd (c.if-not-has_all.ensures all))
 
 pub returns-clause-takes : goal.returns-clause-takes
 returns-clause-takes g c =
@@ -15,8 +15,8 @@ returns-clause-takes g c =
     let put = c.set.ensures.bits ∙ ap (λ l. slice_set l c.from.result true) c.self.view_is in
     let had = ap (λ l. slice_get l c.from.result) (sym c.self.view_is) in
     elim c.if-set.branch [
-      | then-set w ↦ takes_new _ c.args.self.now c.args.gained.now c.requires.3 _ c.from.ensures within c.if-not-has_all.ensures _ put
-          (had ∙ w.if-set.ensures.changed) among _ (w.gained-is ∙ w.put.ensures ∙ ap (λ n. slice_set c.args.gained.now n true) (w.from-then-set.ensures ∙ sym c.from.ensures))
-      | else-set w ↦ takes_set _ c.args.self.now c.args.gained.now c.requires.3 _ c.from.ensures within c.if-not-has_all.ensures _ put
-          (had ∙ w.if-set.ensures.changed) _ w.gained-is
+      | then-set w ↦ takes_new _ c.args.self.now c.args.grown.now c.requires.3 _ c.from.ensures within c.if-not-has_all.ensures _ put
+          (had ∙ w.if-set.ensures.changed) among _ (w.grown-is ∙ w.put.ensures ∙ ap (λ n. slice_set c.args.grown.now n true) (w.from-then-set.ensures ∙ sym c.from.ensures))
+      | else-set w ↦ takes_set _ c.args.self.now c.args.grown.now c.requires.3 _ c.from.ensures within c.if-not-has_all.ensures _ put
+          (had ∙ w.if-set.ensures.changed) _ w.grown-is
     ]

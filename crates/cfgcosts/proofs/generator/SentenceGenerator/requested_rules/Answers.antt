@@ -3,7 +3,7 @@ use Rattle.std.specs.List.Sorted.{IsPermutation}
 use Rattle.std.proofs.lemmas.List.{length-replicate}
 use Rattle.std.proofs.lemmas.List.Elements.{All-contains_itself, All-weaker}
 use Rattle.derivation.specs.Grammar.{IsGrammar}
-use Rattle.cfganalysis.specs.Paths.{HeldIn}
+use Rattle.cfganalysis.specs.Paths.{ProductionRefersAt}
 use Rattle.search.specs.Reachable.{FoundBy, Reaches, SearchState}
 use Rattle.search.proofs.Reaching.{Begun, begun, less_to_do, popped_reachable, popped_within}
 use Rattle.cfgleast.specs.Generator.{CostTables, IsGenerator}
@@ -36,11 +36,11 @@ pub base_productions-requires : goal.base_productions-requires
 base_productions-requires g c = subst (λ n. n < c.args.self.now.grammar.rules) (sym c.to_storage.ensures)
     (popped_within _ _ _ _ _ _ c.next.new.self c.loop-node.invariant.search c.in-Some.ensures.waiting)
 
-pub reach_held-requires-clause-rules : goal.reach_held-requires-clause-rules
-reach_held-requires-clause-rules g c = ap length c.in-Some.ensures.reachable ∙ c.loop-node.invariant.search.shape ∙ sym (ap (λ (x : CostTables). x.grammar.rules) c.self.view_is)
+pub reach_referred-requires-clause-rules : goal.reach_referred-requires-clause-rules
+reach_referred-requires-clause-rules g c = ap length c.in-Some.ensures.reachable ∙ c.loop-node.invariant.search.shape ∙ sym (ap (λ (x : CostTables). x.grammar.rules) c.self.view_is)
 
-pub reach_held-requires-clause-productions : goal.reach_held-requires-clause-productions
-reach_held-requires-clause-productions g c =
+pub reach_referred-requires-clause-productions : goal.reach_referred-requires-clause-productions
+reach_referred-requires-clause-productions g c =
     let base = production_numbers g.S.Storage.number c.in_ok-base.base.items in
     let Is = λ (x : CostTables) (p : ℕ). p < length x.grammar.productions in
     subst (λ (x : CostTables). All (Is x) (production_numbers g.S.Storage.number c.deref.result.now)) (sym c.self.view_is)
@@ -65,15 +65,15 @@ pub loop-node-preserved : goal.loop-node-preserved
 loop-node-preserved g c =
     let number = g.S.Storage.number in
     let x = c.args.self.now in
-    let held = subst (λ (x : CostTables). Reaches (FoundBy (HeldIn x.grammar) (production_numbers number c.in_ok-base.base.items)) c.next.new.self c.reach_held.new.search) c.self.view_is
-    (subst (λ l. Reaches (FoundBy (HeldIn (g.T.Tables.grammar c.self.inside.tables.now)) (production_numbers number l)) c.next.new.self c.reach_held.new.search) c.deref.ensures.value c.in_ok-reach_held.ensures) in
+    let held = subst (λ (x : CostTables). Reaches (FoundBy (ProductionRefersAt x.grammar) (production_numbers number c.in_ok-base.base.items)) c.next.new.self c.reach_referred.new.search) c.self.view_is
+    (subst (λ l. Reaches (FoundBy (ProductionRefersAt (g.T.Tables.grammar c.self.inside.tables.now)) (production_numbers number l)) c.next.new.self c.reach_referred.new.search) c.deref.ensures.value c.in_ok-reach_referred.ensures) in
     let listed = subst (λ m. IsPermutation ((c.known_cost.result, m) ∷ c.loop-node.requested) c.push.new.self) c.to_usize-in-Some.ensures.value c.in_ok-push.ensures in
     asking_goes_on x (number c.args.rule.0) (number c.to_storage.result) c.known_cost.result _ _ _ (production_numbers number c.in_ok-base.base.items) _ _ c.loop-node.invariant
     c.in-Some.ensures.reachable (subst (λ b. c.loop-node.search.waiting ≡ c.next.new.self.waiting ++ b ∷ []) (sym c.to_storage.ensures) c.in-Some.ensures.waiting)
     c.in_ok-base.ensures held c.known_cost.ensures listed
 
 pub loop-node-smaller : goal.loop-node-smaller
-loop-node-smaller g c = less_to_do _ _ _ _ _ c.in-Some.ensures.reachable c.in-Some.ensures.waiting c.in_ok-reach_held.ensures
+loop-node-smaller g c = less_to_do _ _ _ _ _ c.in-Some.ensures.reachable c.in-Some.ensures.waiting c.in_ok-reach_referred.ensures
 
 pub returns : goal.returns
 returns g c = asking_ends c.args.self.now (g.S.Storage.number c.args.rule.0) c.loop-node.requested c.loop-node.search c.loop-node.invariant c.in_default.ensures.waiting

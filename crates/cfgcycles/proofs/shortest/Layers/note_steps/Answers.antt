@@ -2,7 +2,7 @@ use Rattle.std.proofs.Common.{◌<◌, Contains, length, get_or, arith, refl, sy
 use Rattle.std.proofs.lemmas.List.{get_or_default, take_all}
 use Rattle.std.proofs.lemmas.List.Elements.{Contains-get_or}
 use Rattle.lemmas.proofs.Contained.{contains_none}
-use Rattle.cfgcycles.specs.declared.step_paths.Step.{Step}
+use Rattle.cfgcycles.specs.declared.step_paths.UnitStep.{UnitStep}
 use Rattle.cfgcycles.specs.StepLists.{HasStep}
 use Rattle.cfgcycles.proofs.Finding.{finds_as, finds_more, finds_nothing}
 use Rattle.cfgcycles.proofs.shortest.Layers.note_steps.Goals as goal
@@ -14,7 +14,7 @@ pub note-requires : goal.note-requires
 note-requires c =
     let path = c.of-step-items.result.now in
     let i = c.loop-step.step-index in
-    let none : Step = record { rule = 0; production = 0; index = 0 } in
+    let none : UnitStep = record { rule = 0; production = 0; index = 0 } in
     let lt : i < length path = omega (arith, c.loop-step-test.true) in
     let step = get_or path i none in
     let has = subst (λ l. Contains l step) c.of-step-items.ensures (Contains-get_or path i none lt) in
@@ -25,7 +25,7 @@ pub loop-step-preserved : goal.loop-step-preserved
 loop-step-preserved c =
     let path = c.of-step-items.result.now in
     let i = c.loop-step.step-index in
-    let none : Step = record { rule = 0; production = 0; index = 0 } in
+    let none : UnitStep = record { rule = 0; production = 0; index = 0 } in
     let lt : i < length path = omega (arith, c.loop-step-test.true) in (
       c.in_ok-note.ensures.steps ∙ c.loop-step.invariant.0,
       finds_more _ _ path i (get_or path i none) _ _ _ _ _ _ lt (get_or_default path i _ none lt) c.loop-step.invariant.1 c.in_ok-note.ensures.found,

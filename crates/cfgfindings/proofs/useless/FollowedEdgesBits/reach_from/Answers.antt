@@ -6,7 +6,7 @@ use Rattle.cfgrammar.specs.Numbered.{Numbered, core}
 use Rattle.cfgrammar.specs.Openings.{ArePositionsOf}
 use Rattle.cfgrammar.specs.PIdx.{PIdx}
 use Rattle.cfgrammar.proofs.ListedPositions.{listed_positions}
-use Rattle.cfgfindings.specs.Inner.Reached.{HeldAt}
+use Rattle.cfgfindings.specs.Inner.Reached.{RefersAt}
 use Rattle.cfgfindings.proofs.Reached.{edges_of_rule}
 use Rattle.cfgfindings.proofs.useless.FollowedEdgesBits.reach_from.Goals as goal
 
@@ -18,8 +18,8 @@ loop-production-preserved c =
     let all = c.rule_to_prods-production-items.result.now in
     let n = c.loop-production.production-index in
     let lt : n < length all = omega (arith, c.loop-production-test.true) in
-    each_more (λ p. HeldAt c.args.self.now.unproductive.now c.args.self.now.only_usable p.0) all n _ _ _ _ lt (get_or_default all n _ _ lt) c.loop-production.invariant
-    c.in_ok-reach_held.ensures
+    each_more (λ p. RefersAt c.args.self.now.unproductive.now c.args.self.now.only_usable p.0) all n _ _ _ _ lt (get_or_default all n _ _ lt) c.loop-production.invariant
+    c.in_ok-reach_referred.ensures
 
 pub returns : goal.returns
 returns c =
@@ -34,5 +34,5 @@ returns c =
     (listed_positions h c.to_storage.result positions c.invariant_holds.ensures.listed_once c.rule_to_prods-production-items.ensures.value
     (All-map (λ p. p < length h.productions) (λ (p : PIdx ℕ). p.0) all c.rule_to_prods-production-items.ensures.within))) in
     edges_of_rule g c.args.self.now.only_usable c.args.node there positions are _ _
-    (found_mapped (λ p. p.0) (HeldAt g c.args.self.now.only_usable) all _ _
+    (found_mapped (λ p. p.0) (RefersAt g c.args.self.now.only_usable) all _ _
     (each_all _ _ _ _ _ (omega (arith, c.loop-production-test.false, c.loop-production.auto.production-index-end)) c.loop-production.invariant))

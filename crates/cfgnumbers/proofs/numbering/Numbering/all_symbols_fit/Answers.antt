@@ -2,9 +2,9 @@ use Rattle.std.proofs.Common.{ℕ, List, ◌≤◌, All, length, map, refl, sym,
 use Rattle.std.proofs.lemmas.Bool.{false≢true}
 use Rattle.std.proofs.lemmas.List.{take_all}
 use Rattle.std.proofs.lemmas.List.Elements.{All-more}
-use Rattle.cfgast.specs.SyntaxView.{symbol_view}
-use Rattle.cfgast.specs.declared.production.Production.{Production}
-use Rattle.cfgast.specs.declared.symbol.Symbol.{Symbol}
+use Rattle.cfgitems.specs.SyntaxView.{symbol_view}
+use Rattle.cfgitems.specs.declared.production.Production.{Production}
+use Rattle.cfgitems.specs.declared.symbol.Symbol.{Symbol}
 use Rattle.cfgnumbers.specs.Numbered.{file_symbols}
 use Rattle.cfgnumbers.specs.TablesView.{file_of, implicit_in}
 use Rattle.cfgnumbers.proofs.numbering.Numbering.all_symbols_fit.Goals as goal

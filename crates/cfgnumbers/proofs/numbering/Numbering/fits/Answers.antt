@@ -1,7 +1,7 @@
 use Rattle.std.proofs.Common.{◌≤◌, All, length, sym, subst}
 use Rattle.std.proofs.lemmas.List.Elements.{All-map}
-use Rattle.cfgast.specs.Syntax.{Production}
-use Rattle.cfgast.specs.SyntaxView.{production_view}
+use Rattle.cfgitems.specs.Syntax.{Production}
+use Rattle.cfgitems.specs.SyntaxView.{production_view}
 use Rattle.cfgnumbers.specs.Numbered.{file_symbols}
 use Rattle.cfgnumbers.specs.TablesView.{file_of, implicit_in}
 use Rattle.cfgnumbers.proofs.Turns.{All-shown}

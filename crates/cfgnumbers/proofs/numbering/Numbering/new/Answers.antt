@@ -1,7 +1,7 @@
 use Rattle.std.proofs.Common.{map, option_map, inl, inr, sym, ap, ◌∙◌}
-use Rattle.cfgast.specs.Syntax.{entry_name}
-use Rattle.cfgast.specs.SyntaxView.{span_entry}
-use Rattle.cfgtree.specs.TreeView.{syntax}
+use Rattle.cfgitems.specs.Syntax.{entry_name}
+use Rattle.cfgitems.specs.SyntaxView.{span_entry}
+use Rattle.cfgast.specs.TreeView.{syntax}
 use Rattle.cfgkinds.specs.declared.kind.YaccKind.{YaccKind}
 use Rattle.cfgnumbers.specs.Numbered.{implicit_of}
 use Rattle.cfgnumbers.specs.TablesView.{names}

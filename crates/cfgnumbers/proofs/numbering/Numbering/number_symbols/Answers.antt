@@ -1,8 +1,8 @@
 use Rattle.std.proofs.Common.{◌≡◌, ◌++◌, None, Some, map, option_map, slice_get, take, arith, sym, ap, subst, ◌∙◌}
 use Rattle.std.proofs.lemmas.List.{get_or-map, length-map, take_all}
-use Rattle.cfgast.specs.Syntax.{Symbol}
-use Rattle.cfgast.specs.SyntaxView.{symbol_view}
-use Rattle.cfgtree.specs.Check.{symbol_error}
+use Rattle.cfgitems.specs.Syntax.{Symbol}
+use Rattle.cfgitems.specs.SyntaxView.{symbol_view}
+use Rattle.cfgast.specs.Check.{symbol_error}
 use Rattle.cfgindex.specs.declared.idxnewtype.TIdx.{TIdx}
 use Rattle.cfgnumbers.specs.Numbered.{file_symbol, file_symbols, last_token, spaced}
 use Rattle.cfgnumbers.specs.TablesView.{file_of, implicit_in}

@@ -1,5 +1,5 @@
 use Rattle.std.proofs.Common.{◌≡◌, Some, map, option_map, slice_get, take}
-use Rattle.cfgast.specs.SyntaxView.{symbol_view}
+use Rattle.cfgitems.specs.SyntaxView.{symbol_view}
 use Rattle.cfgindex.specs.declared.idxnewtype.TIdx.{TIdx}
 use Rattle.cfgnumbers.specs.Numbered.{file_symbols, last_token}
 use Rattle.cfgnumbers.specs.TablesView.{file_of, implicit_in}

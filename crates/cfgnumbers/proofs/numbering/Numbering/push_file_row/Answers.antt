@@ -1,6 +1,6 @@
 use Rattle.std.proofs.Common.{◌≡◌, None, All, map, sym, subst}
-use Rattle.cfgast.specs.SyntaxView.{symbol_view}
-use Rattle.cfgtree.specs.Check.{symbol_error}
+use Rattle.cfgitems.specs.SyntaxView.{symbol_view}
+use Rattle.cfgast.specs.Check.{symbol_error}
 use Rattle.cfgnumbers.specs.TablesView.{file_of}
 use Rattle.cfgnumbers.proofs.numbering.Numbering.push_file_row.Goals as goal
 

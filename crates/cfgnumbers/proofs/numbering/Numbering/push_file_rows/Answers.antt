@@ -2,8 +2,8 @@ use Rattle.std.proofs.Common.{ℕ, ◌<◌, ◌∷◌, ◌++◌, [], length, map
 use Rattle.std.specs.Iterator.Adapters.{zip_first, zip_second}
 use Rattle.std.specs.Slice.Iter.{iter_rest}
 use Rattle.std.proofs.lemmas.Iterator.Consumers.{YieldsList-end}
-use Rattle.cfgast.specs.Syntax.{Production}
-use Rattle.cfgast.specs.declared.production.Production as source
+use Rattle.cfgitems.specs.Syntax.{Production}
+use Rattle.cfgitems.specs.declared.production.Production as source
 use Rattle.cfgnumbers.specs.Numbered.{file_production}
 use Rattle.cfgnumbers.specs.Resolved.{Resolves}
 use Rattle.cfgnumbers.specs.TablesView.{file_of, implicit_in}

@@ -2,7 +2,7 @@ use Rattle.std.proofs.Common.{◌≡◌, true, ◌∷◌, ◌++◌, [], map, Bor
 use Rattle.std.proofs.lemmas.Iterator.Consumers.{YieldsList-end}
 use Rattle.cfgbase.specs.declared.span.Span.{Span}
 use Rattle.derivation.specs.Grammar.{Rule, Token}
-use Rattle.cfgast.specs.Building.{has_name}
+use Rattle.cfgitems.specs.Building.{has_name}
 use Rattle.cfgnumbers.specs.Numbered.{added_production, token_index}
 use Rattle.cfgnumbers.specs.TablesView.{file_of}
 use Rattle.lemmas.proofs.Roads.{item_holds, more_shown}

@@ -2,7 +2,7 @@ use Rattle.std.proofs.Common.{◌≡◌, ◌+◌, ◌∷◌, ◌++◌, [], lengt
 use Rattle.std.specs.List.{list_any, range_with_len}
 use Rattle.std.specs.Str.{bytes_eq}
 use Rattle.std.proofs.lemmas.List.{length-map}
-use Rattle.cfgast.specs.SyntaxView.{production_view}
+use Rattle.cfgitems.specs.SyntaxView.{production_view}
 use Rattle.cfgnumbers.specs.Numbered.{added_rule, added_rules, start_name, implicit_name, implicit_start_name}
 use Rattle.cfgnumbers.specs.TablesView.{names, file_of, rule_view}
 use Rattle.cfgnumbers.proofs.RowLemmas.{names_of_rows}

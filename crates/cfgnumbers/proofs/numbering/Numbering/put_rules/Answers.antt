@@ -2,8 +2,8 @@ use Rattle.std.proofs.Common.{ℕ, List, ◌∷◌, ◌++◌, [], ◌<◌, lengt
 use Rattle.std.specs.List.{list_any}
 use Rattle.std.specs.Str.{bytes_eq}
 use Rattle.std.proofs.lemmas.Iterator.Consumers.{YieldsList-end}
-use Rattle.cfgast.specs.Syntax.{Rule}
-use Rattle.cfgast.specs.SyntaxView.{rule_view as plain_rule}
+use Rattle.cfgitems.specs.Syntax.{Rule}
+use Rattle.cfgitems.specs.SyntaxView.{rule_view as plain_rule}
 use Rattle.cfgnumbers.specs.Numbered.{added_rules, file_rule}
 use Rattle.cfgnumbers.specs.TablesView.{file_of, implicit_in}
 use Rattle.cfgnumbers.proofs.Positions.{listed_within}

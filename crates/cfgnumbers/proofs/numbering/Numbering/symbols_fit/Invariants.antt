@@ -1,5 +1,5 @@
 use Rattle.std.proofs.Common.{◌≡◌, ◌+◌, length, map, take}
-use Rattle.cfgast.specs.SyntaxView.{symbol_view}
+use Rattle.cfgitems.specs.SyntaxView.{symbol_view}
 use Rattle.cfgnumbers.specs.Numbered.{file_symbols}
 use Rattle.cfgnumbers.specs.TablesView.{file_of, implicit_in}
 use Rattle.cfgnumbers.proofs.numbering.Numbering.symbols_fit.Given as goal

@@ -1,6 +1,6 @@
 use Rattle.std.proofs.Common.{map, option_map, sym, ap, ◌∙◌}
-use Rattle.cfgast.specs.SyntaxView.{span_entry}
-use Rattle.cfgtree.specs.TreeView.{syntax}
+use Rattle.cfgitems.specs.SyntaxView.{span_entry}
+use Rattle.cfgast.specs.TreeView.{syntax}
 use Rattle.cfgnumbers.proofs.Marks.{avoided}
 use Rattle.cfgnumbers.proofs.numbering.marks.avoids_insert.Goals as goal
 

@@ -1,8 +1,8 @@
 use Rattle.std.proofs.Common.{◌∙◌}
-use Rattle.cfgast.specs.SyntaxView.{production_view}
+use Rattle.cfgitems.specs.SyntaxView.{production_view}
 use Rattle.cfgindex.specs.declared.idxnewtype.TIdx.{TIdx}
 use Rattle.cfgnumbers.specs.Numbered.{last_token}
-use Rattle.cfgtree.specs.TreeView.{syntax}
+use Rattle.cfgast.specs.TreeView.{syntax}
 use Rattle.cfgnumbers.proofs.Marks.{precedence_at}
 use Rattle.cfgnumbers.proofs.numbering.marks.precedence_of.Goals as goal
 

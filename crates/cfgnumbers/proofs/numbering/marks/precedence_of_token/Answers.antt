@@ -1,5 +1,5 @@
 use Rattle.std.proofs.Common.{Some, None}
-use Rattle.cfgtree.specs.TreeView.{syntax}
+use Rattle.cfgast.specs.TreeView.{syntax}
 use Rattle.cfgnumbers.proofs.Marks.{precedence_found}
 use Rattle.cfgnumbers.proofs.numbering.marks.precedence_of_token.Goals as goal
 

@@ -7,9 +7,9 @@ use Rattle.constructs.specs.Construct.{Construct, computes, then}
 use Rattle.constructs.specs.Steps.{Fails, Stops}
 use Rattle.cfgwords.specs.declared.fault.Fault.{Fault}
 use Rattle.cfgwords.specs.Text.{offset_of}
-use Rattle.cfgast.specs.Items.{Item}
-use Rattle.cfgast.specs.Building.{add}
-use Rattle.cfgast.specs.SyntaxView.{syntax_built, head_view}
+use Rattle.cfgitems.specs.Items.{Item}
+use Rattle.cfgitems.specs.Building.{add}
+use Rattle.cfgitems.specs.SyntaxView.{syntax_built, head_view}
 use Rattle.cfgreader.specs.Rules.{Parts, more_parts, prefix_parts, production, production_end}
 use Rattle.cfgreader.specs.Inner.Builds.{Builds, file_reader, parts_view}
 use Rattle.cfgreader.specs.declared.reader.Reader.{Reader}

@@ -1,6 +1,6 @@
 use Rattle.std.proofs.Common.{ap}
 use Rattle.constructs.specs.Construct.{goes_on}
-use Rattle.cfgast.specs.SyntaxView.{head_view}
+use Rattle.cfgitems.specs.SyntaxView.{head_view}
 use Rattle.cfgreader.specs.Rules.{production}
 use Rattle.cfgreader.specs.Inner.Builds.{file_reader}
 use Rattle.constructs.proofs.Steps.{gathers_start, gathers_on, repeat_refused, repeat_done, turn_shorter}

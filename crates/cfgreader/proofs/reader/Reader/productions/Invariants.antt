@@ -1,5 +1,5 @@
 use Rattle.std.proofs.Common.{length}
-use Rattle.cfgast.specs.SyntaxView.{head_view}
+use Rattle.cfgitems.specs.SyntaxView.{head_view}
 use Rattle.cfgreader.specs.Rules.{production}
 use Rattle.constructs.proofs.Steps.{Gathers}
 use Rattle.cfgreader.specs.Inner.Builds.{file_reader}

@@ -1,9 +1,9 @@
 use Rattle.std.proofs.Common.{◌≡◌, true, sym, ap, subst, ◌∙◌}
-use Rattle.cfgast.specs.Building.{has_rule}
-use Rattle.cfgast.specs.SyntaxView.{named_view}
-use Rattle.cfgtree.specs.TreeView.{syntax}
-use Rattle.cfgtree.specs.Writing.{started_at}
-use Rattle.cfgtree.specs.Sound.{IsSound}
+use Rattle.cfgitems.specs.Building.{has_rule}
+use Rattle.cfgitems.specs.SyntaxView.{named_view}
+use Rattle.cfgast.specs.TreeView.{syntax}
+use Rattle.cfgast.specs.Writing.{started_at}
+use Rattle.cfgast.specs.Sound.{IsSound}
 use Rattle.cfgsyntax.proofs.SoundLemmas.{IsSound-restarted}
 use Rattle.cfgsyntax.proofs.yacc.ast.ASTWithValidityInfo.clone_and_change_start_rule.Goals as goal
 

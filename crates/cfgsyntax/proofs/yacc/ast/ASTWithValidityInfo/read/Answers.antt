@@ -3,14 +3,14 @@ use Rattle.std.specs.Prelude.{IfOk}
 use Rattle.cfgsyntax.specs.Faults.{all_errors, errors_of}
 use Rattle.cfgsyntax.specs.Inner.Steps.{stop_view}
 use Rattle.cfgsyntax.specs.Reads.{Reads, Stop}
-use Rattle.cfgtree.specs.Check.{check_of}
-use Rattle.cfgtree.specs.TreeView.{syntax}
-use Rattle.cfgtree.specs.WellFormed.{IsWellFormed}
-use Rattle.cfgtree.proofs.WellFormedLemmas.{syntax_of-IsWellFormed}
+use Rattle.cfgast.specs.Check.{check_of}
+use Rattle.cfgast.specs.TreeView.{syntax}
+use Rattle.cfgast.specs.WellFormed.{IsWellFormed}
+use Rattle.cfgast.proofs.WellFormedLemmas.{syntax_of-IsWellFormed}
 use Rattle.cfgwords.proofs.NameStarts.{begins_as_name}
 use Rattle.cfgwords.specs.TextSpans.{IsPiece, IsWithin}
-use Rattle.cfgast.specs.Items.{Item}
-use Rattle.cfgast.specs.Syntax.{EachSpan, syntax_of}
+use Rattle.cfgitems.specs.Items.{Item}
+use Rattle.cfgitems.specs.Syntax.{EachSpan, syntax_of}
 use Rattle.cfgsyntax.proofs.ErrorOffsets.{IsErrorAt, read_syntax_at, read_names, read_errors_at}
 use Rattle.cfgsyntax.proofs.SoundLemmas.{of_reading, checked, errors_read}
 use Rattle.cfgsyntax.proofs.yacc.ast.ASTWithValidityInfo.read.Goals as goal

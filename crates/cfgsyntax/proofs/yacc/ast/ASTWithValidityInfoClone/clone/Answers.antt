@@ -1,7 +1,7 @@
 use Rattle.std.proofs.Common.{◌≡◌, sym, subst, ◌∙◌}
 use Rattle.std.proofs.lemmas.List.Elements.{same_from_all_zip}
-use Rattle.cfgtree.specs.TreeView.{syntax}
-use Rattle.cfgtree.specs.Sound.{IsSound}
+use Rattle.cfgast.specs.TreeView.{syntax}
+use Rattle.cfgast.specs.Sound.{IsSound}
 use Rattle.cfgsyntax.proofs.yacc.ast.ASTWithValidityInfoClone.clone.Goals as goal
 
 pub invariant_of-result : goal.invariant_of-result

@@ -1,7 +1,7 @@
 use Rattle.std.proofs.Common.{◌≡◌, ◌++◌, map}
-use Rattle.cfgtree.specs.Duplicates.{duplicates}
-use Rattle.cfgast.specs.SyntaxView.{occurrence_view}
-use Rattle.cfgtree.specs.TreeView.{duplicate_view}
+use Rattle.cfgast.specs.Duplicates.{duplicates}
+use Rattle.cfgitems.specs.SyntaxView.{occurrence_view}
+use Rattle.cfgast.specs.TreeView.{duplicate_view}
 use Rattle.cfgsyntax.specs.Faults.{duplicate_error}
 use Rattle.cfgsyntax.proofs.yacc.ast.errors.duplicate_errors.Given as goal
 

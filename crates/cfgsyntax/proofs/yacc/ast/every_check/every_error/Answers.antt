@@ -1,6 +1,6 @@
 use Rattle.std.proofs.Common.{◌≡◌, slice_get, ap, ◌∙◌, arith}
 use Rattle.std.proofs.lemmas.Grind.{common_steps}
-use Rattle.cfgtree.specs.TreeView.{syntax}
+use Rattle.cfgast.specs.TreeView.{syntax}
 use Rattle.cfgsyntax.specs.EveryError.{every_error}
 use Rattle.cfgsyntax.proofs.FirstOfEvery.{first_of_every}
 use Rattle.cfgsyntax.proofs.yacc.ast.every_check.every_error.Goals as goal

@@ -2,10 +2,10 @@ use Rattle.std.proofs.Common.{◌≡◌, List, [], ◌++◌, None, Some, option_
 use Rattle.std.specs.Option.{option_map_or}
 use Rattle.std.specs.Prelude.{OnOk}
 use Rattle.std.proofs.lemmas.Option.{slice_get-map, slice_get_past, slice_get_read}
-use Rattle.cfgast.specs.SyntaxView.{production_view}
-use Rattle.cfgast.specs.Syntax.{Production}
+use Rattle.cfgitems.specs.SyntaxView.{production_view}
+use Rattle.cfgitems.specs.Syntax.{Production}
 use Rattle.cfgerrors.specs.Errors.{GrammarError}
-use Rattle.cfgtree.specs.TreeView.{syntax}
+use Rattle.cfgast.specs.TreeView.{syntax}
 use Rattle.cfgsyntax.specs.EveryError.{located_errors, production_errors}
 use Rattle.cfgsyntax.proofs.yacc.ast.every_check.push_index.Goals as goal
 

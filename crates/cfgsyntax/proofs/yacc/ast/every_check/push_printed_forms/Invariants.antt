@@ -1,8 +1,8 @@
 use Rattle.std.proofs.Common.{◌≡◌, ◌++◌, map}
 use Rattle.std.specs.List.{filter_map}
-use Rattle.cfgast.specs.SyntaxView.{printed_entry}
-use Rattle.cfgtree.specs.Check.{printed_error}
-use Rattle.cfgtree.specs.TreeView.{syntax}
+use Rattle.cfgitems.specs.SyntaxView.{printed_entry}
+use Rattle.cfgast.specs.Check.{printed_error}
+use Rattle.cfgast.specs.TreeView.{syntax}
 use Rattle.cfgsyntax.proofs.yacc.ast.every_check.push_printed_forms.Given as goal
 
 -- the errors so far, and those of the rest

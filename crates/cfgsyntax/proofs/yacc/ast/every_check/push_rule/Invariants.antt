@@ -1,6 +1,6 @@
 use Rattle.std.proofs.Common.{◌≡◌, ◌++◌, drop}
 use Rattle.std.specs.List.{flat_map}
-use Rattle.cfgtree.specs.TreeView.{syntax}
+use Rattle.cfgast.specs.TreeView.{syntax}
 use Rattle.cfgsyntax.specs.EveryError.{located_errors}
 use Rattle.cfgsyntax.proofs.yacc.ast.every_check.push_rule.Given as goal
 

@@ -1,7 +1,7 @@
 use Rattle.std.proofs.Common.{◌≡◌, ◌++◌, map}
 use Rattle.std.specs.List.{flat_map}
-use Rattle.cfgast.specs.SyntaxView.{rule_entry}
-use Rattle.cfgtree.specs.TreeView.{syntax}
+use Rattle.cfgitems.specs.SyntaxView.{rule_entry}
+use Rattle.cfgast.specs.TreeView.{syntax}
 use Rattle.cfgsyntax.specs.EveryError.{rule_errors}
 use Rattle.cfgsyntax.proofs.yacc.ast.every_check.push_rules.Given as goal
 

@@ -1,8 +1,8 @@
 use Rattle.std.proofs.Common.{◌≡◌, ◌++◌, drop, map}
 use Rattle.std.specs.List.{filter_map}
-use Rattle.cfgast.specs.SyntaxView.{symbol_view}
-use Rattle.cfgtree.specs.Check.{symbol_error}
-use Rattle.cfgtree.specs.TreeView.{syntax}
+use Rattle.cfgitems.specs.SyntaxView.{symbol_view}
+use Rattle.cfgast.specs.Check.{symbol_error}
+use Rattle.cfgast.specs.TreeView.{syntax}
 use Rattle.cfgsyntax.proofs.yacc.ast.every_check.push_symbols.Given as goal
 
 -- the errors so far, and those of the rest

@@ -1,6 +1,6 @@
 use Rattle.std.proofs.Common.{List, Option, ℕ, refl, rules, sym, ◌∙◌, true≢false}
 use Rattle.cfgwords.specs.TextSpans.{IsPiece}
-use Rattle.cfgast.specs.Syntax.{Syntax}
+use Rattle.cfgitems.specs.Syntax.{Syntax}
 use Rattle.cfgnumbers.specs.Fits.{LeavesRoom}
 use Rattle.cfgnumbers.specs.Numbered.{implicit_of}
 use Rattle.cfgyacc.specs.Answer.{in_numbers}

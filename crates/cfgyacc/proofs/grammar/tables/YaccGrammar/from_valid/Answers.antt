@@ -1,10 +1,10 @@
 use Rattle.std.proofs.Common.{◌≡◌, ◌++◌, [], length, map, option_map, sym, subst, ◌∙◌}
 use Rattle.scoped.proofs.Given.{given, given_match}
 use Rattle.std.specs.List.{zip}
-use Rattle.cfgast.specs.SyntaxView.{production_view}
-use Rattle.cfgtree.specs.TreeView.{syntax}
-use Rattle.cfgtree.specs.WellFormed.{IsWellFormed}
-use Rattle.cfgtree.specs.Sound.{IsSound}
+use Rattle.cfgitems.specs.SyntaxView.{production_view}
+use Rattle.cfgast.specs.TreeView.{syntax}
+use Rattle.cfgast.specs.WellFormed.{IsWellFormed}
+use Rattle.cfgast.specs.Sound.{IsSound}
 use Rattle.cfgnumbers.specs.Fits.{LeavesRoom}
 use Rattle.cfgnumbers.specs.Numbered.{added_productions, added_rules, file_production, file_rule, file_token}
 use Rattle.cfgnumbers.specs.Resolved.{AreTokens, IsResolved}

@@ -1,8 +1,8 @@
 use Rattle.std.proofs.Common.{List, [], Option, ℕ, sym, subst, ◌∙◌}
 use Rattle.std.proofs.lemmas.Result.{IfOk-weaker}
-use Rattle.cfgast.specs.Syntax.{Syntax}
-use Rattle.cfgtree.specs.Sound.{IsSound}
-use Rattle.cfgtree.specs.TreeView.{syntax}
+use Rattle.cfgitems.specs.Syntax.{Syntax}
+use Rattle.cfgast.specs.Sound.{IsSound}
+use Rattle.cfgast.specs.TreeView.{syntax}
 use Rattle.cfgnumbers.specs.Fits.{LeavesRoom}
 use Rattle.cfgnumbers.specs.Numbered.{implicit_of, numbered}
 use Rattle.cfgyacc.proofs.Built.{of_both, room}

@@ -1,7 +1,0 @@
-use Rattle.std.proofs.Common.{take}
-use Rattle.search.specs.Reachable.{FoundBy, Reaches}
-use Rattle.cfganalysis.specs.Paths.{HeldIn}
-use Rattle.cfganalysis.proofs.paths.reach_held.Given as goal
-
-abbrev pub invariant-loop-production : goal.invariant-loop-production
-invariant-loop-production g l = Reaches (FoundBy (λ p. HeldIn (g.T.Tables.grammar l.tables) (g.S.Storage.number p.0)) (take l.production-index l.productions)) l.fn.search l.search

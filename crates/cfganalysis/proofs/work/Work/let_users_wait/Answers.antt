@@ -1,9 +1,0 @@
-use Rattle.std.proofs.Common.{◌<◌, subst, sym, Contains}
-use Rattle.cfganalysis.specs.Inner.Work.{users_of}
-use Rattle.cfganalysis.proofs.work.Work.let_users_wait.Goals as goal
-
-pub queue_users-requires-clause-within : goal.queue_users-requires-clause-within
-queue_users-requires-clause-within c =
-    let w = c.loop-rule.invariant in
-    λ p h. subst (λ n. p < n) (sym w.letting_wait.shape)
-    (c.requires.within c.in-Some.rule p (subst (λ l. Contains (users_of l c.in-Some.rule) p) w.users h))

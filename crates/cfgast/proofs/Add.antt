@@ -1,3 +1,0 @@
--- What the builder's proofs unfold: what a builder shows, and what one more item makes of it.
-pub use Rattle.cfgast.specs.SyntaxView.{syntax_built, syntax_view}
-pub use Rattle.cfgast.specs.Building.{add}

@@ -1,0 +1,44 @@
+use Rattle.std.proofs.Common.{◌≡◌, ◌<◌, ◌+◌, Some, None, IfSome, arith, length, map, take, String, Global, sym, ap, subst, ◌∙◌}
+use Rattle.std.proofs.lemmas.Option.{get_or_from_slice_get}
+use Rattle.lemmas.proofs.Elements.{element_at}
+use Rattle.search.specs.Reachable.{FoundBy, Reaches}
+use Rattle.search.proofs.Each.{each_none, each_more, each_all, found_mapped}
+use Rattle.cfgbase.specs.declared.span.Span.{Span}
+use Rattle.cfgast.specs.Inner.Nodes.{IsNodeOf, node_of}
+use Rattle.cfgast.specs.Unused.{TokenName, entry_token}
+use Rattle.cfgitems.specs.SyntaxView.{span_entry}
+use Rattle.cfgast.specs.TreeView.{syntax}
+use Rattle.cfgast.proofs.ast.GrammarAST.reach_tokens.Goals as goal
+use Rattle.cfgast.proofs.ast.GrammarAST.reach_tokens.Goals.{in-Some+in_ok-reach_one, in_default}
+
+pub loop-index-init : goal.loop-index-init
+loop-index-init c = each_none _ _
+
+pub reach_one-requires : goal.reach_one-requires
+reach_one-requires c = subst (λ m. IfSome c.token_node.result (λ n. n < m)) (sym (c.loop-index.invariant.shape ∙ c.requires)) c.token_node.ensures.within
+
+pub loop-index-preserved : goal.loop-index-preserved
+loop-index-preserved c =
+    let s = syntax c.args.self.now in
+    let entries = c.args.table.now.entries in
+    let index = c.loop-index.index in
+    let Finds = λ (entry : String Global × Span). IsNodeOf s (entry_token (span_entry entry)) in
+    let within : index < length entries = omega (arith, c.loop-index-test.true, c.len-index-end.ensures.len) in
+    elim c.match-get_index.branch [
+      | in-Some+in_ok-reach_one w ↦
+          let at = sym w.in-Some.ensures.entry in
+          let found = w.token_node.ensures.node ∙ ap (λ n. node_of s (TokenName n)) w.deref.ensures in
+          subst (Reaches (FoundBy Finds (take (index + 1) entries)) c.args.search.now) (sym w.search-is)
+          (each_more Finds entries index _ _ _ _ within (sym (get_or_from_slice_get entries index _ _ at)) c.loop-index.invariant
+          (subst (λ o. Reaches (λ n. o ≡ Some n) c.loop-index.search w.reach_one.new.search) found w.in_ok-reach_one.ensures))
+      | in_default w ↦
+          let (entry, at) = element_at entries index within in
+          let no : None ≡ Some entry = w.in_default.ensures.entry ∙ at in cc
+    ]
+
+pub returns : goal.returns
+returns c =
+    let Finds = IsNodeOf (syntax c.args.self.now) in
+    let entries = c.args.table.now.entries in
+    found_mapped entry_token Finds (map span_entry entries) _ _ (found_mapped span_entry (λ entry. Finds (entry_token entry)) entries _ _
+    (each_all _ _ _ _ _ (omega (arith, c.loop-index-test.false, c.len-index-end.ensures.len)) c.loop-index.invariant))

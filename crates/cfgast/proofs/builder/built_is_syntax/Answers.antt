@@ -1,5 +1,0 @@
-use Rattle.cfgast.proofs.Law.{adds_syntax_of}
-use Rattle.cfgast.proofs.builder.built_is_syntax.Goals as goal
-
-pub returns : goal.returns
-returns c = adds_syntax_of

@@ -1,8 +1,0 @@
-use Rattle.std.proofs.Common.{rules}
-use Rattle.cfgast.specs.Syntax.{syntax_of, settings_of, alternatives, firsts, token_words, declared_words, rule_heads}
-use Rattle.cfgast.specs.SyntaxView.{syntax_view}
-use Rattle.cfgast.proofs.syntax.Syntax.none.Goals as goal
-
-pub returns : goal.returns
-unfolding syntax_view syntax_of settings_of alternatives firsts token_words declared_words rule_heads
-returns c = search rules

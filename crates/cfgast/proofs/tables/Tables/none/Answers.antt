@@ -1,7 +1,0 @@
-use Rattle.std.proofs.Common.{rules}
-use Rattle.cfgast.specs.Syntax.{tables_of, firsts}
-use Rattle.cfgast.proofs.tables.Tables.none.Goals as goal
-
-pub returns : goal.returns
-unfolding tables_of firsts
-returns c = search rules

@@ -1,0 +1,11 @@
+pub mod Add
+pub mod Compared
+pub mod Fields
+pub mod Found
+pub mod Keeps
+pub mod Law
+pub mod Names
+pub mod Once
+pub mod Steps
+pub mod Views
+pub mod Written

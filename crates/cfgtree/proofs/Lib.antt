@@ -1,9 +1,0 @@
-pub mod AddedRules
-pub mod Found
-pub mod Gathered
-pub mod Nodes
-pub mod Repeats
-pub mod Trees
-pub mod UnusedNodes
-pub mod Warning
-pub mod WellFormedLemmas

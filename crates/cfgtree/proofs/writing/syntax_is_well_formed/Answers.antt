@@ -1,5 +1,0 @@
-use Rattle.cfgtree.proofs.WellFormedLemmas.{syntax_of-IsWellFormed}
-use Rattle.cfgtree.proofs.writing.syntax_is_well_formed.Goals as goal
-
-pub returns : goal.returns
-returns c = syntax_of-IsWellFormed

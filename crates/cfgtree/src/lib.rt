@@ -1,9 +1,0 @@
-#![tactic(auto)]
-
-pub mod ast;
-pub mod duplicates;
-pub mod unused;
-pub mod writing;
-
-pub use ast::{GrammarAST, tree_of, tree_with};
-pub use writing::clone_with_start;
