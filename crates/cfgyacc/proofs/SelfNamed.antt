@@ -26,29 +26,29 @@ is_parsed_of kind text one = record {
   errors = λ items stop reads i. errors_of (sym (one.only items stop reads).0 i) (sym (one.only items stop reads).1 i);
 }
 
-parsed_named : (text : List ℕ) (parsed : Parsed) (naming : Naming) → ReturnsNaming text naming (Ok parsed) → IsFoundNamed text naming (WasRead parsed)
-parsed_named text parsed (Ok kind) is = is
-parsed_named text parsed (Err errors) is = absurd is
+parsed_by_naming : (text : List ℕ) (parsed : Parsed) (naming : Naming) → ReturnsNaming text naming (Ok parsed) → IsFoundNamed text naming (WasRead parsed)
+parsed_by_naming text parsed (Ok kind) is = is
+parsed_by_naming text parsed (Err errors) is = absurd is
 
 -- if the text was parsed as the kind that it names
 pub parsed_named : (text : List ℕ) → HasOneNaming text → (parsed : Parsed) → ((naming : Naming) → Names text naming → ReturnsNaming text naming (Ok parsed))
     → IsFoundItself text (WasRead parsed)
-parsed_named text one parsed answer = (one, parsed_named text parsed one.naming (answer one.naming one.names))
+parsed_named text one parsed answer = (one, parsed_by_naming text parsed one.naming (answer one.naming one.names))
 
 -- what is found if nothing was parsed: the errors that are returned, or anything if memory ran out
 abbrev pub IsFaultOf : YaccFault → Found → Type 0
 IsFaultOf faults.OutOfMemory found = Unit {0}
 IsFaultOf (faults.Errors reported) found = found ≡ Unnamed reported.items
 
-refused_named : (text : List ℕ) (fault : YaccFault) (naming : Naming) → ReturnsNaming text naming (Err fault) → (found : Found) × IsFoundNamed text naming found × IsFaultOf fault found
-refused_named text faults.OutOfMemory (Ok kind) is = let one = one_reading kind text in (WasRead (parsed_of kind text one), is_parsed_of kind text one, tt)
-refused_named text faults.OutOfMemory (Err errors) is = (Unnamed (map header_error errors), refl, tt)
-refused_named text (faults.Errors reported) (Ok kind) is = absurd is
-refused_named text (faults.Errors reported) (Err errors) is = (Unnamed (map header_error errors), refl, sym (ap Unnamed is))
+refused_by_naming : (text : List ℕ) (fault : YaccFault) (naming : Naming) → ReturnsNaming text naming (Err fault) → (found : Found) × IsFoundNamed text naming found × IsFaultOf fault found
+refused_by_naming text faults.OutOfMemory (Ok kind) is = let one = one_reading kind text in (WasRead (parsed_of kind text one), is_parsed_of kind text one, tt)
+refused_by_naming text faults.OutOfMemory (Err errors) is = (Unnamed (map header_error errors), refl, tt)
+refused_by_naming text (faults.Errors reported) (Ok kind) is = absurd is
+refused_by_naming text (faults.Errors reported) (Err errors) is = (Unnamed (map header_error errors), refl, sym (ap Unnamed is))
 
 -- if nothing was parsed
 pub refused_named : (text : List ℕ) → HasOneNaming text → (fault : YaccFault) → ((naming : Naming) → Names text naming → ReturnsNaming text naming (Err fault))
     → (found : Found) × IsFoundItself text found × IsFaultOf fault found
 refused_named text one fault answer =
-    let it = refused_named text fault one.naming (answer one.naming one.names) in
+    let it = refused_by_naming text fault one.naming (answer one.naming one.names) in
     (it.0, (one, it.1), it.2)
