@@ -5,6 +5,7 @@
 pub mod own;
 pub mod paths;
 pub mod programs;
+pub mod sets;
 pub mod texts;
 pub mod traits;
 pub mod values;

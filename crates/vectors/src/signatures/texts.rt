@@ -1,13 +1,9 @@
-//! What is read of texts, and sets of grammars.
-
-ghost use Rattle.std.specs.Prelude.{◌-◌, ◌^◌, ◌<◌, length};
+//! What is read of texts.
 
 use cfgrammar::header::{HeaderErrorKind, KindFault, Setting, Value};
 use cfgrammar::yacc::ast::{ASTModificationError, KindSource};
-use cfgrammar::yacc::firsts::YaccFirsts;
-use cfgrammar::yacc::grammar::Productions;
 use cfgrammar::yacc::{AssocKind, Precedence, YaccGrammarErrorKind, YaccGrammarWarning, YaccKind};
-use cfgrammar::{Location, PIdx, RIdx, Span, Spanned, SpansKind, Storage, Symbol, TIdx};
+use cfgrammar::{Location, Span, Spanned, SpansKind};
 use std::alloc::{AllocError, Global};
 
 /// Whether a file named its kind.
@@ -78,26 +74,4 @@ pub fn located<'a>(
         value.primary_location(),
         YaccKind::try_from_value::<Location>(alloc, value),
     )
-}
-
-/// A bit that is set in FIRST sets.
-pub fn set<S: Storage>(firsts: &mut YaccFirsts<S>, rule: RIdx<S>, token: TIdx<S>) -> bool
-    requires rule { S.number rule.0 < length firsts.old.firsts.rows }
-    requires token { S.number token.0 < firsts.old.firsts.columns }
-{
-    firsts.set(rule, token)
-}
-
-/// A production of any grammar, which is opened.
-pub fn opened<S: Storage, P: Productions<S>>(
-    productions: &mut P,
-    production: PIdx<S>,
-) -> (RIdx<S>, usize)
-    requires in_range { S.number production.0 < length (P.content productions.old).productions }
-    requires countable { P.opened productions.old (S.number production.0) < 2 ^ 64 - 1 }
-    requires all_countable { P.opened_all productions.old < 2 ^ 128 - 1 }
-{
-    let rule: RIdx<S> = productions.rule_of(production);
-    let symbols: &[Symbol<S>] = productions.open(production);
-    (rule, symbols.len())
 }
