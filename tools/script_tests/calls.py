@@ -2,6 +2,7 @@
 import os
 import re
 import shutil
+import signal
 import subprocess
 
 from toy import ROOT, Toy, path_without, read, write, write_script
@@ -103,6 +104,11 @@ def test_ways_to_call_it(room):
     assert toy.runs("cfglint", "lint 1", words=["cfglint"], path=f"{toy.top}/bin:{toy.environment()['PATH']}") == ""
 
 
+def ignored_in(status):
+    """The signals that a process ignores, by its file status in /proc, as a bit for each."""
+    return int(re.search(r"^SigIgn:\s*(\w+)$", status, re.M)[1], 16)
+
+
 def test_streams_and_statuses(room):
     toy = Toy(room)
     write(f"{room}/a.y", "text of a file\n")
@@ -111,8 +117,10 @@ def test_streams_and_statuses(room):
         toy.runs("cfglint", "2 arguments: - a.y", "given\ntext of a file\n", words=words, given=b"given\n")
     shutil.rmtree(toy.source("cfglint_main/out"))
     for _ in range(2):
-        ignored = re.search(r"^SigIgn:\s*(\w+)$", toy.call("cfglint", "/proc/self/status")[1], re.M)[1]
-        assert int(ignored, 16) == 0, f"the program ignores the signals {ignored}"
+        ignored = ignored_in(toy.call("cfglint", "/proc/self/status")[1])
+        # what the caller of the tests ignores may be inherited, but not the two that Python itself ignores
+        inherited = ignored_in(read("/proc/self/status")) & ~(1 << signal.SIGPIPE - 1 | 1 << signal.SIGXFSZ - 1)
+        assert ignored & ~inherited == 0, f"the program ignores the signals {ignored:x}"
     begun = toy.begin("cfglint", "-", given=b"x" * 100)
     begun.stdout.close()
     begun.stdout = None

@@ -115,8 +115,8 @@ def test_pages(room):
          "paths.rt cites specs/Inner of cfgcycles"),
         ("crates/cfganalysis/specs/Follows.antt", replaced("cfganalysis.specs.Table.", "cfganalysis.specs.Inner.Flat."),
          "Follows.antt is outside specs/Inner, and cites it"),
-        ("crates/cfganalysis/src/growth.rt", replaced("cfganalysis.specs.Growth.", "cfganalysis.specs.Inner.Growth."),
-         "what callers see of Analysis cites AddsProduction of specs/Inner"),
+        ("crates/cfganalysis/src/productive.rt", replaced("specs.ProductiveRules.", "specs.Inner.ProductiveRules."),
+         "what callers see of productive_rules cites AreProductiveRules of specs/Inner"),
     ]:
         with changed(copy, file, change):
             fails(copy, words, "tools/pages", "check")
