@@ -18,7 +18,9 @@ usage: cfglint [OPTION..] [--] FILE..
 
   --kind KIND        original-noaction, original-useraction, original-genericparsetree, grmtools, eco or section
                      (the kind that the file's section names). Without it the section names the kind; a file that
-                     names none is read as original-noaction.
+                     names none is read as the default kind.
+  --default-kind KIND
+                     The default kind, any but section: original-noaction if this option isn't given.
   --format FORMAT    text, the default, or json: a line with a JSON object for each error and warning, and no summary.
   --allow FINDING    Findings of this kind aren't reported.
   --warn FINDING     Findings of this kind are warnings.
@@ -41,7 +43,8 @@ Of several --allow, --warn and --deny with the same one the last counts.
 status: 0 without errors or denied warnings; 1 with either; 2 if the arguments are wrong, a file can't be read or
 the output can't be written; 3 if there is no memory left
 '''
-OPTIONS = '--kind, --format, --allow, --warn, --deny, --deny-warnings, --quiet, --stdin-name, -h, --help, --version, --'
+OPTIONS = ('--kind, --default-kind, --format, --allow, --warn, --deny, --deny-warnings, --quiet, --stdin-name, -h, --help, '
+           '--version, --')
 KINDS = ('original-noaction', 'original-useraction', 'original-genericparsetree', 'grmtools', 'eco', 'section')
 FINDINGS = ('unused-rule', 'unused-token', 'shadowed-rule', 'start-without-sentence', 'no-sentence', 'unusable-rule',
             'unusable-production', 'useless-symbol', 'cyclic-rule', 'repeated-production', 'unused-precedence',
@@ -74,7 +77,8 @@ class Wrong(Exception):
 
 class Options:
     def __init__(self):
-        self.kind, self.denies, self.is_quiet, self.stdin_name, self.files = None, False, False, '-', []
+        self.kind, self.default_kind = None, 'original-noaction'
+        self.denies, self.is_quiet, self.stdin_name, self.files = False, False, '-', []
         self.levels = dict.fromkeys(FINDINGS, 'warning') | dict.fromkeys(CONSEQUENCES) | {'start-without-sentence': 'error'}
         self.format = 'text'
 
@@ -83,6 +87,8 @@ class Options:
             self.stdin_name = value
         elif option == '--kind':
             self.kind = named(value, 'kind', 'kinds', KINDS)
+        elif option == '--default-kind':
+            self.default_kind = named(value, 'default kind', 'kinds', KINDS[:-1])
         elif option == '--format':
             self.format = named(value, 'format', 'formats', FORMATS)
         else:
@@ -111,7 +117,7 @@ def options_of(arguments):
             options.denies = True
         elif argument == '--quiet':
             options.is_quiet = True
-        elif option in ('--kind', '--format', *LEVELS, '--stdin-name'):
+        elif option in ('--kind', '--default-kind', '--format', *LEVELS, '--stdin-name'):
             if not equals and not left:
                 raise Wrong("option '%s' needs a value" % option)
             options.set(option, value if equals else left.pop(0))
@@ -134,7 +140,7 @@ class Tally:
 
     def add_text(self, options, name, t, is_printed):
         self.texts += 1
-        word, refused = read_kind(options.kind, t)
+        word, refused = read_kind(options.kind, options.default_kind, t)
         if word is None:
             return self.add_errors(options, name, t, refused, None)
         if options.kind in (None, 'section'):
@@ -229,13 +235,13 @@ def stops_reading(error):
     return not repeats and error.kind not in VALIDATION and error.kind != 'StorageTooSmall'
 
 
-def read_kind(option, t):
+def read_kind(option, default, t):
     """The word of the kind as which the text is read, or None with the errors that are then printed."""
     if option not in (None, 'section'):
         return option, []
     values, errors, _ = section(t, False)
     if option is None and not errors and 'yacckind' not in values:
-        return 'original-noaction', []
+        return default, []
     kind, errors = named_kind(t)
     return kind and kind.replace('(', '-').rstrip(')').lower(), errors
 

@@ -2,8 +2,6 @@
 use Rattle.std.specs.Prelude.{◌≡◌, ℕ, ◌+◌, Bool, true, false, if◌then◌else◌, List, [], ◌∷◌, ◌++◌, codes, drop, length, map, slice_get, take, Option, None}
 use Rattle.std.specs.List.{count_by, flat_map}
 use Rattle.std.specs.Option.{option_map_or, option_or}
-use Rattle.cfgrammar.specs.YaccKind.TheVariants.{Original}
-use Rattle.cfgrammar.specs.YaccOriginalActionKind.TheVariants.{NoAction}
 use Rattle.cfgrammar.specs.Errors.{GrammarError}
 use Rattle.cfgrammar.specs.Errors as errors
 use Rattle.cfgrammar.specs.ErrorTexts.{error_text}
@@ -133,11 +131,11 @@ module _ (format : Format) (name text : List ℕ) where
       × (reported.errors ≡ count_by (λ (finding : Reported). finding.is_error) (reported_by levels all))
       × (reported.errors + reported.warnings ≡ length (reported_by levels all))
 
--- What is reported for a text in a file with this name, read as the options' kind if they have one: its errors if it has any, and otherwise
--- its findings; and the kind that it was read as.
+-- What is reported for a text in a file with this name, read as the options' kind if they have one, else as the kind that it names, and if
+-- it names none, as their default kind: its errors if it has any, and otherwise its findings; and the kind that it was read as.
 pub record ReportsText (options : LintOptions) (name text : List ℕ) (reported : Printed) : Type 0 where
   pub read_kind : KindArg
   pub found : Found
-  pub read_as : IsReadAs (Original NoAction) text options.kind read_kind
+  pub read_as : IsReadAs options.default_kind text options.kind read_kind
   pub is_found : IsFound read_kind text found
   pub reports : IsMadeOfRead (ReportsErrors options.format name text) (ReportsFindings options.format name text options.levels) found (reported, reported.kind)

@@ -15,14 +15,14 @@ use cfgfindings::findings;
 use cfgjson::{JsonLine, json_lines};
 use cfglint_shell::{Format, LintOptions, Linter, Report};
 use cfgrammar::yacc::ast::GrammarAST;
-use cfgrammar::yacc::{YaccGrammar, YaccGrammarError, YaccKind, YaccOriginalActionKind};
+use cfgrammar::yacc::{YaccGrammar, YaccGrammarError};
 use cfgrammar::{Spanned, render_all};
 use finding_kinds::Levels;
 use std::alloc::{AllocError, Global};
 
 /// Reports a text's errors, or the findings about its grammar that the options don't allow, in the format that the
 /// options name: each with its line of the text and carets, or as a line of JSON. If no kind is requested, a text is
-/// read as the kind that its section names or, if it names none, as the kind without actions.
+/// read as the kind that its section names or, if it names none, as the options' default kind.
 #[derive(Clone, Copy, Debug)]
 pub struct Lints;
 
@@ -38,13 +38,12 @@ impl Linter for Lints {
         name: &str,
         text: &str,
     ) -> Result<Report, AllocError> {
-        let default = YaccKind::Original(YaccOriginalActionKind::NoAction);
         let reporter = FileReporter {
             name,
             levels: options.levels,
             format: options.format,
         };
-        let (report, kind) = read_text_or(alloc, options.kind, default, text, &reporter)?;
+        let (report, kind) = read_text_or(alloc, options.kind, options.default_kind, text, &reporter)?;
         Ok(Report { kind, ..report })
     }
 }

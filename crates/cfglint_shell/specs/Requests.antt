@@ -5,13 +5,18 @@ use Rattle.std.specs.Option.{option_map_or}
 use Rattle.std.specs.Str.{bytes_eq}
 use Rattle.cfgrammar.specs.Visible.{visible}
 use Rattle.cfgprogram.specs.Kinds.{kind_named}
+use Rattle.cfgprogram.specs.YaccKind.{YaccKind}
+use Rattle.cfgprogram.specs.YaccKind.TheVariants.{Original}
+use Rattle.cfgprogram.specs.YaccOriginalActionKind.TheVariants.{NoAction}
+use Rattle.cfgprogram.specs.declared.kinds.KindArg.{KindArg}
+use Rattle.cfgprogram.specs.declared.kinds.KindArg.TheVariants.{Named}
 use Rattle.cfglint_shell.specs.declared.arguments.Expected.{Expected}
 use Rattle.cfglint_shell.specs.declared.arguments.Expected.TheVariants.{Argument, Value, File}
 use Rattle.finding_kinds.specs.declared.levels.Level.{Level}
 use Rattle.finding_kinds.specs.declared.levels.Level.TheVariants as level
 use Rattle.cfglint_shell.specs.declared.linter.LintOptions.{LintOptions}
 use Rattle.cfglint_shell.specs.declared.usage.ValueOption.{ValueOption}
-use Rattle.cfglint_shell.specs.declared.usage.ValueOption.TheVariants.{Kind, Format, Allow, Warn, Deny, StdinName}
+use Rattle.cfglint_shell.specs.declared.usage.ValueOption.TheVariants.{Kind, DefaultKind, Format, Allow, Warn, Deny, StdinName}
 use Rattle.cfglint_shell.specs.declared.format.Format.TheVariants.{Text}
 use Rattle.cfglint_shell.specs.Formats.{format_named, is_text}
 use Rattle.finding_kinds.specs.FindingKinds.{default_levels, finding_named, with_level}
@@ -28,7 +33,7 @@ pub record Options : Type 0 where
 -- before the first argument
 abbrev pub no_options : Options
 no_options = record {
-  lint = record { kind = None; levels = default_levels; format = Text };
+  lint = record { kind = None; default_kind = Original NoAction; levels = default_levels; format = Text };
   stdin_name = codes "-";
   denies = false;
   is_quiet = false;
@@ -43,11 +48,12 @@ name_of options file = if bytes_eq file (codes "-") then options.stdin_name else
 abbrev pub has_summary : Options → Bool
 has_summary options = is_text options.lint.format && not options.is_quiet
 
--- what is wrong with arguments: there is no such option; this value of an option names no kind, format or kind of finding; an option's value is
--- missing; no file is given; more than one of the files is standard input
+-- what is wrong with arguments: there is no such option; this value of an option names no kind, none that can be the default, no format or no
+-- kind of finding; an option's value is missing; no file is given; more than one of the files is standard input
 pub data UsageError : Type 0 where
   UnknownOption : List ℕ → UsageError
   UnknownKind : List ℕ → UsageError
+  UnknownDefaultKind : List ℕ → UsageError
   UnknownFormat : List ℕ → UsageError
   UnknownFinding : List ℕ → UsageError
   MissingValue : ValueOption → UsageError
@@ -69,6 +75,7 @@ pub data Step : Type 0 where
 abbrev pub option_named : List ℕ → Option ValueOption
 option_named name =
     if bytes_eq name (codes "--kind") then Some Kind
+    else if bytes_eq name (codes "--default-kind") then Some DefaultKind
     else if bytes_eq name (codes "--format") then Some Format
     else if bytes_eq name (codes "--allow") then Some Allow
     else if bytes_eq name (codes "--warn") then Some Warn
@@ -78,11 +85,17 @@ option_named name =
 
 abbrev pub option_name : ValueOption → List ℕ
 option_name Kind = codes "--kind"
+option_name DefaultKind = codes "--default-kind"
 option_name Format = codes "--format"
 option_name Allow = codes "--allow"
 option_name Warn = codes "--warn"
 option_name Deny = codes "--deny"
 option_name StdinName = codes "--stdin-name"
+
+-- the kind of a file that names none itself: `section` can't be it
+abbrev pub own_kind : Option KindArg → Option YaccKind
+own_kind (Some (Named kind)) = Some kind
+own_kind _ = None
 
 module _ (options : Options) where
   -- findings of the kind that this value names get the level
@@ -96,6 +109,9 @@ module _ (options : Options) where
   with_value Kind value = option_map_or
       (λ kind. Goes Argument (record options { lint = record options.lint { kind = Some kind } }))
       (kind_named value) (Stops (Wrong (UnknownKind value)))
+  with_value DefaultKind value = option_map_or
+      (λ kind. Goes Argument (record options { lint = record options.lint { default_kind = kind } }))
+      (own_kind (kind_named value)) (Stops (Wrong (UnknownDefaultKind value)))
   with_value Format value = option_map_or
       (λ format. Goes Argument (record options { lint = record options.lint { format = format } }))
       (format_named value) (Stops (Wrong (UnknownFormat value)))
@@ -179,8 +195,9 @@ usage = codes "usage: cfglint [OPTION..] [--] FILE..\n"
 
 -- the line that says what is wrong
 abbrev pub usage_error_text : UsageError → List ℕ
-usage_error_text (UnknownOption option) = codes "cfglint: unknown option '" ++ (visible option ++ codes "': the options are --kind, --format, --allow, --warn, --deny, --deny-warnings, --quiet, --stdin-name, -h, --help, --version, --\n")
+usage_error_text (UnknownOption option) = codes "cfglint: unknown option '" ++ (visible option ++ codes "': the options are --kind, --default-kind, --format, --allow, --warn, --deny, --deny-warnings, --quiet, --stdin-name, -h, --help, --version, --\n")
 usage_error_text (UnknownKind kind) = codes "cfglint: unknown kind '" ++ (visible kind ++ codes "': the kinds are original-noaction, original-useraction, original-genericparsetree, grmtools, eco, section\n")
+usage_error_text (UnknownDefaultKind kind) = codes "cfglint: unknown default kind '" ++ (visible kind ++ codes "': the kinds are original-noaction, original-useraction, original-genericparsetree, grmtools, eco\n")
 usage_error_text (UnknownFormat format) = codes "cfglint: unknown format '" ++ (visible format ++ codes "': the formats are text, json\n")
 usage_error_text (UnknownFinding finding) = codes "cfglint: unknown finding '" ++ (visible finding ++ codes "': the findings are unused-rule, unused-token, shadowed-rule, start-without-sentence, no-sentence, unusable-rule, unusable-production, useless-symbol, cyclic-rule, repeated-production, unused-precedence, repeated-token, overridden-precedence\n")
 usage_error_text (MissingValue option) = codes "cfglint: option '" ++ (option_name option ++ codes "' needs a value\n")
@@ -191,4 +208,4 @@ abbrev pub version : List ℕ
 version = codes "cfglint 0.15.0\n"
 
 abbrev pub help : List ℕ
-help = codes "cfglint reports errors in Yacc grammar files, and warnings about their grammars.\n\nusage: cfglint [OPTION..] [--] FILE..\n\n  --kind KIND        original-noaction, original-useraction, original-genericparsetree, grmtools, eco or section\n                     (the kind that the file's section names). Without it the section names the kind; a file that\n                     names none is read as original-noaction.\n  --format FORMAT    text, the default, or json: a line with a JSON object for each error and warning, and no summary.\n  --allow FINDING    Findings of this kind aren't reported.\n  --warn FINDING     Findings of this kind are warnings.\n  --deny FINDING     Findings of this kind are errors.\n  --deny-warnings    Warnings end with status 1 too.\n  --quiet            Writes no summary.\n  --stdin-name NAME  Standard input is reported under this name.\n  -h, --help         Writes this.\n  --version          Writes the version.\n  --                 What follows are files.\n  FILE               A path, or - for standard input, which can be given once.\n\nFINDING is unused-rule, unused-token, shadowed-rule, start-without-sentence, no-sentence, unusable-rule,\nunusable-production, useless-symbol, cyclic-rule, repeated-production, unused-precedence, repeated-token or\noverridden-precedence. Without these options start-without-sentence is an error; unusable-rule, unusable-production\nand useless-symbol, which only follow from a rule without a sentence, aren't reported; and the others are warnings.\nOf several --allow, --warn and --deny with the same one the last counts.\n--kind=KIND is --kind KIND, and so on.\n\nstatus: 0 without errors or denied warnings; 1 with either; 2 if the arguments are wrong, a file can't be read or\nthe output can't be written; 3 if there is no memory left\n"
+help = codes "cfglint reports errors in Yacc grammar files, and warnings about their grammars.\n\nusage: cfglint [OPTION..] [--] FILE..\n\n  --kind KIND        original-noaction, original-useraction, original-genericparsetree, grmtools, eco or section\n                     (the kind that the file's section names). Without it the section names the kind; a file that\n                     names none is read as the default kind.\n  --default-kind KIND\n                     The default kind, any but section: original-noaction if this option isn't given.\n  --format FORMAT    text, the default, or json: a line with a JSON object for each error and warning, and no summary.\n  --allow FINDING    Findings of this kind aren't reported.\n  --warn FINDING     Findings of this kind are warnings.\n  --deny FINDING     Findings of this kind are errors.\n  --deny-warnings    Warnings end with status 1 too.\n  --quiet            Writes no summary.\n  --stdin-name NAME  Standard input is reported under this name.\n  -h, --help         Writes this.\n  --version          Writes the version.\n  --                 What follows are files.\n  FILE               A path, or - for standard input, which can be given once.\n\nFINDING is unused-rule, unused-token, shadowed-rule, start-without-sentence, no-sentence, unusable-rule,\nunusable-production, useless-symbol, cyclic-rule, repeated-production, unused-precedence, repeated-token or\noverridden-precedence. Without these options start-without-sentence is an error; unusable-rule, unusable-production\nand useless-symbol, which only follow from a rule without a sentence, aren't reported; and the others are warnings.\nOf several --allow, --warn and --deny with the same one the last counts.\n--kind=KIND is --kind KIND, and so on.\n\nstatus: 0 without errors or denied warnings; 1 with either; 2 if the arguments are wrong, a file can't be read or\nthe output can't be written; 3 if there is no memory left\n"

@@ -14,7 +14,8 @@ ghost use Rattle.cfglint_shell.specs.Requests as requests;
 use crate::format::Format;
 use crate::linter::LintOptions;
 use crate::usage::{UsageError, ValueOption};
-use cfgprogram::kinds::kind_of;
+use cfgprogram::KindArg;
+use cfgprogram::kinds::{YaccKind, YaccOriginalActionKind, kind_of};
 use finding_kinds::{FindingKind, Level, Levels};
 use std::alloc::{AllocError, Global};
 
@@ -104,6 +105,7 @@ impl<'a> Options<'a> {
         Options {
             lint: LintOptions {
                 kind: None,
+                default_kind: YaccKind::Original(YaccOriginalActionKind::NoAction),
                 levels: Levels::new(),
                 format: Format::Text,
             },
@@ -209,6 +211,7 @@ impl<'a> Options<'a> {
     {
         match option {
             ValueOption::Kind => self.take_kind(value),
+            ValueOption::DefaultKind => self.take_default_kind(value),
             ValueOption::Format => self.take_format(value),
             ValueOption::Allow => self.take_level(value, Level::Allow),
             ValueOption::Warn => self.take_level(value, Level::Warn),
@@ -229,6 +232,18 @@ impl<'a> Options<'a> {
             return Step::Stops(Stop::Wrong(UsageError::UnknownKind(value)));
         };
         self.lint.kind = Some(kind);
+        Step::Goes(Expected::Argument)
+    }
+
+    /// Takes the kind of files that name none themselves.
+    fn take_default_kind(&mut self, value: &'a str) -> Step<'a>
+        ensures { step_view (options_view self.new) result
+            ≡ with_value (options_view self.old) value_option.DefaultKind value.now }
+    {
+        let Some(KindArg::Named(kind)) = kind_of(value) else {
+            return Step::Stops(Stop::Wrong(UsageError::UnknownDefaultKind(value)));
+        };
+        self.lint.default_kind = kind;
         Step::Goes(Expected::Argument)
     }
 

@@ -14,6 +14,8 @@ use std::marker::Model;
 pub struct LintOptions {
     /// The kind that they are read as; without one, each is read as the kind that it names itself.
     pub kind: Option<KindArg>,
+    /// Without one, the kind of a text that names none.
+    pub default_kind: YaccKind,
     /// What becomes of findings.
     pub levels: Levels,
     /// How what is reported is written.

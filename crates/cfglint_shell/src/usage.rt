@@ -25,7 +25,9 @@ usage: cfglint [OPTION..] [--] FILE..
 
   --kind KIND        original-noaction, original-useraction, original-genericparsetree, grmtools, eco or section
                      (the kind that the file's section names). Without it the section names the kind; a file that
-                     names none is read as original-noaction.
+                     names none is read as the default kind.
+  --default-kind KIND
+                     The default kind, any but section: original-noaction if this option isn't given.
   --format FORMAT    text, the default, or json: a line with a JSON object for each error and warning, and no summary.
   --allow FINDING    Findings of this kind aren't reported.
   --warn FINDING     Findings of this kind are warnings.
@@ -53,6 +55,7 @@ the output can't be written; 3 if there is no memory left
 #[derive(Clone, Copy, Debug, PartialEq, Eq)]
 pub(crate) enum ValueOption {
     Kind,
+    DefaultKind,
     Format,
     Allow,
     Warn,
@@ -67,6 +70,7 @@ impl ValueOption {
     {
         let option = match name {
             "--kind" => ValueOption::Kind,
+            "--default-kind" => ValueOption::DefaultKind,
             "--format" => ValueOption::Format,
             "--allow" => ValueOption::Allow,
             "--warn" => ValueOption::Warn,
@@ -83,6 +87,7 @@ impl ValueOption {
     {
         match self {
             ValueOption::Kind => "--kind",
+            ValueOption::DefaultKind => "--default-kind",
             ValueOption::Format => "--format",
             ValueOption::Allow => "--allow",
             ValueOption::Warn => "--warn",
@@ -99,6 +104,8 @@ pub(crate) enum UsageError<'a> {
     UnknownOption(&'a str),
     /// This value of `--kind` names no kind.
     UnknownKind(&'a str),
+    /// This value of `--default-kind` names no kind, or the one that a section names.
+    UnknownDefaultKind(&'a str),
     /// This value of `--format` names no format.
     UnknownFormat(&'a str),
     /// This value of `--allow`, `--warn` or `--deny` names no kind of finding.
@@ -127,6 +134,12 @@ impl UsageError<'_> {
                 let kind = Visible(kind);
                 format!(in alloc; "cfglint: unknown kind '{kind}': the kinds are {KINDS}\n{USAGE}")
             }
+            UsageError::UnknownDefaultKind(kind) => {
+                let kind = Visible(kind);
+                format!(in alloc;
+                    "cfglint: unknown default kind '{kind}': the kinds are {DEFAULT_KINDS}\n{USAGE}"
+                )
+            }
             UsageError::UnknownFormat(format) => {
                 let format = Visible(format);
                 format!(in alloc;
@@ -153,11 +166,15 @@ impl UsageError<'_> {
 
 /// The options.
 const OPTIONS: &str =
-    "--kind, --format, --allow, --warn, --deny, --deny-warnings, --quiet, --stdin-name, -h, --help, --version, --";
+    "--kind, --default-kind, --format, --allow, --warn, --deny, --deny-warnings, --quiet, --stdin-name, -h, --help, --version, --";
 
 /// The values of `--kind`.
 const KINDS: &str =
     "original-noaction, original-useraction, original-genericparsetree, grmtools, eco, section";
+
+/// The values of `--default-kind`.
+const DEFAULT_KINDS: &str =
+    "original-noaction, original-useraction, original-genericparsetree, grmtools, eco";
 
 /// The values of `--allow`, `--warn` and `--deny`.
 const FINDINGS: &str =
