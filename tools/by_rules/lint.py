@@ -52,6 +52,8 @@ FINDINGS = ('unused-rule', 'unused-token', 'shadowed-rule', 'start-without-sente
 CONSEQUENCES = ('unusable-rule', 'unusable-production', 'useless-symbol')
 LEVELS = {'--allow': None, '--warn': 'warning', '--deny': 'error'}
 VALIDATION = ('NoStartRule', 'InvalidStartRule', 'UnknownRuleRef', 'UnknownToken', 'NoPrecForToken', 'UnknownEPP')
+WORDS = {'UnknownRuleRef': 'unknown-rule', 'NoPrecForToken': 'no-precedence', 'MissingGrmtoolsSection': 'missing-section',
+         'ConversionError': 'section-conversion'}
 UNKNOWN = ('InvalidStartRule', 'UnknownRuleRef', 'UnknownToken', 'UnknownEPP')
 SUGGESTIONS = 20                                   # how many of the errors of a file are compared with its names
 NO_TOKEN = 'if it is a token, declare it by %token'
@@ -161,9 +163,10 @@ class Tally:
     def add_error(self, options, name, t, error, words):
         self.errors += 1
         if options.format == 'json':
-            self.add_lines([line_of(name, t, 'error', 'error', error.display(), error.spans, words)])
+            self.add_lines([line_of(name, t, 'error', error_word(error), error.display(), error.spans, words)])
         else:
-            self.add_lines(rendered(name, t, 'error: ' + error.display(), error.spans, error.spans_kind()))
+            message = ': '.join(['error', error.display(), *([] if words is None else [words])])
+            self.add_lines(rendered(name, t, '%s [%s]' % (message, error_word(error)), error.spans, error.spans_kind()))
             self.add_lines([] if words is None else [note(name, t, words, error.spans[0][0])])
 
     def add_finding(self, options, name, t, finding):
@@ -190,6 +193,14 @@ class Tally:
         if self.faults:
             return 2
         return 1 if self.errors or denies and self.warnings else 0
+
+
+def error_word(error):
+    """The word of an error's kind: mostly the name of the kind, with dashes."""
+    if error.kind in WORDS:
+        return WORDS[error.kind]
+    name = re.sub('^(Duplicate.*)Declaration$', r'\1', error.kind)
+    return 'section-' * isinstance(error, HeaderFault) + re.sub('(?<=[a-z])(?=[A-Z])', '-', name).lower()
 
 
 def shown_errors(errors, tree):

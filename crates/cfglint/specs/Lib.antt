@@ -1,3 +1,4 @@
+pub mod ErrorWords
 pub mod Reported
 pub mod ShownErrors
 pub mod Suggestions

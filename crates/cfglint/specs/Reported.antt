@@ -1,5 +1,5 @@
 -- What is reported for a text: its errors, or the findings about its grammar.
-use Rattle.std.specs.Prelude.{◌≡◌, ℕ, ◌+◌, Bool, true, false, if◌then◌else◌, List, [], ◌∷◌, ◌++◌, codes, drop, length, map, slice_get, take, Option, None}
+use Rattle.std.specs.Prelude.{◌≡◌, ℕ, ◌+◌, Bool, true, false, if◌then◌else◌, List, [], ◌∷◌, ◌++◌, codes, drop, length, map, slice_get, take, Option, Some, None}
 use Rattle.std.specs.List.{count_by, flat_map}
 use Rattle.std.specs.Option.{option_map_or, option_or}
 use Rattle.cfgrammar.specs.Errors.{GrammarError}
@@ -24,6 +24,7 @@ use Rattle.finding_kinds.specs.FindingKinds.{level_of, word_of}
 use Rattle.cfglint_shell.specs.Tally.{Printed}
 use Rattle.cfgfindings.specs.Findings.{AreFindings}
 use Rattle.cfgfindings.specs.Shown.{ShownFinding, spanskind_of}
+use Rattle.cfglint.specs.ErrorWords.{error_word}
 use Rattle.cfglint.specs.ShownErrors.{shown_errors}
 use Rattle.cfglint.specs.Suggestions.{Names, most_suggestions, names_of, no_names, suggestion}
 
@@ -41,10 +42,7 @@ reported_at Deny finding = record { finding = finding; is_error = true } ∷ []
 abbrev pub reported_by : Levels → List ShownFinding → List Reported
 reported_by levels findings = flat_map (λ (finding : ShownFinding). reported_at (level_of levels finding.kind) finding) findings
 
--- the message of an error, and that of a finding: with its severity, a finding's also with the word of its kind
-abbrev pub error_message : GrammarError → List ℕ
-error_message error = codes "error: " ++ error_text error.kind
-
+-- the message of a finding: with its severity, and the word of its kind
 abbrev pub finding_message : Reported → List ℕ
 finding_message reported = (if reported.is_error then codes "error" else codes "warning")
     ++ (codes ": " ++ (reported.finding.text ++ (codes " [" ++ (word_of reported.finding.kind ++ codes "]"))))
@@ -53,6 +51,15 @@ finding_message reported = (if reported.is_error then codes "error" else codes "
 pub record NotedError : Type 0 where
   pub error : GrammarError
   pub hint : Option (List ℕ)
+
+-- the message of an error: with its note, if there is one, since few programs show the line of a note, and with the word of its kind
+abbrev pub said_note : Option (List ℕ) → List ℕ
+said_note None = []
+said_note (Some words) = codes ": " ++ words
+
+abbrev pub error_message : NotedError → List ℕ
+error_message shown = codes "error: "
+    ++ (error_text shown.error.kind ++ (said_note shown.hint ++ (codes " [" ++ (error_word shown.error.kind ++ codes "]"))))
 
 -- the note on an error, in a text with these names
 abbrev pub note_on : List ℕ → Names → GrammarError → Option (List ℕ)
@@ -77,7 +84,7 @@ hint_line name text shown = option_map_or (λ words. note_line name text words (
 -- the lines for errors and for findings, for a text with this name
 abbrev pub error_lines : List ℕ → List ℕ → List NotedError → List ℕ
 error_lines name text all = flat_map (λ (shown : NotedError).
-    rendered name text (error_message shown.error) shown.error.spans (errors.spanskind_of shown.error.kind) ++ hint_line name text shown) all
+    rendered name text (error_message shown) shown.error.spans (errors.spanskind_of shown.error.kind) ++ hint_line name text shown) all
 
 abbrev pub finding_lines : List ℕ → List ℕ → List Reported → List ℕ
 finding_lines name text all =
@@ -87,7 +94,7 @@ finding_lines name text all =
 abbrev pub shown_error : NotedError → ShownDiagnostic
 shown_error shown = record {
   is_error = true;
-  kind = codes "error";
+  kind = error_word shown.error.kind;
   text = error_text shown.error.kind;
   hint = shown.hint;
   spans = shown.error.spans;

@@ -6,6 +6,7 @@ ghost use Rattle.std.specs.Option.{option_map};
 ghost use Rattle.cfglint.specs.Reported.{error_lines, error_offset, note_on, noted, noted_errors, reported_by};
 ghost use Rattle.cfglint.specs.Suggestions.{most_suggestions};
 
+use crate::error_words::error_word;
 use crate::suggestion::{Names, suggestion};
 use cfgfindings::Finding;
 use cfgjson::{Diagnostic, JsonLine, push_line};
@@ -59,10 +60,14 @@ impl fmt::Display for ReportedError<'_> {
     ghost use Rattle.std.specs.Prelude.{Some};
     ghost use Rattle.cfglint.specs.Reported.{error_message};
 
-    ghost output = { λ x. Some (error_message x.error) };
+    ghost output = { λ x. Some (error_message x) };
 
     fn fmt<W: fmt::Write>(&self, f: &mut fmt::Formatter<W>) -> fmt::Result {
-        write!(f, "error: {}", self.error)
+        let word = error_word(self.error.kind());
+        match &self.hint {
+            Some(hint) => write!(f, "error: {}: {hint} [{word}]", self.error),
+            None => write!(f, "error: {} [{word}]", self.error),
+        }
     }
 }
 
@@ -97,7 +102,7 @@ impl JsonLine for ReportedError<'_> {
         let text = self.error.to_string(alloc)?;
         let shown = Diagnostic {
             is_error: true,
-            kind: "error",
+            kind: error_word(self.error.kind()),
             text: text.as_str(),
             hint: self.hint(),
             spans: self.error.spans(),
