@@ -7,19 +7,35 @@ DECLARATIONS = ('%token, %start, %left, %right, %nonassoc, %epp, %expect, %expec
                 '%parse-generics; %actiontype in the original kinds and %implicit_tokens in Eco')
 PIECE = re.compile(rb'%[a-zA-Z0-9_%-]*|[a-zA-Z_.][a-zA-Z0-9_.]*|[0-9]+|[\x00-\x7f]|[\xc0-\xff][\x80-\xbf]*')
 EXPECTED = {
-    'ProductionNotTerminated': ", expected '|' or ';': an action may only be at the end of a production",
+    'ProductionNotTerminated': ", expected '|' or ';': an action may only be at the end of a production, and a '}' ends it also in a string or a comment",
     'MissingColon': ", expected ':'",
     'MissingRightArrow': ", expected '->' and the type of the rule's value",
     'IllegalName': ', expected the name of a rule',
     'IllegalInteger': ', expected a number up to 18446744073709551615',
+    'UnknownSymbol': ', expected a name or a quoted text',
 }
-# what is said where a token is missing, by the first byte there
+# what is said whatever the text is
+PLAIN = {
+    'IncompleteAction': "no '}' closes it: each '{' in it needs one, also in a string or a comment",
+    'IncompleteComment': "no '*/' closes it",
+    'IncompleteRule': "a ';' ends a rule",
+    'PrematureEnd': "'%%' comes before the rules",
+    'NoStartRule': 'the file has no rules',
+    'ReachedEOL': 'what a declaration needs is in one line with its keyword',
+    'InvalidString': "a quoted text ends on its line, and has a '\\' only before a quote",
+}
+QUOTED = ": a quoted text isn't empty, ends on its line and has no escapes"
+# what is said where a token is missing, by what is there
 TOKENS = (
+    (b':=', ": only one ':' is between a rule's name and its productions"),
+    (b'->', ": a ';' may be missing before this rule"),
     (b'<', ": tags such as <value> aren't read"),
-    (b'0123456789', ", expected a name or a quoted text: numbers of tokens aren't read"),
+    *((b'%d' % digit, ", expected a name or a quoted text: numbers of tokens aren't read") for digit in range(10)),
     (b':', ": a ';' may be missing before this rule, or '%%' before the first one"),
-    (b'"\'', ": a quoted text isn't empty, ends on its line and has no escapes"),
-    (b'%', ", expected a name or a quoted text: a ';' or the end of a line may be missing before it"),
+    (b'"', QUOTED),
+    (b"'", QUOTED),
+    (b'%', ", expected a name or a quoted text: a ';' or the end of a line may be missing before it, "
+           'and in a rule only %prec and %empty are read'),
     (b'.', ', expected a name without dots or a quoted text'),
 )
 
@@ -41,9 +57,11 @@ def hint(t, error):
     if error.kind == 'UnknownDeclaration':
         return unknown_declaration(t, p)
     if error.kind == 'IllegalString':
-        advice = next((advice for first, advice in TOKENS if p < len(t) and t[p] in first), ', expected a name or a quoted text')
+        advice = next((advice for word, advice in TOKENS if t.startswith(word, p)), ', expected a name or a quoted text')
         return 'found ' + found(t, p) + advice
-    return 'found ' + found(t, p) + EXPECTED[error.kind] if error.kind in EXPECTED else None
+    if error.kind == 'MissingColon' and t.startswith(b'->', p):
+        return "found '-': rules have types only in files of the kind Grmtools"
+    return 'found ' + found(t, p) + EXPECTED[error.kind] if error.kind in EXPECTED else PLAIN.get(error.kind)
 
 
 def unknown_declaration(t, p):

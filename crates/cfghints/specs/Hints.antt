@@ -8,7 +8,7 @@ use Rattle.cfgrender.specs.Render.{is_offset}
 use Rattle.constructs.specs.Pieces.{starts, strip}
 use Rattle.cfgwords.specs.declared.bytes.ByteClass.TheVariants as bytes
 use Rattle.cfgwords.specs.Bytes.{holds}
-use Rattle.cfgerrors.specs.Errors.{ErrorKind, GrammarError, UnknownDeclaration, IllegalString, ProductionNotTerminated, MissingColon, MissingRightArrow, IllegalName, IllegalInteger}
+use Rattle.cfgerrors.specs.Errors.{ErrorKind, GrammarError, UnknownDeclaration, IllegalString, ProductionNotTerminated, MissingColon, MissingRightArrow, IllegalName, IllegalInteger, UnknownSymbol, IncompleteAction, IncompleteComment, IncompleteRule, PrematureEnd, NoStartRule, ReachedEOL, InvalidString}
 
 -- whether a byte belongs to the piece that begins with the first byte: to a `%` and the letters, digits, `-`, `_` and `%` after it, to a
 -- name, to a number, or to one character
@@ -56,27 +56,51 @@ first_byte [] = 0
 first_byte (first ∷ rest) = first
 
 -- what to say where no token was found, by the first byte there
-unfoldable pub token_advice : ℕ → List ℕ
-token_advice first =
+unfoldable pub byte_advice : ℕ → List ℕ
+byte_advice first =
     if first == 60 then codes ": tags such as <value> aren't read"
     else if holds bytes.Digit first then codes ", expected a name or a quoted text: numbers of tokens aren't read"
     else if first == 58 then codes ": a ';' may be missing before this rule, or '%%' before the first one"
     else if holds bytes.Quote first then codes ": a quoted text isn't empty, ends on its line and has no escapes"
-    else if first == 37 then codes ", expected a name or a quoted text: a ';' or the end of a line may be missing before it"
+    else if first == 37 then codes ", expected a name or a quoted text: a ';' or the end of a line may be missing before it, and in a rule only %prec and %empty are read"
     else if first == 46 then codes ", expected a name without dots or a quoted text"
     else codes ", expected a name or a quoted text"
+
+-- what to say where no token was found, where the text goes on like this: after `::=`, and at the type of a rule before which no `;` is
+unfoldable pub token_advice : List ℕ → List ℕ
+token_advice text =
+    if begins_with (codes ":=") text then codes ": only one ':' is between a rule's name and its productions"
+    else if begins_with (codes "->") text then codes ": a ';' may be missing before this rule"
+    else byte_advice (first_byte text)
+
+-- what to say where no colon was found: a type is there only in files of the kind Grmtools
+unfoldable pub colon_advice : List ℕ → List ℕ
+colon_advice text =
+    if begins_with (codes "->") text then codes ": rules have types only in files of the kind Grmtools" else codes ", expected ':'"
+
+-- the note on an error of this kind, if it doesn't depend on the text
+abbrev pub plain_note : ErrorKind → Option (List ℕ)
+plain_note IncompleteAction = Some (codes "no '}' closes it: each '{' in it needs one, also in a string or a comment")
+plain_note IncompleteComment = Some (codes "no '*/' closes it")
+plain_note IncompleteRule = Some (codes "a ';' ends a rule")
+plain_note PrematureEnd = Some (codes "'%%' comes before the rules")
+plain_note NoStartRule = Some (codes "the file has no rules")
+plain_note ReachedEOL = Some (codes "what a declaration needs is in one line with its keyword")
+plain_note InvalidString = Some (codes "a quoted text ends on its line, and has a '\\' only before a quote")
+plain_note _ = None
 
 -- the note on an error of this kind that starts at this offset, where the text goes on like this
 abbrev pub note : ErrorKind → ℕ → List ℕ → Option (List ℕ)
 note UnknownDeclaration start text = Some (declaration_note start text)
-note IllegalString start text = Some (found_note text (token_advice (first_byte text)))
+note IllegalString start text = Some (found_note text (token_advice text))
 note ProductionNotTerminated start text =
-    Some (found_note text (codes ", expected '|' or ';': an action may only be at the end of a production"))
-note MissingColon start text = Some (found_note text (codes ", expected ':'"))
+    Some (found_note text (codes ", expected '|' or ';': an action may only be at the end of a production, and a '}' ends it also in a string or a comment"))
+note MissingColon start text = Some (found_note text (colon_advice text))
 note MissingRightArrow start text = Some (found_note text (codes ", expected '->' and the type of the rule's value"))
 note IllegalName start text = Some (found_note text (codes ", expected the name of a rule"))
 note IllegalInteger start text = Some (found_note text (codes ", expected a number up to 18446744073709551615"))
-note _ start text = None
+note UnknownSymbol start text = Some (found_note text (codes ", expected a name or a quoted text"))
+note kind start text = plain_note kind
 
 -- the note on an error of this kind with this first span
 abbrev pub hint_at : List ℕ → ErrorKind → Option Span → Option (List ℕ)

@@ -3,7 +3,7 @@
 ghost use Rattle.std.specs.Prelude.{◌≡◌, ◌++◌};
 ghost use Rattle.cfgerrors.specs.Errors.{kind_view};
 ghost use Rattle.cfghints.specs.Hints.{begins_keyword, begins_with, first_byte, found, found_note, hint_text, note};
-ghost use Rattle.cfghints.specs.Hints.{declaration_note, token_advice};
+ghost use Rattle.cfghints.specs.Hints.{byte_advice, colon_advice, declaration_note, plain_note, token_advice};
 
 use crate::found::Found;
 use cfgbase::Spanned;
@@ -92,19 +92,43 @@ fn note<'a>(kind: &YaccGrammarErrorKind, start: usize, text: &'a str) -> Option<
 {
     let end = match kind {
         YaccGrammarErrorKind::UnknownDeclaration => return Some(declaration_note(start, text)),
-        YaccGrammarErrorKind::IllegalString => token_advice(first_byte(text)),
+        YaccGrammarErrorKind::IllegalString => token_advice(text),
         YaccGrammarErrorKind::ProductionNotTerminated => {
-            ", expected '|' or ';': an action may only be at the end of a production"
+            ", expected '|' or ';': an action may only be at the end of a production, and a '}' ends it also in \
+             a string or a comment"
         }
-        YaccGrammarErrorKind::MissingColon => ", expected ':'",
+        YaccGrammarErrorKind::MissingColon => colon_advice(text),
         YaccGrammarErrorKind::MissingRightArrow => {
             ", expected '->' and the type of the rule's value"
         }
         YaccGrammarErrorKind::IllegalName => ", expected the name of a rule",
         YaccGrammarErrorKind::IllegalInteger => ", expected a number up to 18446744073709551615",
-        _ => return None,
+        YaccGrammarErrorKind::UnknownSymbol => ", expected a name or a quoted text",
+        other => return plain_note(other),
     };
     Some(Hint::found(text, end))
+}
+
+/// The note on an error of this kind, if it doesn't depend on the text.
+fn plain_note<'a>(kind: &YaccGrammarErrorKind) -> Option<Hint<'a>>
+    ensures { result ≡ plain_note (kind_view kind.now) }
+{
+    let words = match kind {
+        YaccGrammarErrorKind::IncompleteAction => {
+            "no '}' closes it: each '{' in it needs one, also in a string or a comment"
+        }
+        YaccGrammarErrorKind::IncompleteComment => "no '*/' closes it",
+        YaccGrammarErrorKind::IncompleteRule => "a ';' ends a rule",
+        YaccGrammarErrorKind::PrematureEnd => "'%%' comes before the rules",
+        YaccGrammarErrorKind::NoStartRule => "the file has no rules",
+        YaccGrammarErrorKind::ReachedEOL =>
+            "what a declaration needs is in one line with its keyword",
+        YaccGrammarErrorKind::InvalidString => {
+            "a quoted text ends on its line, and has a '\\' only before a quote"
+        }
+        _ => return None,
+    };
+    Some(Hint::plain(words))
 }
 
 /// The note where no declaration was found.
@@ -129,10 +153,36 @@ fn declaration_note<'a>(start: usize, text: &'a str) -> Hint<'a>
     }
 }
 
-/// What to say where no token was found, by the first byte there.
+/// What to say where no colon was found.
+#[tactic(auto, unfolding(crate::specs::Hints::colon_advice))]
+fn colon_advice(text: &str) -> &'static str
+    ensures { result.now ≡ colon_advice text.now }
+{
+    if begins_with(text, "->") {
+        ": rules have types only in files of the kind Grmtools"
+    } else {
+        ", expected ':'"
+    }
+}
+
+/// What to say where no token was found.
 #[tactic(auto, unfolding(crate::specs::Hints::token_advice))]
-fn token_advice(first: u8) -> &'static str
-    ensures { result.now ≡ token_advice first }
+fn token_advice(text: &str) -> &'static str
+    ensures { result.now ≡ token_advice text.now }
+{
+    if begins_with(text, ":=") {
+        ": only one ':' is between a rule's name and its productions"
+    } else if begins_with(text, "->") {
+        ": a ';' may be missing before this rule"
+    } else {
+        byte_advice(first_byte(text))
+    }
+}
+
+/// What to say where no token was found, by the first byte there.
+#[tactic(auto, unfolding(crate::specs::Hints::byte_advice))]
+fn byte_advice(first: u8) -> &'static str
+    ensures { result.now ≡ byte_advice first }
 {
     if first == b'<' {
         ": tags such as <value> aren't read"
@@ -143,7 +193,8 @@ fn token_advice(first: u8) -> &'static str
     } else if ByteClass::Quote.holds(first) {
         ": a quoted text isn't empty, ends on its line and has no escapes"
     } else if first == b'%' {
-        ", expected a name or a quoted text: a ';' or the end of a line may be missing before it"
+        ", expected a name or a quoted text: a ';' or the end of a line may be missing before it, and in a rule \
+         only %prec and %empty are read"
     } else if first == b'.' {
         ", expected a name without dots or a quoted text"
     } else {

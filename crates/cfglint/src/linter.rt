@@ -43,7 +43,13 @@ impl Linter for Lints {
             levels: options.levels,
             format: options.format,
         };
-        let (report, kind) = read_text_or(alloc, options.kind, options.default_kind, text, &reporter)?;
+        let (report, kind) = read_text_or(
+            alloc,
+            options.kind,
+            options.default_kind,
+            text,
+            &reporter,
+        )?;
         Ok(Report { kind, ..report })
     }
 }
