@@ -34,8 +34,8 @@ usage: cfglint [OPTION..] [--] FILE..
   FILE               A path, or - for standard input, which can be given once.
 
 FINDING is unused-rule, unused-token, shadowed-rule, start-without-sentence, no-sentence, unusable-rule,
-unusable-production, useless-symbol, cyclic-rule, repeated-production, unused-precedence, repeated-token or
-overridden-precedence. Without these options start-without-sentence is an error; unusable-rule, unusable-production
+unusable-production, useless-symbol, cyclic-rule, repeated-production, unused-precedence, repeated-token,
+overridden-precedence or all, which is each of them. Without these options start-without-sentence is an error; unusable-rule, unusable-production
 and useless-symbol, which only follow from a rule without a sentence, aren't reported; and the others are warnings.
 Of several --allow, --warn and --deny with the same one the last counts.
 --kind=KIND is --kind KIND, and so on.
@@ -94,7 +94,8 @@ class Options:
         elif option == '--format':
             self.format = named(value, 'format', 'formats', FORMATS)
         else:
-            self.levels[named(value, 'finding', 'findings', FINDINGS)] = LEVELS[option]
+            word = named(value, 'finding', 'findings', (*FINDINGS, 'all'))
+            self.levels.update(dict.fromkeys(FINDINGS if word == 'all' else [word], LEVELS[option]))
 
 
 def named(value, one, several, values):

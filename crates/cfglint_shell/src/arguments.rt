@@ -259,10 +259,14 @@ impl<'a> Options<'a> {
         Step::Goes(Expected::Argument)
     }
 
-    /// Takes a kind of finding, to which it gives this level.
+    /// Takes a kind of finding, or all kinds, to which it gives this level.
     fn take_level(&mut self, value: &'a str, level: Level) -> Step<'a>
         ensures { step_view (options_view self.new) result ≡ with_finding (options_view self.old) level value.now }
     {
+        if value == "all" {
+            self.lint.levels = Levels::all(level);
+            return Step::Goes(Expected::Argument);
+        }
         let Some(finding) = FindingKind::of_word(value) else {
             return Step::Stops(Stop::Wrong(UsageError::UnknownFinding(value)));
         };

@@ -61,6 +61,10 @@ default_level _ = Warn
 abbrev pub default_levels : Levels
 default_levels = record { by_kind = map default_level kinds }
 
+-- one level for all kinds
+abbrev pub all_levels : Level → Levels
+all_levels level = record { by_kind = map (λ _. level) kinds }
+
 -- the level of a kind
 abbrev pub level_of : Levels → FindingKind → Level
 level_of levels kind = slice_index_or levels.by_kind (number kind) Warn

@@ -1,7 +1,7 @@
 //! What becomes of findings, kind by kind.
 
 ghost use Rattle.std.specs.Prelude.{◌≡◌};
-ghost use Rattle.finding_kinds.specs.FindingKinds.{default_levels, level_of, with_level};
+ghost use Rattle.finding_kinds.specs.FindingKinds.{all_levels, default_levels, level_of, with_level};
 
 use crate::finding_kind::FindingKind;
 
@@ -28,14 +28,21 @@ impl Levels {
     pub fn new() -> Self
         ensures { result ≡ default_levels }
     {
-        let mut levels = Levels {
-            by_kind: [Level::Warn; 13],
-        };
+        let mut levels = Levels::all(Level::Warn);
         levels.set(FindingKind::StartWithoutSentence, Level::Deny);
         levels.set(FindingKind::UnusableRule, Level::Allow);
         levels.set(FindingKind::UnusableProduction, Level::Allow);
         levels.set(FindingKind::UselessSymbol, Level::Allow);
         levels
+    }
+
+    /// This level for all kinds.
+    pub fn all(level: Level) -> Self
+        ensures { result ≡ all_levels level }
+    {
+        Levels {
+            by_kind: [level; 13],
+        }
     }
 
     /// The level of a kind.
