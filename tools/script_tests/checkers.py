@@ -237,8 +237,8 @@ def test_no_texts(room):
     fails(copy, "0 texts, 0 that differ", "tools/beside", "original", "--driver", "/bin/true", *none)
     with changed(copy, "crates/vectors/data/vectors/pairs.rows", without(r"^row .*?\n(?=row )")):
         fails(copy, "fuzz texts of rows and examples: ", "tools/fuzz", *none)
-    for tool in ("rows_by_rules", "costs_by_rules", "lint_by_rules"):
-        fails(copy, "/dev/null has no rows", f"tools/{tool}", "/dev/null")
+    for kind in ("texts", "costs", "lint"):
+        fails(copy, "/dev/null has no rows", "tools/rules", kind, "/dev/null")
 
 
 def test_large(room):
@@ -328,7 +328,7 @@ def test_refuse_without_compiler(room):
 BUILD = """import sys
 sys.dont_write_bytecode = True
 sys.path.insert(0, 'tools')
-import beside_crate
+from modules import beside_crate
 print(beside_crate.build('{}'))
 """
 
