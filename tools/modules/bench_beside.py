@@ -201,5 +201,5 @@ def write(bench, given):
         print("\n\n".join(paragraphs))
         return
     put(PAGE, "".join(f"\n{it.rstrip()}\n" for it in paragraphs) + "\n")
-    put(README, f"{textwrap.fill(first_line, 90)}\n" if first_line else "")
+    put(README, f"{textwrap.fill(first_line, 100)}\n" if first_line else "")
     subprocess.run([f"{ROOT}/tools/picture"], check=True)

@@ -105,9 +105,10 @@ def test_pages(room):
         ("docs/GUIDE.md", replaced("<!-- tools/pages: ", "<!-- tools/page: "), "marks no part"),
         ("docs/DECISIONS.md", emptied, "docs/DECISIONS.md headings: 0 found"),
         ("README.md", gone, "README.md headings: 0 found"),
-        ("README.md", another_digit(r"\d worked rows"), "worked rows"),
-        ("README.md", another_digit(r"\d results of the crate"), "results of"),
-        ("README.md", replaced("worked rows", "rows"), "{} worked rows"),
+        ("docs/TESTING.md", another_digit(r"\d worked rows"), "worked rows"),
+        ("docs/TESTING.md", another_digit(r"\d+\s+results of the crate"), "results of"),
+        ("docs/TESTING.md", replaced("worked rows", "rows"), "{} worked rows"),
+        ("docs/PERFORMANCE.md", another_digit(r"\d grammars of the repository"), "grammars of the repository"),
         ("tools/last_runs.txt", replaced(" texts, 0", "1 texts, 0"), "Last runs: "),
         ("tools/expected.txt", emptied, "0 expected"),
         ("tools/expected.txt", gone, "expected.txt is gone"),
@@ -138,11 +139,11 @@ def test_samples(room):
     write(f"{room}/lint", re.sub("^    ", "", block, flags=re.M))
     for name in ("cfgtool", "cfglint"):
         write(f"{room}/{name}", FAKE.format(room), 0o755)
-    ours = ("README.md: $ bin/cfglint", "README.md: bin/cfgtool eco", "the errors of `", "from_str of `")
+    ours = ("README.md: $ bin/cfglint", "docs/BEHAVIOUR.md: bin/cfgtool eco", "the errors of `", "from_str of `")
     for file, change, broken in [
         ("README.md", None, []),
         ("README.md", replaced("search.y:7:9: warning", "search.y:7:8: warning"), [ours[0]]),
-        ("README.md", replaced("`1:7: Unknown", "`1:8: Unknown"), [ours[1]]),
+        ("docs/BEHAVIOUR.md", replaced("`1:7: Unknown", "`1:8: Unknown"), [ours[1]]),
         ("docs/BEHAVIOUR.md", replaced("(7,8), (16,17) |", "(7,8), (16,18) |"), [ours[2]]),
         ("docs/BEHAVIOUR.md", another_digit(r"9\) \|\n\| `%grmtools\{yacckindof"), [ours[3]]),
     ]:
@@ -189,7 +190,7 @@ def test_other_numbers(room):
         ("real_runs runs of cfglint", ["real_runs", *both]),
         ("large shapes of cfgtool", ["large"]),
         ("words words", ["words"]),
-        ("samples README.md findings", ["samples", *both]),
+        ("samples README.md words", ["samples", *both]),
     ]:
         with changed(copy, "tools/expected.txt", without(rf"^{what}: .*?\n")):
             fails(copy, f"{what}: ", f"tools/{command[0]}", *command[1:], **given)
