@@ -258,8 +258,12 @@ def test_words(room):
     for command in (["init", "-q"], ["add", "-A"]):
         subprocess.run(["git", *command], cwd=copy, check=True)
     passes(copy, "tools/words", where="docs")
-    with changed(copy, "README.md", lambda it: it + "\nIt goes without saying.\n"):
-        fails(copy, "1  in all", "tools/words", where="docs")
+    for file in ("README.md", "examples/search.y"):
+        with changed(copy, file, lambda it: it + "\nIt goes without saying.\n"):
+            fails(copy, "1  in all", "tools/words", where="docs")
+    write(f"{copy}/docs/fronts/loops.rows", "")
+    subprocess.run(["git", "add", "-A"], cwd=copy, check=True)
+    fails(copy, "docs/fronts: its name", "tools/words", "--list", where="docs")
 
 
 def test_pictures(room):
@@ -295,11 +299,20 @@ def test_wrong_bodies(room):
 
 # ---------------------------------------------------------------- how tools are called
 
+def test_each_tool_has_its_line(room):
+    """tools/README.md has a line for each file and folder beside it, but for lists and what these lines name in brackets."""
+    with open(f"{ROOT}/tools/README.md", encoding="utf-8") as it:
+        listed = re.findall(r"^\| `([\w.]+)/?` \|", it.read(), re.M)
+    beside = {"README.md", "expected.txt", "last_runs.txt", "script_tests", "bench_program", "original", "__pycache__"}
+    there = set(os.listdir(f"{ROOT}/tools")) - beside
+    assert sorted(listed) == sorted(there), sorted(there ^ set(listed))
+
+
 def test_help(room):
     """Each tool prints its usage if that is requested, and as an error if it is given what it doesn't know."""
     copy = copied(room)
     tools = sorted(f"tools/{it.name}" for it in os.scandir(f"{copy}/tools") if it.is_file() and os.access(it, os.X_OK))
-    assert len(tools) >= 24, tools
+    assert len(tools) >= 21, tools
 
     def ends(tool, argument):
         given = {"stdin": subprocess.DEVNULL, "capture_output": True, "check": False, "timeout": 60}
