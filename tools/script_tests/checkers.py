@@ -103,6 +103,8 @@ def test_pages(room):
         ("docs/PROMISES.md", without("<!-- end -->\n"), "there is a comment in the part"),
         ("docs/GUIDE.md", gone, "docs/GUIDE.md code: 0 found"),
         ("docs/GUIDE.md", replaced("<!-- tools/pages: ", "<!-- tools/page: "), "marks no part"),
+        ("docs/GUIDE.md", replaced("(../README.md#call-the-library)", "(../README.md#call-it)"), "leads nowhere"),
+        ("README.md", replaced("(docs/TESTING.md)", "(docs/TESTED.md)"), "the link docs/TESTED.md leads nowhere"),
         ("docs/DECISIONS.md", emptied, "docs/DECISIONS.md headings: 0 found"),
         ("README.md", gone, "README.md headings: 0 found"),
         ("docs/TESTING.md", another_digit(r"\d worked rows"), "worked rows"),
