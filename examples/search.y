@@ -1,4 +1,4 @@
-// Searches in an archive: words and phrases, joined by operators. It has two mistakes, of which cfglint tells.
+// Searches in an archive: words and phrases, joined by operators. It has two mistakes, which cfglint reports.
 
 %token WORD PHRASE
 
@@ -10,7 +10,7 @@
 
 Search: Terms ;
 
-// Terms that stand side by side have to be found together.
+// Terms beside each other have to be found together.
 Terms:
     Term
   | Terms Term

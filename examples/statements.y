@@ -1,4 +1,4 @@
-/* A small language of statements. No %start stands here, so the first rule
+/* A small language of statements. It has no %start line, so the first rule
    is the start. */
 
 %token IDENTIFIER         // the name of a variable or of a function

@@ -16,7 +16,7 @@ from importlib.machinery import SourceFileLoader
 from types import ModuleType
 
 sys.dont_write_bytecode = True
-from usage import usage
+from modules.usage import usage
 
 HERE = os.path.dirname(os.path.realpath(__file__))
 LIST, RUNS = f"{HERE}/expected.txt", f"{HERE}/last_runs.txt"

@@ -103,11 +103,14 @@ def test_pages(room):
         ("docs/PROMISES.md", without("<!-- end -->\n"), "there is a comment in the part"),
         ("docs/GUIDE.md", gone, "docs/GUIDE.md code: 0 found"),
         ("docs/GUIDE.md", replaced("<!-- tools/pages: ", "<!-- tools/page: "), "marks no part"),
+        ("docs/GUIDE.md", replaced("(../README.md#call-the-library)", "(../README.md#call-it)"), "leads nowhere"),
+        ("README.md", replaced("(docs/TESTING.md)", "(docs/TESTED.md)"), "the link docs/TESTED.md leads nowhere"),
         ("docs/DECISIONS.md", emptied, "docs/DECISIONS.md headings: 0 found"),
         ("README.md", gone, "README.md headings: 0 found"),
-        ("README.md", another_digit(r"\d worked rows"), "worked rows"),
-        ("README.md", another_digit(r"\d results of the crate"), "results of"),
-        ("README.md", replaced("worked rows", "rows"), "{} worked rows"),
+        ("docs/TESTING.md", another_digit(r"\d worked rows"), "worked rows"),
+        ("docs/TESTING.md", another_digit(r"\d+\s+results of the crate"), "results of"),
+        ("docs/TESTING.md", replaced("worked rows", "rows"), "{} worked rows"),
+        ("docs/PERFORMANCE.md", another_digit(r"\d grammars of the repository"), "grammars of the repository"),
         ("tools/last_runs.txt", replaced(" texts, 0", "1 texts, 0"), "Last runs: "),
         ("tools/expected.txt", emptied, "0 expected"),
         ("tools/expected.txt", gone, "expected.txt is gone"),
@@ -138,11 +141,11 @@ def test_samples(room):
     write(f"{room}/lint", re.sub("^    ", "", block, flags=re.M))
     for name in ("cfgtool", "cfglint"):
         write(f"{room}/{name}", FAKE.format(room), 0o755)
-    ours = ("README.md: $ bin/cfglint", "README.md: bin/cfgtool eco", "the errors of `", "from_str of `")
+    ours = ("README.md: $ bin/cfglint", "docs/BEHAVIOUR.md: bin/cfgtool eco", "the errors of `", "from_str of `")
     for file, change, broken in [
         ("README.md", None, []),
         ("README.md", replaced("search.y:7:9: warning", "search.y:7:8: warning"), [ours[0]]),
-        ("README.md", replaced("`1:7: Unknown", "`1:8: Unknown"), [ours[1]]),
+        ("docs/BEHAVIOUR.md", replaced("`1:7: Unknown", "`1:8: Unknown"), [ours[1]]),
         ("docs/BEHAVIOUR.md", replaced("(7,8), (16,17) |", "(7,8), (16,18) |"), [ours[2]]),
         ("docs/BEHAVIOUR.md", another_digit(r"9\) \|\n\| `%grmtools\{yacckindof"), [ours[3]]),
     ]:
@@ -189,7 +192,7 @@ def test_other_numbers(room):
         ("real_runs runs of cfglint", ["real_runs", *both]),
         ("large shapes of cfgtool", ["large"]),
         ("words words", ["words"]),
-        ("samples README.md findings", ["samples", *both]),
+        ("samples README.md words", ["samples", *both]),
     ]:
         with changed(copy, "tools/expected.txt", without(rf"^{what}: .*?\n")):
             fails(copy, f"{what}: ", f"tools/{command[0]}", *command[1:], **given)
@@ -237,8 +240,8 @@ def test_no_texts(room):
     fails(copy, "0 texts, 0 that differ", "tools/beside", "original", "--driver", "/bin/true", *none)
     with changed(copy, "crates/vectors/data/vectors/pairs.rows", without(r"^row .*?\n(?=row )")):
         fails(copy, "fuzz texts of rows and examples: ", "tools/fuzz", *none)
-    for tool in ("rows_by_rules", "costs_by_rules", "lint_by_rules"):
-        fails(copy, "/dev/null has no rows", f"tools/{tool}", "/dev/null")
+    for kind in ("texts", "costs", "lint"):
+        fails(copy, "/dev/null has no rows", "tools/rules", kind, "/dev/null")
 
 
 def test_large(room):
@@ -257,8 +260,12 @@ def test_words(room):
     for command in (["init", "-q"], ["add", "-A"]):
         subprocess.run(["git", *command], cwd=copy, check=True)
     passes(copy, "tools/words", where="docs")
-    with changed(copy, "README.md", lambda it: it + "\nIt goes without saying.\n"):
-        fails(copy, "1  in all", "tools/words", where="docs")
+    for file in ("README.md", "examples/search.y"):
+        with changed(copy, file, lambda it: it + "\nIt goes without saying.\n"):
+            fails(copy, "1  in all", "tools/words", where="docs")
+    write(f"{copy}/docs/fronts/loops.rows", "")
+    subprocess.run(["git", "add", "-A"], cwd=copy, check=True)
+    fails(copy, "docs/fronts: its name", "tools/words", "--list", where="docs")
 
 
 def test_pictures(room):
@@ -294,11 +301,20 @@ def test_wrong_bodies(room):
 
 # ---------------------------------------------------------------- how tools are called
 
+def test_each_tool_has_its_line(room):
+    """tools/README.md has a line for each file and folder beside it, but for lists and what these lines name in brackets."""
+    with open(f"{ROOT}/tools/README.md", encoding="utf-8") as it:
+        listed = re.findall(r"^\| `([\w.]+)/?` \|", it.read(), re.M)
+    beside = {"README.md", "expected.txt", "last_runs.txt", "script_tests", "bench_program", "original", "__pycache__"}
+    there = set(os.listdir(f"{ROOT}/tools")) - beside
+    assert sorted(listed) == sorted(there), sorted(there ^ set(listed))
+
+
 def test_help(room):
     """Each tool prints its usage if that is requested, and as an error if it is given what it doesn't know."""
     copy = copied(room)
     tools = sorted(f"tools/{it.name}" for it in os.scandir(f"{copy}/tools") if it.is_file() and os.access(it, os.X_OK))
-    assert len(tools) >= 24, tools
+    assert len(tools) >= 21, tools
 
     def ends(tool, argument):
         given = {"stdin": subprocess.DEVNULL, "capture_output": True, "check": False, "timeout": 60}
@@ -328,7 +344,7 @@ def test_refuse_without_compiler(room):
 BUILD = """import sys
 sys.dont_write_bytecode = True
 sys.path.insert(0, 'tools')
-import beside_crate
+from modules import beside_crate
 print(beside_crate.build('{}'))
 """
 

@@ -35,7 +35,7 @@ pub record ReturnsGreatest (P : ℕ → List Sym → Type 0) (cost : ℕ → ℕ
   pub greatest : (c : ℕ) → (answer ≡ Ok (Some c)) ↔ (Greatest P cost r c × (c ≤ 65535))
   pub too_large : (answer ≡ Err costs.CostTooLarge) ↔ ((n : ℕ) × Greatest P cost r n × (65535 < n))
 
--- the sentences of a rule such that no other costs less, if they cost at most 65535, each once, in lexicographic order
+-- the cheapest sentences of a rule, if they cost at most 65535, each once, in lexicographic order
 pub record ListsMinimal (P : ℕ → List Sym → Type 0) (cost : ℕ → ℕ) (r : ℕ) (sentences : List (List ℕ)) : Type 0 where
   pub all : (w : List ℕ) → Contains sentences w ↔ (Minimal P cost r w × (cost_of cost w ≤ 65535))
   pub order : IsStrictlySortedBy lexicographic sentences

@@ -16,8 +16,8 @@ use cfgindex::{RIdx, Storage, TIdx};
 use cfgtables::{Productions, Tables};
 use std::alloc::Global;
 
-/// The lexicographically first of the rule's sentences such that no other costs less, as
-/// [`SentenceGenerator::min_sentence`] gives it. The symbols come only from `productions`, which are the generator's.
+/// The lexicographically first of the rule's cheapest sentences, as [`SentenceGenerator::min_sentence`] gives it. The
+/// symbols come only from `productions`, which are the generator's.
 ///
 /// The number of openings is at most 1 plus the sentence's tokens times the rules. With the opened productions, each
 /// used as often as it was opened, the rule derives the sentence with rules of cost 0 between its tokens: these are

@@ -62,7 +62,7 @@ pub record ReturnsLeast (P : ℕ → List Sym → Type 0) (cost : ℕ → ℕ) (
   pub none : (result ≡ Err NoSentence) ↔ Unproductive P r
   pub too_large : (result ≡ Err CostTooLarge) ↔ IsTooLarge P cost r
 
--- a production of a rule, whose symbols derive a sentence such that no other costs less
+-- a production of a rule, whose symbols derive one of the rule's cheapest sentences
 pub record IsLeastProduction (g : Grammar) (cost : ℕ → ℕ) (r p : ℕ) : Type 0 where
   pub index : p < length g.productions
   pub owner : (nth_production g p).rule ≡ r

@@ -44,7 +44,7 @@ FINDING is unused-rule, unused-token, shadowed-rule, start-without-sentence, no-
 unusable-production, useless-symbol, cyclic-rule, repeated-production, unused-precedence, repeated-token,
 overridden-precedence or all, which is each of them. Without these options start-without-sentence is an error; unusable-rule, unusable-production
 and useless-symbol, which only follow from a rule without a sentence, aren't reported; and the others are warnings.
-Of several --allow, --warn and --deny with the same one the last counts.
+If a finding is given to several of these options, the last one wins.
 --kind=KIND is --kind KIND, and so on.
 
 status: 0 without errors or denied warnings; 1 with either; 2 if the arguments are wrong, a file can't be read or

@@ -103,7 +103,7 @@ fn write_greatest(
     }
 }
 
-/// The sentences of a rule such that no other costs less; none if they cost more than 65535.
+/// The cheapest sentences of a rule; none if they cost more than 65535.
 fn minimal_sentences(
     alloc: Global,
     grammar: &YaccGrammar<u32>,

@@ -8,10 +8,11 @@ import re
 import subprocess
 import sys
 import tempfile
+import textwrap
 import time
 
-from beside_crate import ROOT, build, built_over
-from explained import rows as rows_by_rules
+from .beside_crate import ROOT, build, built_over
+from .explained import rows as rows_by_rules
 
 PAGE, README = f"{ROOT}/docs/PERFORMANCE.md", f"{ROOT}/README.md"
 BEGIN, END = "<!-- tools/bench --beside -->\n", "<!-- end of tools/bench --beside -->\n"
@@ -200,5 +201,5 @@ def write(bench, given):
         print("\n\n".join(paragraphs))
         return
     put(PAGE, "".join(f"\n{it.rstrip()}\n" for it in paragraphs) + "\n")
-    put(README, f"{first_line}\n" if first_line else "")
+    put(README, f"{textwrap.fill(first_line, 100)}\n" if first_line else "")
     subprocess.run([f"{ROOT}/tools/picture"], check=True)

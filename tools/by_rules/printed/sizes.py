@@ -1,20 +1,14 @@
-#!/usr/bin/env python3
-"""sizes_by_rules: prints the digests of the rows of values/sizes.rows and runs/sizes.rows in crates/vectors/data.
+"""The digests of the rows of values/sizes.rows and runs/sizes.rows in crates/vectors/data.
 
-The results of each row are made here from docs/BEHAVIOUR.md and docs/ROWS.md, by repeating lines as the text of the row does, and
-share nothing with the crates. They are compared with their lines in the stored transcript (docs/ROWS.md).
+The results of each row are made here from docs/BEHAVIOUR.md and docs/ROWS.md, by repeating lines as the text of the row does.
 """
-import sys
-
-sys.dont_write_bytecode = True
-from usage import usage
 
 
-def print_digest(name, text):
+def digest_of(name, text):
     digest = 0xcbf29ce484222325
     for byte in text.encode('utf-8'):
         digest = (digest ^ byte) * 0x100000001b3 & 0xffffffffffffffff
-    print('== %s\n    %d lines of %d bytes, digest %016x' % (name, text.count('\n'), len(text.encode('utf-8')), digest))
+    return ('== %s\n    %d lines of %d bytes, digest %016x\n' % (name, text.count('\n'), len(text.encode('utf-8')), digest))
 
 
 def pictured(text):
@@ -159,25 +153,21 @@ def of_standard_input():
     return program('original-genericparsetree grammar -', 0, out + '35001 ^: "S"\n')
 
 
-def main(arguments):
-    usage(__doc__, arguments, not arguments)
-    print_digest('sized-lines-8000', of_lines())
-    print_digest('sized-line-of-6000', of_one_line())
-    print_digest('sized-numbers-4000', of_numbers())
-    print_digest('sized-texts-4000', of_texts())
-    print_digest('sized-marks-4000', of_marks())
-    print_digest('sized-place', of_span())
-    print_digest('sized-bits-100000', of_bits())
-    print_digest('sized-names', of_names())
+def printed():
+    """The digests, row by row."""
+    yield digest_of('sized-lines-8000', of_lines())
+    yield digest_of('sized-line-of-6000', of_one_line())
+    yield digest_of('sized-numbers-4000', of_numbers())
+    yield digest_of('sized-texts-4000', of_texts())
+    yield digest_of('sized-marks-4000', of_marks())
+    yield digest_of('sized-place', of_span())
+    yield digest_of('sized-bits-100000', of_bits())
+    yield digest_of('sized-names', of_names())
     arguments = 'original-genericparsetree grammar -'
-    print_digest('sized-grammar-20000', of_productions())
-    print_digest('sized-firsts-2000', of_firsts())
-    print_digest('sized-error-behind-20000-lines', run(arguments, 1, "20001:7: Unknown reference to rule 'B'\n"))
-    print_digest('sized-name-in-an-error', run(arguments, 1, "1:7: Unknown reference to rule '%s'\n" % ('n' * 100000)))
-    print_digest('sized-costs-that-double', of_doubled_costs())
-    print_digest('sized-standard-input', of_standard_input())
-    print_digest('sized-standard-input-that-fails', program(arguments, 2, '', 'cfgtool: cannot read -\n'))
-
-
-if __name__ == '__main__':
-    main(sys.argv[1:])
+    yield digest_of('sized-grammar-20000', of_productions())
+    yield digest_of('sized-firsts-2000', of_firsts())
+    yield digest_of('sized-error-behind-20000-lines', run(arguments, 1, "20001:7: Unknown reference to rule 'B'\n"))
+    yield digest_of('sized-name-in-an-error', run(arguments, 1, "1:7: Unknown reference to rule '%s'\n" % ('n' * 100000)))
+    yield digest_of('sized-costs-that-double', of_doubled_costs())
+    yield digest_of('sized-standard-input', of_standard_input())
+    yield digest_of('sized-standard-input-that-fails', program(arguments, 2, '', 'cfgtool: cannot read -\n'))

@@ -1,10 +1,6 @@
-#!/usr/bin/env python3
-"""rows_by_rules FILE.rows ..: prints the results of the grammar texts and the sections in these files of rows, by the rules alone.
+"""The rows in a file of rows, and what is printed of those on texts of grammars and of sections.
 
-A plain reading of docs/BEHAVIOUR.md, which shares nothing with the crates: its output is compared with that of the program of rows
-(docs/ROWS.md). by_rules has what the rules make of a text; this tool reads the rows, and prints the results. The files of a row are in
-the folder above that of its file of rows. Rows on lines, maps, values and runs are not for this tool; costs_by_rules has those on costs,
-and lint_by_rules those on runs of cfglint.
+The files of a row are in the folder above that of its file of rows.
 """
 import copy
 import os
@@ -12,14 +8,12 @@ import re
 import sys
 import unicodedata
 
-sys.dont_write_bytecode = True
-from by_rules.faults import Fault, HeaderFault, position
-from by_rules.grammar import Grammar
-from by_rules.rendered import rendered
-from by_rules.section import entry, kind_of, named_kind, section
-from by_rules.unused import TEXTS, warnings_of
-from by_rules.validation import errors_of
-from usage import usage
+from ..faults import Fault, HeaderFault, position
+from ..grammar import Grammar
+from ..rendered import rendered
+from ..section import entry, kind_of, named_kind, section
+from ..unused import TEXTS, warnings_of
+from ..validation import errors_of
 
 # ---------------------------------------------------------------- row files (docs/ROWS.md)
 
@@ -633,12 +627,8 @@ def results(row):
     return out if g is None else out + request_lines(g, row.requests)
 
 
-def main(paths):
-    usage(__doc__, paths, paths and all(map(os.path.exists, paths)))
+def printed(paths):
+    """What is printed of the rows in these files, row by row."""
     for path in paths:
         for row in read_rows(path):
-            sys.stdout.buffer.write(('\n'.join(transcript(row)) + '\n').encode('utf-8'))
-
-
-if __name__ == '__main__':
-    main(sys.argv[1:])
+            yield '\n'.join(transcript(row)) + '\n'

@@ -1,37 +1,18 @@
-#!/usr/bin/env python3
-"""costs_by_rules FILE.rows .. < STDOUT: prints the results of these files of rows on costs, by the rules alone.
-
-A plain reading of docs/BEHAVIOUR.md, which shares nothing with the crates: its output is compared with that of the program of rows,
-STDOUT (docs/ROWS.md). by_rules/costs.py has the costs of sentences.
+"""What is printed of rows on costs. by_rules/costs.py has the costs of sentences.
 
 The rules leave open which of the cheapest productions is chosen for a rule, and how often a production is opened. These are taken
-from STDOUT if they are right. If not, other ones are printed, so that the two differ.
+from the program's output if they are right. If not, other ones are printed, so that the two differ.
 """
-import os
 import re
 import sys
-from importlib.machinery import SourceFileLoader
-from types import ModuleType
 
-sys.dont_write_bytecode = True
-from by_rules.costs import LIMIT, UNBOUNDED, Costs
-from by_rules.grammar import Grammar
-from by_rules.validation import errors_of
-from usage import usage
+from . import texts as rows
+from ..costs import LIMIT, UNBOUNDED, Costs
+from ..grammar import Grammar
+from ..validation import errors_of
 
-HERE = os.path.dirname(os.path.realpath(__file__))
 LISTED, WRITTEN = 20, 20
 REFUSED = {'none': 'the rule has no sentence', 'too large': 'the cost is more than 65535'}
-
-
-def load_rows():
-    loader = SourceFileLoader('rows_by_rules', f'{HERE}/rows_by_rules')
-    module = ModuleType(loader.name)
-    loader.exec_module(module)
-    return module
-
-
-rows = load_rows()
 
 
 def read_printed():
@@ -191,8 +172,8 @@ def results(row, lines):
     return out + (['no grammar'] if errors else Results(row, Grammar(tree), lines).all_lines())
 
 
-def main(paths):
-    usage(__doc__, paths, paths and all(map(os.path.exists, paths)))
+def printed(paths):
+    """What is printed of the rows in these files, row by row."""
     lines = read_printed()
     for path in paths:
         for row in rows.read_rows(path):
@@ -200,8 +181,4 @@ def main(paths):
             if row.show == 'digest':
                 found = rows.digest_lines(row, found)
             head = ['== ' + row.name] + ['   ' + note for note in row.notes]
-            sys.stdout.buffer.write(('\n'.join(head + found) + '\n\n').encode('utf-8'))
-
-
-if __name__ == '__main__':
-    main(sys.argv[1:])
+            yield '\n'.join(head + found) + '\n\n'

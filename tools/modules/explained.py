@@ -2,30 +2,15 @@
 
 Answers are lists of lines, as the program of rows prints them, without the text of the row, and for costs without the chosen
 productions, which the crate doesn't show."""
-import os
 import re
 import sys
 from contextlib import ExitStack
-from importlib.machinery import SourceFileLoader
-from types import ModuleType
 from unittest import mock
 
 from by_rules.original import DIFFERENCES, NeverEnds, OriginalCosts, OriginalGrammar, Panics, Answered, answering_as
+from by_rules.printed import costs, texts as rows
 
 sys.setrecursionlimit(20000)
-HERE = os.path.dirname(os.path.realpath(__file__))
-
-
-def load(name):
-    loader = SourceFileLoader(name, f'{HERE}/{name}')
-    module = ModuleType(name)
-    module.__file__ = loader.path
-    loader.exec_module(module)
-    return module
-
-
-costs = load('costs_by_rules')
-rows = costs.rows
 
 
 def row_of(spelled):

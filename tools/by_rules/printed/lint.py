@@ -1,24 +1,16 @@
-#!/usr/bin/env python3
-"""lint_by_rules FILE.rows .. < STDOUT: prints the results of the runs of cfglint in these files of rows, by the rules alone.
+"""What is printed of runs of cfglint. by_rules/lint.py has the output of cfglint, by_rules/findings.py its findings.
 
-A plain reading of docs/BEHAVIOUR.md, which shares nothing with the crates: its output is compared with that of the program of rows,
-STDOUT (docs/ROWS.md). by_rules/lint.py has the output of cfglint, by_rules/findings.py its findings.
-
-The rules leave open which of several shortest cycles of a rule is printed. That is taken from STDOUT if it is one of them.
+The rules leave open which of several shortest cycles of a rule is printed. That is taken from the program's output if it is one of them.
 """
 import json
 import math
 import os
 import re
 import sys
-from importlib.machinery import SourceFileLoader
-from types import ModuleType
 
-sys.dont_write_bytecode = True
-from by_rules.lint import NO_MEMORY, USAGE, Unreadable, ending
-from usage import usage
+from . import texts as rows
+from ..lint import NO_MEMORY, USAGE, Unreadable, ending
 
-HERE = os.path.dirname(os.path.realpath(__file__))
 LATIN = b'A\xff'
 # how outputs end in a row `rooms`, and the reason that is printed if the output does; none is if nobody reads it any more
 ENDS = {'fails': None, 'is interrupted': '', 'takes none': ''}
@@ -26,16 +18,6 @@ ENDS = {'fails': None, 'is interrupted': '', 'takes none': ''}
 WHY = {'full': '', 'interrupts': '', 'no-space': ': no space is left', 'over-quota': ': no space is left',
        'too-large': ': the file would get too large'}
 STEPS = (1, 4, 18446744073709551615)
-
-
-def load_rows():
-    loader = SourceFileLoader('rows_by_rules', f'{HERE}/rows_by_rules')
-    module = ModuleType(loader.name)
-    loader.exec_module(module)
-    return module
-
-
-rows = load_rows()
 
 
 def printed_cycles(written):
@@ -116,17 +98,13 @@ class Run:
         return lines
 
 
-def main(paths):
-    usage(__doc__, paths, paths and all(map(os.path.exists, paths)))
-    printed = printed_cycles(sys.stdin.read())
+def printed(paths):
+    """What is printed of the rows in these files, row by row."""
+    cycles = printed_cycles(sys.stdin.read())
     for path in paths:
         for row in rows.read_rows(path):
-            lines = Run(row, printed).lines()
+            lines = Run(row, cycles).lines()
             if row.show == 'digest':
                 lines = rows.digest_lines(row, lines)
             head = ['== ' + row.name] + ['   ' + note for note in row.notes]
-            sys.stdout.buffer.write(('\n'.join(head + lines) + '\n\n').encode('utf-8'))
-
-
-if __name__ == '__main__':
-    main(sys.argv[1:])
+            yield '\n'.join(head + lines) + '\n\n'

@@ -12,9 +12,9 @@ import subprocess
 import sys
 import tempfile
 
-from explained import explained, normal, row_of
+from .explained import explained, normal, row_of
 
-ROOT = os.path.dirname(os.path.dirname(os.path.realpath(__file__)))
+ROOT = os.path.dirname(os.path.dirname(os.path.dirname(os.path.realpath(__file__))))
 CACHE = os.environ.get('XDG_CACHE_HOME') or os.path.expanduser('~/.cache')
 COPY = f'{CACHE}/cfgrammar-original'
 PROGRAM = f'{ROOT}/crates/vectors/out/vectors'
