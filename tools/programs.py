@@ -37,10 +37,10 @@ def stop(why):
     raise Stopped(why)
 
 
-def say(text):
+def say(text, to=2):
     """Writes a line to standard error, if it takes one. Where nobody reads it, a program is built all the same."""
     try:
-        with open(2, "wb", closefd=False) as it:
+        with open(to, "wb", closefd=False) as it:
             it.write(os.fsencode(f"{text}\n"))
     except OSError:
         pass
@@ -140,7 +140,7 @@ class Program:
         self.folder = f"{ROOT}/crates/{name}"
         self.kept = f"{self.folder}/out/{kind}"
         # what is held or has to be cleaned up while it is built
-        self.held = self.locked = self.trying = self.room = None
+        self.held, self.locked, self.trying, self.room = [], None, None, None
 
     def look(self):
         """Looks at the sources: their states, what crates.txt says of them, and their checksum. The state of a file or
@@ -209,6 +209,13 @@ class Program:
                 self.compile_run_unchanged(f"{folder}/run_unchanged")
         except OSError:
             pass
+
+    def let_others_build(self):
+        """Ends the locks, unless the program was kept and nothing locked."""
+        for it in [*self.held, self.locked]:
+            if it is not None:
+                os.close(it)
+        self.held, self.locked = [], None
 
     def copy(self):
         """Copies the program to where rt leaves programs, for the tools that run it there."""
