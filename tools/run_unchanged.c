@@ -130,7 +130,8 @@ __attribute__((used)) static void begin(char **stack) {
         if (unchanged)
             run(&arguments[6], environment);
         arguments[6] = name;
-        run(&arguments[4], environment);
+        arguments[3] = "/bin/sh";
+        run(&arguments[3], environment);
     }
     call(EXIT, unchanged && count == 3 ? 86 : 126, 0, 0, 0, 0);
 }
