@@ -157,6 +157,11 @@ def test_what_runs_an_unchanged_program_is_damaged(room):
     assert toy.runs("cfglint", "lint 1") == toy.runs("cfglint", "lint 1", path=path) == ""
     os.chmod(f"{kept}/program", 0o644)
     assert "proving" in toy.runs("cfglint", "lint 1")
+    with open(f"{kept}/list", "rb") as it:
+        length_of_first = int.from_bytes(it.read(38)[36:], "little")
+    os.truncate(f"{kept}/list", 8 + length_of_first)
+    write(toy.source("low/src/lib.rt"), "low 2\n")
+    toy.runs("cfglint", "low 2")
 
 
 def test_damage(room):

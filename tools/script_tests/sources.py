@@ -106,6 +106,15 @@ def test_a_deleted_source(room):
     assert status == 0 and "other proof" not in out, f"{status} {out} {said}"
 
 
+def test_a_deleted_folder_of_sources(room):
+    toy = Toy(room)
+    toy.runs("cfglint", "specs of low", "proof of low")
+    for part, text in (("specs", "specs of low"), ("proofs", "proof of low")):
+        shutil.rmtree(toy.source(f"low/{part}"))
+        status, out, said = toy.call("cfglint")
+        assert status == 0 and text not in out, f"{status} {out} {said}"
+
+
 def test_an_added_folder_of_sources(room):
     toy = Toy(room)
     toy.runs("cfglint")
