@@ -5,8 +5,8 @@ A program is kept in crates/NAME/out/proved/SUM, or in out/tried/SUM if it is un
 that it was made of: the sources of its crate and of those below it, by name and byte, what crates.txt says of these
 crates, HANDLES, the kit, and the tools that build it. It is put there in one step, after every check of it. Beside it
 are its own checksum, and a list of the times, sizes and inodes of all these files and their folders. While that list
-is right, which tools/unchanged.c finds out, a call runs the program at once. If anything differs, the checksum
-decides. The file out/proved/now has the SUM of the program that ran last.
+is right, tools/run_unchanged.c runs the program at once. If anything differs, the checksum decides. The file
+out/proved/now has the SUM of the program that ran last.
 """
 import fcntl
 import hashlib
@@ -21,11 +21,11 @@ import time
 
 ROOT = os.path.dirname(os.path.dirname(os.path.realpath(__file__)))
 KITS, LOGIC = "the Rattle kit rattle-kit-13b or rattle-kit-13f", "dac8208d650f15bf"
-TOOLS = [f"tools/{it}" for it in ("build_program", "programs.py", "unchanged.c")]
+TOOLS = [f"tools/{it}" for it in ("build_program", "programs.py", "run_unchanged.c")]
 PARTS = ("src", "specs", "proofs")
 # how many programs of a crate are kept, so that going back to an earlier state of the sources needs no proof
 KEPT = 4
-# the status of tools/unchanged.c. It isn't 0, with which a damaged program of no bytes ends
+# the status of tools/run_unchanged.c. It isn't 0, with which a damaged program of no bytes ends
 UNCHANGED = 86
 
 
@@ -37,10 +37,10 @@ def stop(why):
     raise Stopped(why)
 
 
-def say(text):
+def say(text, to=2):
     """Writes a line to standard error, if it takes one. Where nobody reads it, a program is built all the same."""
     try:
-        with open(2, "wb", closefd=False) as it:
+        with open(to, "wb", closefd=False) as it:
             it.write(os.fsencode(f"{text}\n"))
     except OSError:
         pass
@@ -140,7 +140,7 @@ class Program:
         self.folder = f"{ROOT}/crates/{name}"
         self.kept = f"{self.folder}/out/{kind}"
         # what is held or has to be cleaned up while it is built
-        self.held = self.locked = self.trying = self.room = None
+        self.held, self.locked, self.trying, self.room = [], None, None, None
 
     def look(self):
         """Looks at the sources: their states, what crates.txt says of them, and their checksum. The state of a file or
@@ -205,10 +205,17 @@ class Program:
             states = [self.states[0], (program, state(self.path())), *self.states[1:]]
             write(f"{folder}/list", list_of(states))
             write(f"{self.kept}/now", f"{self.sum}\n".encode())
-            if status_of(f"{folder}/unchanged", ROOT, f"{folder}/list", "") != UNCHANGED:
-                self.compile_unchanged(f"{folder}/unchanged")
+            if status_of(f"{folder}/run_unchanged", ROOT, f"{folder}/list") != UNCHANGED:
+                self.compile_run_unchanged(f"{folder}/run_unchanged")
         except OSError:
             pass
+
+    def let_others_build(self):
+        """Ends the locks, unless the program was kept and nothing locked."""
+        for it in [*self.held, self.locked]:
+            if it is not None:
+                os.close(it)
+        self.held, self.locked = [], None
 
     def copy(self):
         """Copies the program to where rt leaves programs, for the tools that run it there."""
@@ -233,15 +240,18 @@ class Program:
             time.sleep(0.02)
         return self.trying.returncode
 
-    def compile_unchanged(self, to):
-        """Compiles tools/unchanged.c by the kit's clang. Without it each call computes the checksum."""
-        made, kit = f"{to}.{os.getpid()}", self.kit.folder
-        libraries = [f"{kit}/c/libos_c.a", f"{kit}/c/liblibc_c.a"]
-        words = ["--target", "x86_64-unknown-linux-gnu", "--toolchain", f"{kit}/toolchain", "-o", made, f"{made}.o"]
-        compiled = status_of(f"{kit}/toolchain/bin/clang", "-O2", "-c", f"{ROOT}/tools/unchanged.c", "-o", f"{made}.o")
-        if compiled == 0 and status_of(f"{kit}/bin/rattle-link", *words, *libraries) == 0:
+    def compile_run_unchanged(self, to):
+        """Compiles tools/run_unchanged.c by the kit's clang. Without it each call computes the checksum. It is on the
+        disk before it is in its place, since after a crash a shell would run what has no bytes, with status 0."""
+        made = f"{to}.{os.getpid()}"
+        how = ["-O2", "-ffreestanding", "-nostdlib", "-static", "-fuse-ld=lld"]
+        clang = f"{self.kit.folder}/toolchain/bin/clang"
+        if status_of(clang, *how, f"{ROOT}/tools/run_unchanged.c", "-o", made) == 0:
+            with open(made, "rb") as it:
+                os.fsync(it.fileno())
+            if os.path.isdir(to):
+                remove(to)
             os.replace(made, to)
-        remove(f"{made}.o")
 
 
 def status_of(*words):
@@ -254,16 +264,18 @@ def status_of(*words):
 
 
 def list_of(states):
-    """The list of these states, as tools/unchanged.c reads it."""
+    """The list of these states, as tools/run_unchanged.c reads it."""
     listed, folder = b"", None
-    for path, its_state in states:
+    for path, (inode, size, *changed) in states:
+        is_above_next = os.path.basename(path) in PARTS
         if folder and path.startswith(folder):
-            path = path[len(folder):]
-        elif os.path.basename(path) in PARTS:
-            folder = path = f"{path}/"
+            path, is_above_next = path[len(folder):], False
+        elif is_above_next:
+            folder = f"{path}/"
         path = os.fsencode(path)
-        listed += struct.pack("<4q", *its_state) + path + bytes(8 - len(path) % 8)
-    return struct.pack("<q", 8 + len(listed)) + listed
+        path += bytes(8 - len(path) % 8)
+        listed += struct.pack("<2QqI2H", inode, size, *changed, 32 + len(path), is_above_next) + path
+    return struct.pack("<Q", 8 + len(listed)) + listed
 
 
 def write(path, text, mode=0o644):

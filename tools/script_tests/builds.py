@@ -140,6 +140,30 @@ def test_a_damaged_program(room):
         assert toy.runs("cfglint", "lint 1") == ""
 
 
+def test_what_runs_an_unchanged_program_is_damaged(room):
+    toy = Toy(room)
+    toy.runs("cfglint")
+    kept = f"{toy.top}/crates/cfglint_main/out/proved/{read(f'{toy.top}/crates/cfglint_main/out/proved/now').strip()}"
+    path = f"{toy.kit}/bin:{path_without(room, 'python3')}"
+    for damage in (
+            lambda it: os.truncate(it, 0),
+            lambda it: os.chmod(it, 0o644),
+            os.remove,
+            lambda it: (os.remove(it), os.mkdir(it))):
+        damage(f"{kept}/run_unchanged")
+        assert toy.runs("cfglint", "lint 1") == ""
+        assert toy.runs("cfglint", "lint 1", path=path) == "", "each call looks for what the program is made of"
+    os.truncate(f"{kept}/list", 40)
+    assert toy.runs("cfglint", "lint 1") == toy.runs("cfglint", "lint 1", path=path) == ""
+    os.chmod(f"{kept}/program", 0o644)
+    assert "proving" in toy.runs("cfglint", "lint 1")
+    with open(f"{kept}/list", "rb") as it:
+        length_of_first = int.from_bytes(it.read(38)[36:], "little")
+    os.truncate(f"{kept}/list", 8 + length_of_first)
+    write(toy.source("low/src/lib.rt"), "low 2\n")
+    toy.runs("cfglint", "low 2")
+
+
 def test_damage(room):
     toy = Toy(room)
     out, library = f"{toy.top}/crates/cfglint_main/out", f"{toy.top}/crates/low/out"

@@ -5,7 +5,7 @@ import shutil
 import signal
 import subprocess
 
-from toy import ROOT, Toy, path_without, read, write, write_script
+from toy import ROOT, Toy, end, path_without, read, write, write_script
 
 
 def test_no_rt(room):
@@ -125,6 +125,52 @@ def test_streams_and_statuses(room):
     begun.stdout.close()
     begun.stdout = None
     begun.communicate(timeout=60)
+
+
+def test_a_call_in_any_folder(room):
+    toy = Toy(room)
+    toy.runs("cfglint")
+    write(f"{room}/in/a.y", "text of a file\n")
+    how = {"words": ["../repository/bin/cfglint", "a.y"], "cwd": f"{room}/in"}
+    assert toy.runs("cfglint", "low 1", "text of a file", **how) == ""
+    write(toy.source("low/src/lib.rt"), "low 2\n")
+    toy.runs("cfglint", "low 2", "text of a file", **how)
+    if os.geteuid() == 0:
+        # once it left this folder, it couldn't come back
+        os.chmod(room, 0o755)
+        os.chmod(f"{room}/in", 0o700)
+        drop = ["setpriv", "--reuid=65534", "--regid=65534", "--clear-groups"]
+        toy.runs("cfglint", "low 2", words=[*drop, f"{toy.top}/bin/cfglint"], cwd=f"{room}/in")
+
+
+def test_rt_of_a_built_program(room):
+    toy = Toy(room)
+    toy.runs("cfglint")
+    few = path_without(room, "python3")
+    for it in (few, f"kit/bin:{few}", f":{room}/nowhere::{toy.kit}/bin:{few}", f"{'x' * 5000}:{few}"):
+        assert toy.runs("cfglint", "low 1", path=it) == "", it
+    write_script(f"{room}/rt", "exit 0")
+    for it in (room, "", "."):
+        said = toy.refuses("cfglint", path=f"{it}:{os.environ['PATH']}")
+        assert "rt isn't the command rt of the Rattle kit" in said, said
+
+
+def test_a_call_starts_nothing_but_the_program(room):
+    toy = Toy(room)
+    toy.runs("cfglint")
+    os.mkfifo(f"{room}/pipe")
+    begun = toy.begin("cfglint", "pipe")
+    with open(f"{room}/pipe", "w", encoding="utf-8") as pipe:
+        files = [os.readlink(f"/proc/{begun.pid}/fd/{it}") for it in os.listdir(f"/proc/{begun.pid}/fd")]
+        pipe.write("text of a pipe\n")
+    status, out, said = end(begun)
+    assert status == 0 and "text of a pipe" in out, f"{status} {out} {said}"
+    state = re.search(r"^state: (\d+) .*\) (.*)", out, re.M)
+    assert int(state[1]) == begun.pid
+    # the page faults of processes that it waited for
+    assert state[2].split()[8] == "0", f"another process has run: {state[0]}"
+    left = [it for it in files if it in (room, toy.top) or it.endswith("/list")]
+    assert not left, f"the program has open files of others: {left}"
 
 
 def processor_seconds(words, environment):

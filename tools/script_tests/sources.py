@@ -106,6 +106,15 @@ def test_a_deleted_source(room):
     assert status == 0 and "other proof" not in out, f"{status} {out} {said}"
 
 
+def test_a_deleted_folder_of_sources(room):
+    toy = Toy(room)
+    toy.runs("cfglint", "specs of low", "proof of low")
+    for part, text in (("specs", "specs of low"), ("proofs", "proof of low")):
+        shutil.rmtree(toy.source(f"low/{part}"))
+        status, out, said = toy.call("cfglint")
+        assert status == 0 and text not in out, f"{status} {out} {said}"
+
+
 def test_an_added_folder_of_sources(room):
     toy = Toy(room)
     toy.runs("cfglint")
@@ -166,7 +175,7 @@ def test_other_lines_of_crates_txt(room):
 def test_other_tools_that_build(room):
     toy = Toy(room)
     toy.runs("cfglint")
-    for number, name in enumerate(("build_program", "programs.py", "unchanged.c"), 2):
+    for number, name in enumerate(("build_program", "programs.py", "run_unchanged.c"), 2):
         tool = f"{toy.top}/tools/{name}"
         write(f"{room}/new", read(tool) + "\n")
         shutil.copymode(tool, f"{room}/new")
