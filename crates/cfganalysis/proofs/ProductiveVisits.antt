@@ -13,10 +13,10 @@ use Rattle.derivation.proofs.Trees.{derivation_from_trees, trees_from_derivation
 use Rattle.cfganalysis.specs.Inner.Growth.{CoversEach, AddsProduction}
 use Rattle.cfganalysis.specs.Inner.GrowingFirsts.{ProductionRefers}
 use Rattle.cfganalysis.specs.Inner.Waiting.{NoneWaits, Waits}
-use Rattle.cfganalysis.specs.ProductiveRules.{AreProductiveRules}
+use Rattle.cfganalysis.specs.ProductiveRules.{AreProductiveRules, AreProductiveSymbols, is_productive, is_productive_symbol}
 use Rattle.cfganalysis.specs.Table.{bits_on}
 use Rattle.search.proofs.Bits.{bit_put, bits_on-set}
-use Rattle.cfganalysis.specs.Inner.GrowingProductive.{AreProductiveSymbols, CoverProductiveOf, IsNoMoreProductive, AreSoundProductive, is_productive, is_productive_symbol}
+use Rattle.cfganalysis.specs.Inner.GrowingProductive.{AreSoundProductive, CoverProductiveOf, IsNoMoreProductive}
 
 pub none_productive : (g : Grammar) (rules : ℕ) (bits : List Bool) → rules ≡ g.rules → bits ≡ replicate rules false → AreSoundProductive g bits
 none_productive g rules bits e is = subst (AreSoundProductive g) (sym is) (record {

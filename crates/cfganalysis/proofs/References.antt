@@ -32,28 +32,35 @@ found_rules symbols old new w = reaches_as _ _ old new
     w
 
 module _ (g : Grammar) (rule : ℕ) (positions : List ℕ) (are : ArePositionsOf g rule positions) where
-  -- the rules that a rule's productions contain are those that the rule leads to in one reference
-  pub referred_by_rule : (old new : SearchState) → Reaches (FoundBy (ProductionRefersAt g) positions) old new → Reaches (Refers (HasProduction g) rule) old new
-  referred_by_rule old new w = reaches_as _ _ old new (λ r h. to r h) (λ r h. from r h) w
+  -- what the productions with these numbers find is what those of the rule find
+  pub found_by_rule : (Finds : List Sym → ℕ → Type 0) (old new : SearchState) → Reaches (FoundBy (λ p. Finds (nth_production g p).symbols) positions) old new
+      → Reaches (λ r. (a : List Sym) × HasProduction g rule a × Finds a r) old new
+  found_by_rule Finds old new w = reaches_as _ _ old new (λ r h. to r h) (λ r h. from r h) w
     where
-      to : (r : ℕ) → FoundBy (ProductionRefersAt g) positions r → Refers (HasProduction g) rule r
+      to : (r : ℕ) → FoundBy (λ p. Finds (nth_production g p).symbols) positions r → (a : List Sym) × HasProduction g rule a × Finds a r
       to r h = let lt = All-get_or (λ p. p < length g.productions) positions h.among.0 h.thing h.among.1 are.within in
-          let within = subst (λ p. p < length g.productions) h.among.2 lt in
+          let within = subst (λ p. p < length g.productions) h.among.2 lt in (
+            (nth_production g h.thing).symbols,
+            subst (λ n. HasProduction g n (nth_production g h.thing).symbols) ((are.listed h.thing within).0 h.among)
+                (Contains-get_or g.productions h.thing _ within),
+            h.finds,
+          )
+
+      from : (r : ℕ) → (a : List Sym) × HasProduction g rule a × Finds a r → FoundBy (λ p. Finds (nth_production g p).symbols) positions r
+      from r (a, has, finds) =
+          let at : nth_production g has.0 ≡ record { rule = rule; symbols = a } = get_or_default g.productions has.0 _ _ has.1 ∙ has.2 in
           record {
-            symbols = (nth_production g h.thing).symbols;
-            has = subst (λ n. HasProduction g n (nth_production g h.thing).symbols) ((are.listed h.thing within).0 h.among)
-                (Contains-get_or g.productions h.thing _ within);
-            holds = h.finds;
+            thing = has.0;
+            among = (are.listed has.0 has.1).1 (ap (λ p. p.rule) at);
+            finds = subst (λ (p : Production). Finds p.symbols r) (sym at) finds;
           }
 
-      from : (r : ℕ) → Refers (HasProduction g) rule r → FoundBy (ProductionRefersAt g) positions r
-      from r h =
-          let at : nth_production g h.has.0 ≡ record { rule = rule; symbols = h.symbols } = get_or_default g.productions h.has.0 _ _ h.has.1 ∙ h.has.2 in
-          record {
-            thing = h.has.0;
-            among = (are.listed h.has.0 h.has.1).1 (ap (λ p. p.rule) at);
-            finds = subst (λ (p : Production). Contains p.symbols (Rule r)) (sym at) h.holds;
-          }
+  -- the rules that a rule's productions contain are those that the rule leads to in one reference
+  pub referred_by_rule : (old new : SearchState) → Reaches (FoundBy (ProductionRefersAt g) positions) old new → Reaches (Refers (HasProduction g) rule) old new
+  referred_by_rule old new w = reaches_as _ _ old new
+      (λ r h. record { symbols = h.0; has = h.1; holds = h.2 })
+      (λ r h. (h.symbols, h.has, h.holds))
+      (found_by_rule (λ a r. Contains a (Rule r)) old new w)
 
 module _ (P : ℕ → List Sym → Type 0) (a : ℕ) (Seed : ℕ → Type 0) where
   pub path_to_reachable : ((b : ℕ) → Seed b → Refers P a b) → {b : ℕ} → Reachable Seed (Refers P) b → Path P a b

@@ -16,5 +16,5 @@ pub use bits::BitTable;
 pub use cfgtables::{CountedTables, Productions, Tables};
 pub use firsts::{YaccFirsts, firsts_over};
 pub use follows::{YaccFollows, follows_over};
-pub use paths::{has_path, reach_referred};
-pub use productive::productive_rules;
+pub use paths::{has_path, reach_referred, reach_symbols};
+pub use productive::{are_productive, productive_rules};

@@ -32,7 +32,7 @@ fn reach_symbol<S: Storage, M: Marks>(
 /// # Errors
 ///
 /// Out of memory.
-fn reach_symbols<S: Storage, M: Marks>(
+pub fn reach_symbols<S: Storage, M: Marks>(
     search: &mut Search<M>,
     symbols: &[Symbol<S>],
 ) -> Result<(), AllocError>

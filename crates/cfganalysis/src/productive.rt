@@ -4,12 +4,11 @@ ghost use Rattle.std.specs.Prelude.{◌≡◌, IfOk, MatchBool, length, map};
 ghost use Rattle.cfgtables.specs.NumberedSymbols.{sym_of};
 ghost use Rattle.cfganalysis.specs.Inner.Growth.{CanNote, CanAddProduction, AddsProduction, shown};
 ghost use Rattle.cfganalysis.specs.Inner.GrowingFirsts.{ProductionRefers};
-ghost use Rattle.cfganalysis.specs.Inner.GrowingProductive.{AreProductiveSymbols, AreSoundProductive};
-ghost use Rattle.cfganalysis.specs.Inner.GrowingProductive.{CoverProductiveOf, IsNoMoreProductive};
-ghost use Rattle.cfganalysis.specs.Inner.GrowingProductive.{is_productive_symbol, productive_bounded};
+ghost use Rattle.cfganalysis.specs.Inner.GrowingProductive.{AreSoundProductive, CoverProductiveOf};
+ghost use Rattle.cfganalysis.specs.Inner.GrowingProductive.{IsNoMoreProductive, productive_bounded};
 ghost use Rattle.cfganalysis.specs.Inner.Waiting.{Waits};
 ghost use Rattle.cfganalysis.specs.Inner.Work.{Notes};
-ghost use Rattle.cfganalysis.specs.ProductiveRules.{AreProductiveRules};
+ghost use Rattle.cfganalysis.specs.ProductiveRules.{AreProductiveRules, AreProductiveSymbols, is_productive_symbol};
 ghost use Rattle.cfganalysis.specs.Table.{bits_on};
 
 use crate::firsts::note_rules;
@@ -57,29 +56,27 @@ impl Model for GrowingProductive {
     ghost view = { λ x. x.bits };
 }
 
-impl GrowingProductive {
-    /// Whether the symbol is a token or a productive rule.
-    fn has_symbol<S: Storage>(&self, symbol: Symbol<S>) -> bool
-        ensures { result ≡ is_productive_symbol self.now (sym_of S.number symbol) }
-    {
-        match symbol {
-            Symbol::Rule(rule) => self.bits.get(usize::from(rule)).unwrap_or(false),
-            Symbol::Token(_) => true,
-        }
+/// Whether the symbol is a token or a productive rule.
+fn is_productive<S: Storage>(productive: &Vob, symbol: Symbol<S>) -> bool
+    ensures { result ≡ is_productive_symbol productive.now (sym_of S.number symbol) }
+{
+    match symbol {
+        Symbol::Rule(rule) => productive.get(usize::from(rule)).unwrap_or(false),
+        Symbol::Token(_) => true,
     }
+}
 
-    /// Whether all symbols are tokens or productive rules.
-    fn has_all<S: Storage>(&self, symbols: &[Symbol<S>]) -> bool
-        ensures { MatchBool result (AreProductiveSymbols self.now (map (sym_of S.number) symbols.now))
-            (AreProductiveSymbols self.now (map (sym_of S.number) symbols.now) → ⊥) }
-    {
-        for symbol in symbols {
-            if !self.has_symbol(*symbol) {
-                return false;
-            }
+/// Whether all symbols are tokens or productive rules. `productive` has a bit for each rule.
+pub fn are_productive<S: Storage>(productive: &Vob, symbols: &[Symbol<S>]) -> bool
+    ensures { MatchBool result (AreProductiveSymbols productive.now (map (sym_of S.number) symbols.now))
+        (AreProductiveSymbols productive.now (map (sym_of S.number) symbols.now) → ⊥) }
+{
+    for symbol in symbols {
+        if !is_productive(productive, *symbol) {
+            return false;
         }
-        true
     }
+    true
 }
 
 impl<S: Storage> Analysis<S> for GrowingProductive {
@@ -115,7 +112,7 @@ impl<S: Storage> Analysis<S> for GrowingProductive {
             (shown S.number rule symbols.now) self.old self.new (Waits grown.new) }
         ensures rules { length grown.new ≡ length grown.old }
     {
-        if !self.has_all(symbols) {
+        if !are_productive(&self.bits, symbols) {
             return;
         }
         if self.bits.set(usize::from(rule), true) {

@@ -2,7 +2,7 @@
 use Rattle.std.proofs.Common.{◌≡◌, ℕ, zero, suc, ◌<◌, ◌≤◌, ◌⊎◌, inl, inr, List, [], ◌∷◌, ◌++◌, Option, Some, None, Contains, get_or, length, slice_get, arith, refl, sym, ap, ◌∙◌, subst, length-append}
 use Rattle.std.proofs.lemmas.Bool.{cases_eq, cases_lt}
 use Rattle.std.proofs.lemmas.Option.{get_or_from_slice_get, slice_get-get_or, slice_get_within}
-use Rattle.lemmas.proofs.Contained.{contains_cases, contains_first, contains_later, contains_none}
+use Rattle.search.proofs.Members.{contains_or_not}
 use Rattle.cfgcycles.specs.declared.groups.CyclicGroup.{CyclicGroup}
 use Rattle.cfgcycles.specs.declared.step_paths.UnitStep.{UnitStep}
 use Rattle.cfgcycles.specs.CyclicGroups.{AreGroups, IsGroup, IsGroupOf, IsInGroup, IsInOneGroup, LeadsTo, OnCommonCycle}
@@ -24,16 +24,6 @@ module _ (Has : ℕ → UnitStep → Type 0) where
 
   common_through : (a b c : ℕ) → OnCommonCycle Has a b → OnCommonCycle Has b c → OnCommonCycle Has a c
   common_through a b c h k = record { there = on_through a b c h.there k.there; back = on_through c b a k.back h.back }
-
-contains_or_not : (xs : List ℕ) (x : ℕ) → Contains xs x ⊎ (Contains xs x → ⊥)
-contains_or_not [] x = inr (contains_none x)
-contains_or_not (y ∷ xs) x = elim (cases_eq y x) [
-  | inl same ↦ inl (subst (Contains (y ∷ xs)) same (contains_first y xs))
-  | inr other ↦ elim (contains_or_not xs x) [
-    | inl c ↦ inl (contains_later y x xs c)
-    | inr none ↦ inr (λ c. elim (contains_cases y x xs c) [ inl same ↦ other same | inr later ↦ none later ])
-  ]
-]
 
 module _ (steps : List (List UnitStep)) (groups : List (Option CyclicGroup)) (are : AreGroups (HasStep steps) (length steps) groups) (rule : ℕ) where
   first_within : (a b : ℕ) → LeadsTo (HasStep steps) a b → a < length steps

@@ -1,14 +1,18 @@
 //! The greatest cost of each rule's sentences.
 
-ghost use Rattle.std.specs.Prelude.{◌≡◌, ◌≤◌, All, IfOk, length, slice_index};
+ghost use Rattle.std.specs.Prelude.{◌≡◌, ℕ, ◌<◌, ◌≤◌, All, Contains, IfOk, length, slice_index, slice_index_or};
+ghost use Rattle.std.specs.Prelude.{Err};
 ghost use Rattle.cfggreatest.specs.GreatestCosts.{AreGreatestCosts};
 
-use crate::walk::Walk;
+use crate::rule_edges::RuleEdges;
+use crate::sums::Group;
 use cfganalysis::productive_rules;
 use cfgindex::Storage;
 use cfgtables::Tables;
 use derivation::CostError;
+use search::Components;
 use std::alloc::{AllocError, Global};
+use std::marker::PhantomData;
 
 /// For each rule the greatest cost of its sentences, where a sentence costs the sum of what its tokens cost. It is
 /// `None` if for every number some sentence costs more, and an error if the rule is unproductive, or if its greatest
@@ -31,10 +35,41 @@ pub fn greatest_costs<S: Storage, T: Tables<S>>(
 {
     let productive = productive_rules(alloc, grm)?;
     let rules_len = grm.rules_len().0.to_usize();
-    let mut walk = Walk::new(alloc, &productive, rules_len)?;
-    let mut results = Vec::new(alloc);
-    for rule in 0..rules_len {
-        results.push(walk.answer(grm, costs, rule)?)?;
+    let edges = RuleEdges {
+        tables: grm,
+        productive: &productive,
+        storage: PhantomData,
+    };
+    let groups = Components::of(alloc, &edges, rules_len)?;
+    let mut results = vec![in alloc; Err(CostError::NoSentence); rules_len]?;
+    for number in 0..groups.members.len() {
+        let rules = groups.members.of(number);
+        let group = Group {
+            productive: &productive,
+            costs,
+            numbers: &groups.numbers,
+            number,
+            results: &results,
+        };
+        let result = group.result(grm, rules);
+        set_results(&mut results, rules, result);
     }
     Ok(results)
+}
+
+/// Sets the results of these rules.
+fn set_results(
+    results: &mut Vec<Result<Option<u16>, CostError>>,
+    rules: &[usize],
+    value: Result<Option<u16>, CostError>,
+)
+    requires { (r : ℕ) → Contains rules.now r → r < length results.old.items }
+    ensures len { length results.new.items ≡ length results.old.items }
+    ensures set { (r : ℕ) → Contains rules.now r → slice_index_or results.new.items r (Err CostError.NoSentence) ≡ value }
+    ensures rest { (r : ℕ) → (Contains rules.now r → ⊥) → slice_index_or results.new.items r (Err CostError.NoSentence)
+        ≡ slice_index_or results.old.items r (Err CostError.NoSentence) }
+{
+    for rule in rules {
+        results[*rule] = value;
+    }
 }

@@ -3,7 +3,7 @@
 
 pub mod greatest;
 pub mod laws;
+mod rule_edges;
 mod sums;
-mod walk;
 
 pub use greatest::greatest_costs;

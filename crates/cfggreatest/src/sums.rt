@@ -2,44 +2,28 @@
 //! as any other. So its greatest cost is the greatest of these sums, unless a rule of the group is beside something
 //! that costs: then the costs grow.
 
-ghost use Rattle.std.specs.Prelude.{◌≡◌, ℕ, ◌+◌, ◌<◌, ◌≤◌, All, IfErr, MatchBool, MatchResult, OnOk, false, length};
-ghost use Rattle.std.specs.Prelude.{map, min};
-ghost use Rattle.std.specs.Prelude.{slice_index};
-ghost use Rattle.derivation.specs.Grammar.{HasProduction};
-ghost use Rattle.cfgtables.specs.NumberedSymbols.{sym_of};
+ghost use Rattle.std.specs.Prelude.{◌≡◌, ℕ, ◌+◌, ◌<◌, [], ◌∷◌, All, Contains, IfErr, MatchResult, OnOk, false, length};
+ghost use Rattle.std.specs.Prelude.{map, min, slice_index};
 ghost use Rattle.derivation.specs.CostLists.{IsListed};
-ghost use Rattle.cfggreatest.specs.Inner.Known.{IsProductiveSymbol, group_answer};
-ghost use Rattle.cfggreatest.specs.Inner.Known.{is_unproductive, known_of, read_answer};
-ghost use Rattle.cfggreatest.specs.Inner.Known.{read_known, read_symbol};
-ghost use Rattle.cfggreatest.specs.Inner.Sums.{AreNoLess, AreReached, AreUnder, IsGroup, IsStopped, IsSum, StopsAt};
-ghost use Rattle.cfggreatest.specs.Inner.Sums.{StopsSequence, TakesSequence};
+ghost use Rattle.derivation.specs.Grammar.{HasProduction, Rule};
+ghost use Rattle.cfgtables.specs.NumberedSymbols.{sym_of};
+ghost use Rattle.cfggreatest.specs.GreatestCosts.{Means};
+ghost use Rattle.cfggreatest.specs.Inner.AtLeast.{HasWord};
+ghost use Rattle.cfggreatest.specs.Inner.Known.{group_result, read_known, read_result, read_symbol};
+ghost use Rattle.cfggreatest.specs.Inner.Sums.{AreNoLess, AreReached, AreUnbounded, AreUnder, GrowsSequence, HaveWords};
+ghost use Rattle.cfggreatest.specs.Inner.Sums.{IsGroupOf, IsSum, StopsAt, TakesSequence, known_in};
 
-use cfgindex::{RIdx, Storage, Symbol, to_storage};
+use cfganalysis::are_productive;
+use cfgindex::{RIdx, Storage, Symbol, Vob, to_storage};
 use cfgtables::Tables;
 use derivation::CostError;
 
 /// The least cost that is too large.
 const TOO_LARGE: u32 = 65536;
 
-/// What is known of a rule.
-#[derive(Clone, Copy)]
-pub(crate) enum Known {
-    /// It was not entered.
-    New,
-    /// It is on the path, at this index.
-    Open(usize),
-    /// Its result.
-    Settled(Result<Option<u16>, CostError>),
-}
-
-/// Why the sum of a group was stopped.
+/// The costs of a group are unbounded.
 #[derive(Drop)]
-pub(crate) enum Stop {
-    /// The group leads to this rule, which has no result, and isn't in the group.
-    Leads(usize),
-    /// The costs of the group are unbounded.
-    Grows,
-}
+struct Grows;
 
 /// What a list of symbols costs.
 #[derive(Drop)]
@@ -52,7 +36,7 @@ struct SequenceSum {
 
 /// What the productions of a group cost.
 #[derive(Drop)]
-pub(crate) struct Sums {
+struct Sums {
     /// The greatest sum outside the group, cut down.
     top: u32,
     /// Whether a production contains two rules of the group.
@@ -71,8 +55,8 @@ impl Sums {
     }
 
     /// The result for each rule of the group.
-    pub(crate) fn answer(&self) -> Result<Option<u16>, CostError>
-        ensures { result ≡ group_answer self.now.top self.now.twice }
+    fn result(&self) -> Result<Option<u16>, CostError>
+        ensures { result ≡ group_result self.now.top self.now.twice }
     {
         if self.twice && self.top > 0 {
             return Ok(None);
@@ -84,76 +68,14 @@ impl Sums {
     }
 }
 
-/// Whether the rule's result is that it is unproductive.
-fn is_unproductive(known: Known) -> bool
-    ensures { result ≡ is_unproductive known }
-{
-    matches!(known, Known::Settled(Err(CostError::NoSentence)))
-}
-
-/// Whether a symbol is a token or a rule that may be productive.
-fn is_productive<S: Storage>(known: &[Known], symbol: Symbol<S>) -> bool
-    requires { (tokens : ℕ) × IsListed (length known.now) tokens (sym_of S.number symbol) }
-    ensures { MatchBool result (IsProductiveSymbol known.now (sym_of S.number symbol))
-        (IsProductiveSymbol known.now (sym_of S.number symbol) → ⊥) }
-{
-    match symbol {
-        Symbol::Rule(rule) => !is_unproductive(known[usize::from(rule)]),
-        Symbol::Token(_) => true,
-    }
-}
-
-/// Whether each rule among the symbols may be productive.
-pub(crate) fn are_productive<S: Storage>(known: &[Known], symbols: &[Symbol<S>]) -> bool
-    requires { (tokens : ℕ) × All (IsListed (length known.now) tokens) (map (sym_of S.number) symbols.now) }
-    ensures { MatchBool result (All (IsProductiveSymbol known.now) (map (sym_of S.number) symbols.now))
-        (All (IsProductiveSymbol known.now) (map (sym_of S.number) symbols.now) → ⊥) }
-{
-    for symbol in symbols {
-        if !is_productive(known, *symbol) {
-            return false;
-        }
-    }
-    true
-}
-
 /// What a rule with this result adds to a sum, cut down.
-fn settled_cost(answer: Result<Option<u16>, CostError>) -> Result<Option<u32>, Stop>
-    ensures { result ≡ read_answer answer }
+fn result_cost(known: Result<Option<u16>, CostError>) -> Result<Option<u32>, Grows>
+    ensures { result ≡ read_result known }
 {
-    match answer {
-        Ok(None) => Err(Stop::Grows),
+    match known {
+        Ok(None) => Err(Grows),
         Ok(Some(cost)) => Ok(Some(u32::from(cost))),
         Err(_) => Ok(Some(TOO_LARGE)),
-    }
-}
-
-/// What a rule adds to a sum, unless it is in the group that begins at this index.
-fn rule_cost(known: &[Known], start: usize, rule: usize) -> Result<Option<u32>, Stop>
-    requires { rule < length known.now }
-    ensures { result ≡ read_known start rule (known_of known.now rule) }
-{
-    match known[rule] {
-        Known::New => Err(Stop::Leads(rule)),
-        Known::Open(index) if index < start => Err(Stop::Leads(rule)),
-        Known::Open(_) => Ok(None),
-        Known::Settled(answer) => settled_cost(answer),
-    }
-}
-
-/// What a symbol adds to a sum, unless it is a rule of the group that begins at this index.
-fn symbol_cost<S: Storage>(
-    known: &[Known],
-    costs: &[u8],
-    start: usize,
-    symbol: Symbol<S>,
-) -> Result<Option<u32>, Stop>
-    requires { IsListed (length known.now) (length costs.now) (sym_of S.number symbol) }
-    ensures { result ≡ read_symbol (slice_index costs.now) known.now start (sym_of S.number symbol) }
-{
-    match symbol {
-        Symbol::Rule(rule) => rule_cost(known, start, usize::from(rule)),
-        Symbol::Token(token) => Ok(Some(u32::from(costs[usize::from(token)]))),
     }
 }
 
@@ -164,108 +86,160 @@ fn cut_sum(first: u32, second: u32) -> u32
     TOO_LARGE.min(first.saturating_add(second))
 }
 
-/// What the symbols cost in total, without the rules of the group that begins at this index.
-fn sequence_sum<S: Storage>(
-    known: &[Known],
-    costs: &[u8],
-    start: usize,
-    symbols: &[Symbol<S>],
-) -> Result<SequenceSum, Stop>
-    requires { All (IsListed (length known.now) (length costs.now)) (map (sym_of S.number) symbols.now) }
-    ensures { MatchResult result
-        (λ sum. IsSum (slice_index costs.now) known.now start (map (sym_of S.number) symbols.now) sum.outer sum.inner)
-        (StopsAt (slice_index costs.now) known.now start (map (sym_of S.number) symbols.now)) }
-{
-    let mut outer: u32 = 0;
-    let mut inner: usize = 0;
-    for symbol in symbols {
-        match symbol_cost(known, costs, start, *symbol)? {
-            Some(cost) => outer = cut_sum(outer, cost),
-            None => inner += 1,
+/// A group of rules, and what their sums depend on.
+#[derive(Drop)]
+pub(crate) struct Group<'a> {
+    /// Which rules are productive, as a bit for each.
+    pub(crate) productive: &'a Vob,
+    /// What tokens cost.
+    pub(crate) costs: &'a [u8],
+    /// For each rule the number of its group. Rules lead only to rules of the same group, and of those with lower numbers.
+    pub(crate) numbers: &'a [usize],
+    /// The number of this group.
+    pub(crate) number: usize,
+    /// The results of the rules in groups with lower numbers.
+    pub(crate) results: &'a [Result<Option<u16>, CostError>],
+}
+
+impl<'a> Group<'a> {
+    /// What a rule adds to a sum, unless it is in the group.
+    fn rule_cost(&self, rule: usize) -> Result<Option<u32>, Grows>
+        requires numbers { rule < length self.now.numbers.now }
+        requires results { rule < length self.now.results.now }
+        ensures { result ≡ read_known (known_in self.now rule) }
+    {
+        if self.numbers[rule] < self.number {
+            result_cost(self.results[rule])
+        } else {
+            Ok(None)
         }
     }
-    Ok(SequenceSum { outer, inner })
-}
 
-/// Adds the sum of a production, if it has words.
-fn take_sequence<S: Storage>(
-    known: &[Known],
-    costs: &[u8],
-    start: usize,
-    symbols: &[Symbol<S>],
-    sums: &mut Sums,
-) -> Result<(), Stop>
-    requires { All (IsListed (length known.now) (length costs.now)) (map (sym_of S.number) symbols.now) }
-    ensures { MatchResult result
-        (λ _. TakesSequence (slice_index costs.now) known.now start (map (sym_of S.number) symbols.now)
-        sums.old sums.new)
-        (StopsSequence (slice_index costs.now) known.now start (map (sym_of S.number) symbols.now)) }
-{
-    if !are_productive(known, symbols) {
-        return Ok(());
+    /// What a symbol adds to a sum, unless it is a rule of the group.
+    fn symbol_cost<S: Storage>(&self, symbol: Symbol<S>) -> Result<Option<u32>, Grows>
+        requires results { length self.now.results.now ≡ length self.now.numbers.now }
+        requires symbol { IsListed (length self.now.numbers.now) (length self.now.costs.now) (sym_of S.number symbol) }
+        ensures { result ≡ read_symbol (slice_index self.now.costs.now) (known_in self.now) (sym_of S.number symbol) }
+    {
+        match symbol {
+            Symbol::Rule(rule) => self.rule_cost(usize::from(rule)),
+            Symbol::Token(token) => Ok(Some(u32::from(self.costs[usize::from(token)]))),
+        }
     }
-    let sequence = sequence_sum(known, costs, start, symbols)?;
-    if sequence.inner > 0 && sequence.outer > 0 {
-        return Err(Stop::Grows);
-    }
-    sums.top = sums.top.max(sequence.outer);
-    sums.twice = sums.twice || sequence.inner > 1;
-    Ok(())
-}
 
-/// Adds the sums of the productions of the rule at this index of the path.
-fn take_rule<S: Storage, T: Tables<S>>(
-    grm: &T,
-    known: &[Known],
-    costs: &[u8],
-    path: &[usize],
-    start: usize,
-    index: usize,
-    sums: &mut Sums,
-) -> Result<(), Stop>
-    requires known { length known.now ≡ (T.grammar grm.now).rules }
-    requires costs { length costs.now ≡ (T.grammar grm.now).tokens }
-    requires group { IsGroup (T.grammar grm.now) (slice_index costs.now) known.now path.now start }
-    requires after { start ≤ index }
-    requires within { index < length path.now }
-    requires reached { AreReached (HasProduction (T.grammar grm.now)) (slice_index costs.now) path.now start sums.old }
-    ensures reached { OnOk result
-        (AreReached (HasProduction (T.grammar grm.now)) (slice_index costs.now) path.now start sums.new) }
-    ensures under { OnOk result (AreUnder (HasProduction (T.grammar grm.now)) (slice_index costs.now) path.now start
-        known.now (slice_index path.now index) sums.new) }
-    ensures more { OnOk result (AreNoLess sums.old sums.new) }
-    ensures stopped { IfErr result (IsStopped (HasProduction (T.grammar grm.now)) (slice_index costs.now) path.now start
-        (T.grammar grm.now).rules known.now) }
-{
-    grm.invariant_holds();
-    let positions = grm.rule_to_prods(RIdx(to_storage(path[index])));
-    for p in positions {
-        take_sequence(known, costs, start, grm.prod(*p), sums)?;
+    /// What the symbols cost in total, without the rules of the group.
+    fn sequence_sum<S: Storage>(&self, symbols: &[Symbol<S>]) -> Result<SequenceSum, Grows>
+        requires results { length self.now.results.now ≡ length self.now.numbers.now }
+        requires symbols { All (IsListed (length self.now.numbers.now) (length self.now.costs.now))
+            (map (sym_of S.number) symbols.now) }
+        ensures { MatchResult result
+            (λ sum. IsSum (slice_index self.now.costs.now) (known_in self.now) (map (sym_of S.number) symbols.now)
+            sum.outer sum.inner)
+            (λ _. StopsAt (slice_index self.now.costs.now) (known_in self.now) (map (sym_of S.number) symbols.now)) }
+    {
+        let mut outer: u32 = 0;
+        let mut inner: usize = 0;
+        for symbol in symbols {
+            match self.symbol_cost(*symbol)? {
+                Some(cost) => outer = cut_sum(outer, cost),
+                None => inner += 1,
+            }
+        }
+        Ok(SequenceSum { outer, inner })
     }
-    Ok(())
-}
 
-/// The sums of the productions of the group that begins at this index of the path.
-pub(crate) fn group_sums<S: Storage, T: Tables<S>>(
-    grm: &T,
-    known: &[Known],
-    costs: &[u8],
-    path: &[usize],
-    start: usize,
-) -> Result<Sums, Stop>
-    requires known { length known.now ≡ (T.grammar grm.now).rules }
-    requires costs { length costs.now ≡ (T.grammar grm.now).tokens }
-    requires group { IsGroup (T.grammar grm.now) (slice_index costs.now) known.now path.now start }
-    ensures { MatchResult result
-        (λ sums. AreReached (HasProduction (T.grammar grm.now)) (slice_index costs.now) path.now start sums
-        × ((i : ℕ) → start ≤ i → i < length path.now → AreUnder (HasProduction (T.grammar grm.now))
-        (slice_index costs.now) path.now start known.now (slice_index path.now i) sums))
-        (IsStopped (HasProduction (T.grammar grm.now)) (slice_index costs.now) path.now start
-        (T.grammar grm.now).rules known.now) }
-{
-    let mut sums = Sums::new();
-    for index in start..path.len() {
-        take_rule(grm, known, costs, path, start, index, &mut sums)?;
+    /// Adds the sum of a production, if it has words.
+    fn take_sequence<S: Storage>(&self, symbols: &[Symbol<S>], sums: &mut Sums) -> Result<(), Grows>
+        requires results { length self.now.results.now ≡ length self.now.numbers.now }
+        requires symbols { All (IsListed (length self.now.numbers.now) (length self.now.costs.now))
+            (map (sym_of S.number) symbols.now) }
+        ensures { MatchResult result
+            (λ _. TakesSequence (slice_index self.now.costs.now) (known_in self.now) self.now.productive.now
+            (map (sym_of S.number) symbols.now) sums.old sums.new)
+            (λ _. GrowsSequence (slice_index self.now.costs.now) (known_in self.now) self.now.productive.now
+            (map (sym_of S.number) symbols.now)) }
+    {
+        if !are_productive(self.productive, symbols) {
+            return Ok(());
+        }
+        let sequence = self.sequence_sum(symbols)?;
+        if sequence.inner > 0 && sequence.outer > 0 {
+            return Err(Grows);
+        }
+        sums.top = sums.top.max(sequence.outer);
+        sums.twice = sums.twice || sequence.inner > 1;
+        Ok(())
     }
-    Ok(sums)
+
+    /// Adds the sums of the productions of this rule, which is one of the group's.
+    fn take_rule<S: Storage, T: Tables<S>>(
+        &self,
+        grm: &T,
+        rules: &[usize],
+        rule: usize,
+        sums: &mut Sums,
+    ) -> Result<(), Grows>
+        requires group { IsGroupOf (T.grammar grm.now) self.now rules.now }
+        requires words { HaveWords (HasProduction (T.grammar grm.now)) rules.now }
+        requires among { Contains rules.now rule }
+        requires within { rule < (T.grammar grm.now).rules }
+        requires reached { AreReached (HasProduction (T.grammar grm.now)) (slice_index self.now.costs.now) rules.now
+            sums.old }
+        ensures reached { OnOk result (AreReached (HasProduction (T.grammar grm.now)) (slice_index self.now.costs.now)
+            rules.now sums.new) }
+        ensures under { OnOk result (AreUnder (HasProduction (T.grammar grm.now)) (slice_index self.now.costs.now)
+            (known_in self.now) self.now.productive.now rule sums.new) }
+        ensures more { OnOk result (AreNoLess sums.old sums.new) }
+        ensures grows { IfErr result (λ _. AreUnbounded (HasProduction (T.grammar grm.now))
+            (slice_index self.now.costs.now) rules.now) }
+    {
+        grm.invariant_holds();
+        for p in grm.rule_to_prods(RIdx(to_storage(rule))) {
+            self.take_sequence(grm.prod(*p), sums)?;
+        }
+        Ok(())
+    }
+
+    /// The sums of the productions of these rules, which are the group's.
+    fn sums<S: Storage, T: Tables<S>>(&self, grm: &T, rules: &[usize]) -> Result<Sums, Grows>
+        requires group { IsGroupOf (T.grammar grm.now) self.now rules.now }
+        requires words { HaveWords (HasProduction (T.grammar grm.now)) rules.now }
+        requires within { (r : ℕ) → Contains rules.now r → r < (T.grammar grm.now).rules }
+        ensures { MatchResult result
+            (λ sums. AreReached (HasProduction (T.grammar grm.now)) (slice_index self.now.costs.now) rules.now sums
+            × ((r : ℕ) → Contains rules.now r → AreUnder (HasProduction (T.grammar grm.now))
+            (slice_index self.now.costs.now) (known_in self.now) self.now.productive.now r sums))
+            (λ _. AreUnbounded (HasProduction (T.grammar grm.now)) (slice_index self.now.costs.now) rules.now) }
+    {
+        let mut sums = Sums::new();
+        for rule in rules {
+            self.take_rule(grm, rules, *rule, &mut sums)?;
+        }
+        Ok(sums)
+    }
+
+    /// The result for each of these rules, which are the group's.
+    pub(crate) fn result<S: Storage, T: Tables<S>>(
+        &self,
+        grm: &T,
+        rules: &[usize],
+    ) -> Result<Option<u16>, CostError>
+        requires group { IsGroupOf (T.grammar grm.now) self.now rules.now }
+        requires some { 0 < length rules.now }
+        requires within { (r : ℕ) → Contains rules.now r → r < (T.grammar grm.now).rules }
+        requires alike { (r x : ℕ) → Contains rules.now r → Contains rules.now x
+            → HasWord (HasProduction (T.grammar grm.now)) (Rule r ∷ [])
+            → HasWord (HasProduction (T.grammar grm.now)) (Rule x ∷ []) }
+        ensures { (r : ℕ) → Contains rules.now r
+            → Means (HasProduction (T.grammar grm.now)) (slice_index self.now.costs.now) r result }
+    {
+        let first = rules[0];
+        if !self.productive.get(first).unwrap_or(false) {
+            return Err(CostError::NoSentence);
+        }
+        match self.sums(grm, rules) {
+            Ok(sums) => sums.result(),
+            Err(Grows) => Ok(None),
+        }
+    }
 }

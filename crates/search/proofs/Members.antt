@@ -1,10 +1,22 @@
 -- Members of components, added node by node.
-use Rattle.std.proofs.Common.{◌≡◌, ℕ, ◌+◌, ◌<◌, inl, inr, List, [], ◌∷◌, ◌++◌, Contains, get_or, length, slice_index, slice_set, arith, sym, ap, ◌∙◌, subst, get_or-set_same, get_or-set_other}
+use Rattle.std.proofs.Common.{◌≡◌, ℕ, ◌+◌, ◌<◌, ◌⊎◌, inl, inr, List, [], ◌∷◌, ◌++◌, Contains, get_or, length, slice_index, slice_set, arith, sym, ap, ◌∙◌, subst, get_or-set_same, get_or-set_other}
 use Rattle.std.specs.List.Sorted.{IsStrictlyIncreasing}
 use Rattle.std.proofs.lemmas.Bool.{cases_eq, cases_lt}
 use Rattle.std.proofs.lemmas.List.{get_or_append_left, get_or_push, length_push}
 use Rattle.std.proofs.lemmas.List.Elements.{Contains-append_left, Contains-get_or, Contains-push, Contains-push_cases}
+use Rattle.lemmas.proofs.Contained.{contains_cases, contains_first, contains_later, contains_none}
 use Rattle.search.specs.Components.{AreMembers}
+
+-- whether a list contains a number
+pub contains_or_not : (xs : List ℕ) (x : ℕ) → Contains xs x ⊎ (Contains xs x → ⊥)
+contains_or_not [] x = inr (contains_none x)
+contains_or_not (y ∷ xs) x = elim (cases_eq y x) [
+  | inl same ↦ inl (subst (Contains (y ∷ xs)) same (contains_first y xs))
+  | inr other ↦ elim (contains_or_not xs x) [
+    | inl c ↦ inl (contains_later y x xs c)
+    | inr none ↦ inr (λ c. elim (contains_cases y x xs c) [ inl same ↦ other same | inr later ↦ none later ])
+  ]
+]
 
 ascending_push : (xs : List ℕ) (x : ℕ) → IsStrictlyIncreasing xs → ((y : ℕ) → Contains xs y → y < x) → IsStrictlyIncreasing (xs ++ x ∷ [])
 ascending_push xs x ascending below k lt = elim (cases_lt (k + 1) (length xs)) [

@@ -1,21 +1,11 @@
 -- Productive rules while they are computed: a bit for each rule. A production makes its rule productive if the rules in it all are.
-use Rattle.std.proofs.Common.{◌≡◌, ℕ, ◌+◌, ◌*◌, ◌≤◌, Bool, true, false, List, All, IsTrue, arith, length, slice_index_or}
+use Rattle.std.proofs.Common.{◌≡◌, ℕ, ◌+◌, ◌*◌, ◌≤◌, Bool, List, IsTrue, arith, length}
 use Rattle.std.proofs.Math.Nat.{mul-add, mul-one}
 use Rattle.std.proofs.lemmas.List.Sums.{count_by-le-length}
-use Rattle.derivation.specs.Grammar.{Sym, Rule, Token, Grammar, Production, HasProduction}
+use Rattle.derivation.specs.Grammar.{Grammar, Production, HasProduction}
 use Rattle.derivation.specs.Productive.{Productive}
+use Rattle.cfganalysis.specs.ProductiveRules.{AreProductiveSymbols, is_productive}
 use Rattle.cfganalysis.specs.Table.{bits_on}
-
-abbrev pub is_productive : List Bool → ℕ → Bool
-is_productive bits r = slice_index_or bits r false
-
--- whether the symbol is a token, or a rule whose bit is on
-abbrev pub is_productive_symbol : List Bool → Sym → Bool
-is_productive_symbol bits (Rule r) = is_productive bits r
-is_productive_symbol bits (Token t) = true
-
-abbrev pub AreProductiveSymbols : List Bool → List Sym → Type 0
-AreProductiveSymbols bits a = All (λ s. IsTrue (is_productive_symbol bits s)) a
 
 -- the list has a bit for each rule, and rules whose bits are on are productive
 pub record AreSoundProductive (g : Grammar) (bits : List Bool) : Type 0 where
