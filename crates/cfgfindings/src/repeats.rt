@@ -1,20 +1,23 @@
 //! Productions with the symbols of an earlier one of their rule.
 
-ghost use Rattle.std.specs.Prelude.{◌≡◌, ◌++◌, ◌<◌, Some, length, map, IfOk, MatchOption, OnOk, unwrap_or};
-ghost use Rattle.std.specs.BTreeMap.{IsUnchanged, Updates, get};
+ghost use Rattle.std.specs.Prelude.{◌≡◌, ◌++◌, ◌<◌, Some, cond, length, IfOk, OnOk, unwrap_or};
+ghost use Rattle.std.specs.HashMap.{get};
 ghost use Rattle.cfgrammar.specs.Numbered.{core};
 ghost use Rattle.cfgrammar.specs.Openings.{nth_production};
+ghost use Rattle.cfgfindings.specs.contracts.repeats.ShapePartialEq.TheImpl.{ghosts as shapes};
+ghost use Rattle.cfgfindings.specs.declared.repeats.Shape.{Shape};
 ghost use Rattle.cfgfindings.specs.Findings.{ReportsBelow, ReportsRepeated};
-ghost use Rattle.cfgfindings.specs.Inner.FirstProductions.{AreFirsts, ordered_symbol, production_of};
+ghost use Rattle.cfgfindings.specs.Inner.FirstProductions.{AreFirsts, production_of};
 ghost use Rattle.cfgfindings.specs.Shown.{repeated};
 
 use crate::finding::{Finding, FindingKind};
 use crate::reporter::{Reporter, push_reported};
+use cfgrammar::laws::symbols_are_their_indices;
 use cfgrammar::storage::to_storage;
 use cfgrammar::yacc::YaccGrammar;
 use cfgrammar::{PIdx, Symbol};
 use std::alloc::{AllocError, Global};
-use std::collections::BTreeMap;
+use std::collections::HashMap;
 
 /// Adds the productions with the symbols of an earlier one of their rule to the findings.
 ///
@@ -90,73 +93,50 @@ fn repeated(
     )
 }
 
-/// A symbol, in a form that has an order.
-#[derive(PartialEq, Eq, PartialOrd, Ord, Drop)]
-enum OrderedSymbol {
-    Rule(u32),
-    Token(u32),
+/// The rule and the symbols of a production.
+#[derive(PartialEq, Eq, Hash, Drop)]
+struct Shape<'a> {
+    rule: u32,
+    symbols: &'a [Symbol<u32>],
 }
-
-/// The rule and the symbols of a production, in a form that has an order.
-type Shape = (u32, Vec<OrderedSymbol>);
 
 /// For each production of the file, the first one of its rule with its symbols.
 fn firsts_of(alloc: Global, grammar: &YaccGrammar<u32>) -> Result<Vec<usize>, AllocError>
     ensures { IfOk result (λ x. AreFirsts (core grammar.now) grammar.now.start_production x.items) }
 {
-    let mut firsts = Vec::new(alloc);
-    let mut known = BTreeMap::new(alloc);
-    for number in 0..usize::from(grammar.start_prod()) {
-        let shape = shape_of(alloc, grammar, number)?;
+    symbols_are_their_indices::<u32>();
+    let count = usize::from(grammar.start_prod());
+    let mut firsts = Vec::with_capacity(alloc, count)?;
+    let mut known = HashMap::with_capacity(alloc, count)?;
+    for number in 0..count {
+        let shape = shape_of(grammar, number);
         firsts.push(first_known(&mut known, shape, number)?)?;
     }
     Ok(firsts)
 }
 
 /// The number recorded for the shape; if there is none, records this one.
-fn first_known(
-    known: &mut BTreeMap<Shape, usize>,
-    shape: Shape,
+fn first_known<'a>(
+    known: &mut HashMap<Shape<'a>, usize>,
+    shape: Shape<'a>,
     number: usize,
 ) -> Result<usize, AllocError>
-    ensures first { IfOk result (λ first. first ≡ unwrap_or (get ⟦<Shape as Ord>⟧.cmp known.old shape) number) }
-    ensures known { OnOk result (MatchOption (get ⟦<Shape as Ord>⟧.cmp known.old shape)
-        (Updates ⟦<Shape as Ord>⟧.cmp known.old known.new shape (Some number)) (λ _. IsUnchanged known.old known.new)) }
+    ensures first { IfOk result (λ first. first ≡ unwrap_or (get shapes.eq known.old shape.entry) number) }
+    ensures known { IfOk result (λ first. (other : Shape) → get shapes.eq known.new other
+        ≡ cond (shapes.eq shape.entry other) (Some first) (get shapes.eq known.old other)) }
 {
-    if let Some(first) = known.get(&shape) {
-        return Ok(*first);
-    }
-    known.insert(shape, number)?;
-    Ok(number)
+    Ok(*known.entry(shape)?.or_insert(number))
 }
 
 /// The shape of a production.
-fn shape_of(alloc: Global, grammar: &YaccGrammar<u32>, number: usize) -> Result<Shape, AllocError>
+fn shape_of(grammar: &YaccGrammar<u32>, number: usize) -> Shape<'_>
     requires { number < length grammar.now.productions }
-    ensures { IfOk result (λ shape. production_of shape ≡ nth_production (core grammar.now) number) }
+    ensures { production_of result ≡ nth_production (core grammar.now) number }
 {
     grammar.invariant_holds();
-    let pidx = PIdx(to_storage(number));
-    let symbols = all_ordered(alloc, grammar.prod(pidx))?;
-    Ok((u32::from(grammar.prod_to_rule(pidx)), symbols))
-}
-
-/// The symbols, in a form that has an order.
-fn all_ordered(alloc: Global, symbols: &[Symbol<u32>]) -> Result<Vec<OrderedSymbol>, AllocError>
-    ensures { IfOk result (λ x. x.items ≡ map ordered_symbol symbols.now) }
-{
-    symbols
-        .iter()
-        .map(|symbol| ordered_symbol(*symbol))
-        .collect(alloc)
-}
-
-/// The symbol, in a form that has an order.
-fn ordered_symbol(symbol: Symbol<u32>) -> OrderedSymbol
-    ensures { result ≡ ordered_symbol symbol }
-{
-    match symbol {
-        Symbol::Rule(ridx) => OrderedSymbol::Rule(u32::from(ridx)),
-        Symbol::Token(tidx) => OrderedSymbol::Token(u32::from(tidx)),
+    let production = PIdx(to_storage(number));
+    Shape {
+        rule: u32::from(grammar.prod_to_rule(production)),
+        symbols: grammar.prod(production),
     }
 }
