@@ -1,4 +1,5 @@
 pub mod Stacking
+pub mod Linking
 pub mod Noting
 pub mod Visiting
 pub mod FirstVisits

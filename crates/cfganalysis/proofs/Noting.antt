@@ -1,36 +1,13 @@
--- The productions that depend on rules: a further one is noted for the rules among its symbols, and those that depend on a rule are queued.
-use Rattle.std.proofs.Common.{◌≡◌, ◌↔◌, ℕ, ◌+◌, ◌<◌, ◌≤◌, ◌⊎◌, inl, inr, Bool, true, false, List, [], ◌∷◌, ◌++◌, Contains, map, take, get_or, length, slice_set, refl, sym, ap, ◌∙◌, subst, true≢false, length-set, get_or-set_other, Result, Ok, Err, IfOk, OnOk, arith}
+-- The productions that depend on rules: one is noted for the rules among its symbols, and those that depend on rules whose sets grew are queued.
+use Rattle.std.proofs.Common.{◌≡◌, ℕ, ◌+◌, ◌<◌, ◌≤◌, ◌⊎◌, inl, inr, Bool, false, List, Contains, take, get_or, length, refl, sym, ap, ◌∙◌, subst, true≢false, length-set, get_or-set_other, Result, Ok, Err, IfOk, arith}
 use Rattle.std.proofs.lemmas.Bool.{cases_eq}
 use Rattle.std.proofs.lemmas.List.{take_all}
-use Rattle.std.proofs.lemmas.List.Elements.{Contains-append_left, Contains-push, Contains-push_cases}
-use Rattle.lemmas.proofs.Adding.{adds_as, adds_then, set_adds}
-use Rattle.lemmas.proofs.Contained.{contains_none}
+use Rattle.lemmas.proofs.Adding.{adds_as, adds_then}
 use Rattle.lemmas.proofs.Elements.{get_or-set}
 use Rattle.lemmas.proofs.Taken.{contains_taken}
-use Rattle.search.proofs.Bits.{bit_put}
 use Rattle.derivation.specs.Grammar.{Sym, Rule, Token}
 use Rattle.cfganalysis.specs.Inner.Waiting.{Waits, NoneWaits, WaitsNoMore}
 use Rattle.cfganalysis.specs.Inner.Work.{dependents_of, Notes, DependsOnGrown, Queues}
-
--- a production was noted with one rule
-pub notes_one : (dependents : List (List ℕ)) (rule p : ℕ) → rule < length dependents
-    → Notes p (λ r. r ≡ rule) dependents (slice_set dependents rule (dependents_of dependents rule ++ p ∷ []))
-notes_one dependents rule p lt = record {
-  shape = length-set dependents rule _;
-  dependents = λ r. adds_as (λ q. (q ≡ p) × (r ≡ rule)) (λ q h. inr (h.1, h.0)) (λ q h. inr (h.1, h.0)) (set_adds Contains (λ q. q ≡ p) dependents rule (dependents_of dependents rule ++ p ∷ []) [] lt (λ q. (
-    (λ h. elim (Contains-push_cases (dependents_of dependents rule) p q h) [ inl i ↦ inl i | inr e ↦ inr (sym e) ]),
-    (λ h. elim h [
-      | inl i ↦ Contains-append_left (dependents_of dependents rule) (p ∷ []) q i
-      | inr e ↦ subst (Contains (dependents_of dependents rule ++ p ∷ [])) (sym e) (Contains-push (dependents_of dependents rule) p)
-    ]),
-  )) r);
-}
-
--- the same for a push
-pub notes_pushed : {A E : Type 0} (result : Result A E) (dependents new : List (List ℕ)) (rule p : ℕ) → rule < length dependents
-    → OnOk result (new ≡ slice_set dependents rule (dependents_of dependents rule ++ p ∷ [])) → IfOk result (λ _. Notes p (λ r. r ≡ rule) dependents new)
-notes_pushed (Ok x) dependents new rule p lt e = subst (Notes p (λ r. r ≡ rule) dependents) (sym e) (notes_one dependents rule p lt)
-notes_pushed (Err x) dependents new rule p lt e = tt
 
 pub notes_none : (p : ℕ) (depends_on : ℕ → Type 0) (x : List (List ℕ)) → ((r : ℕ) → depends_on r → ⊥) → Notes p depends_on x x
 notes_none p depends_on x never = record {
@@ -54,35 +31,6 @@ notes_then p depends_on depends_on' old mid new w v = record {
       (λ q h. elim h.1 [ inl i ↦ inr (inl (h.0, i)) | inr i ↦ inr (inr (h.0, i)) ])
       (adds_then (w.dependents r) (v.dependents r));
 }
-
--- the first n productions of a list were queued
-pub record QueuesLookahead (list : List ℕ) (n : ℕ) (old new : List Bool) : Type 0 where
-  pub shape : length new ≡ length old
-  pub waits : (q : ℕ) → (Waits new q ↔ (Waits old q ⊎ Contains (take n list) q))
-
-module _ (list : List ℕ) where
-  pub lets_wait_none : (x : List Bool) → QueuesLookahead list 0 x x
-  lets_wait_none x = record { shape = refl; waits = λ q. ((λ h. inl h), (λ h. elim h [ inl i ↦ i | inr i ↦ absurd (contains_none q i) ])) }
-
-  pub lets_wait_one : (n p : ℕ) (old mid new : List Bool) → n < length list → p ≡ get_or list n p → p < length mid → QueuesLookahead list n old mid
-      → new ≡ slice_set mid p true → QueuesLookahead list (n + 1) old new
-  lets_wait_one n p old mid new lt is within w put = subst (λ l. QueuesLookahead list (n + 1) old l) (sym put) (record {
-    shape = length-set mid p true ∙ w.shape;
-    waits = adds_as (Contains (take (n + 1) list)) (λ q h. inr ((taken q).1 h)) (λ q h. inr ((taken q).0 h)) (adds_then w.waits (bit_put mid p within));
-  })
-    where
-      taken : (q : ℕ) → Contains (take (n + 1) list) q ↔ (Contains (take n list) q ⊎ (q ≡ p))
-      taken = contains_taken list n p lt is
-
-  pub lets_wait_all : (dependents : List (List ℕ)) (rule n : ℕ) (old new : List Bool) → length list ≤ n → list ≡ dependents_of dependents rule → QueuesLookahead list n old new
-      → Queues dependents (λ r. r ≡ rule) old new
-  lets_wait_all dependents rule n old new le is w = record {
-    shape = w.shape;
-    waits = adds_as (DependsOnGrown dependents (λ r. r ≡ rule))
-        (λ q h. inr (record { rule = rule; gains = refl; noted = subst (λ l. Contains l q) (take_all n list le ∙ is) h }))
-        (λ q h. inr (subst (λ l. Contains l q) (sym (take_all n list le ∙ is)) (subst (λ r. Contains (dependents_of dependents r) q) h.gains h.noted)))
-        w.waits;
-  }
 
 -- between two rules whose sets grew: the productions that depend on the rules done so far wait
 pub record LettingWait (dependents : List (List ℕ)) (grown left : List Bool) (old new : List Bool) : Type 0 where

@@ -36,7 +36,7 @@ impl BitTable {
         ensures { IfOk result (λ x. x ≡ table.now) }
     {
         let columns = table.columns();
-        let mut rows = Vec::new(alloc);
+        let mut rows = Vec::with_capacity(alloc, table.rows())?;
         for row in 0..table.rows() {
             rows.push(Vob::from_words(alloc, table.row(row), columns)?)?;
         }

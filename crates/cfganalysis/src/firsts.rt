@@ -17,11 +17,11 @@ ghost use Rattle.cfganalysis.specs.Inner.Waiting.{Waits};
 ghost use Rattle.cfganalysis.specs.Inner.Work.{Notes};
 
 use crate::bits::BitTable;
+use crate::dependents::Dependents;
 use crate::growth::Analysis;
 use crate::visits::visit_all;
 use crate::waiting::Waiting;
 use crate::words::WordTable;
-use crate::work::{Dependents, note};
 use cfgindex::{RIdx, Storage, Symbol, TIdx, Vob};
 use cfgtables::{CountedTables, Productions, Tables};
 use std::alloc::{AllocError, Global};
@@ -116,7 +116,7 @@ fn note_symbol<S: Storage>(
     ensures { IfOk result (λ _. Notes production (λ r. Rule r ≡ sym_of S.number symbol) dependents.old dependents.new) }
 {
     match symbol {
-        Symbol::Rule(rule) => note(dependents, usize::from(rule), production),
+        Symbol::Rule(rule) => dependents.note(usize::from(rule), production),
         Symbol::Token(_) => Ok(()),
     }
 }

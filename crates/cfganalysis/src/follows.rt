@@ -17,12 +17,12 @@ ghost use Rattle.cfganalysis.specs.Inner.Waiting.{NoneWaits, Waits};
 ghost use Rattle.cfganalysis.specs.Inner.Work.{Notes};
 
 use crate::bits::BitTable;
+use crate::dependents::Dependents;
 use crate::firsts::YaccFirsts;
 use crate::growth::Analysis;
 use crate::visits::visit_all;
 use crate::waiting::Waiting;
 use crate::words::WordTable;
-use crate::work::{Dependents, note};
 use cfgindex::{RIdx, Storage, Symbol, TIdx, Vob};
 use cfgtables::{CountedTables, Productions, Tables};
 use std::alloc::{AllocError, Global};
@@ -324,7 +324,7 @@ impl<'a, S: Storage> Analysis<S> for FollowAnalysis<'a, S> {
         requires { CanNote dependents.old (shown S.number rule _symbols.now) }
         ensures { IfOk result (λ _. Notes production (IsOwner (shown S.number rule _symbols.now)) dependents.old dependents.new) }
     {
-        note(dependents, usize::from(rule), production)
+        dependents.note(usize::from(rule), production)
     }
 
     fn visit(&mut self, rule: RIdx<S>, symbols: &[Symbol<S>], grown: &mut Waiting)

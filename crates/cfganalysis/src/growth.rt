@@ -6,8 +6,9 @@ ghost use Rattle.cfganalysis.specs.Inner.Growth.{CanNote, CanAddProduction, Adds
 ghost use Rattle.cfganalysis.specs.Inner.Waiting.{NoneWaits, Waits};
 ghost use Rattle.cfganalysis.specs.Inner.Work.{Notes, dependents_of};
 
+use crate::dependents::Dependents;
 use crate::waiting::Waiting;
-use crate::work::{Dependents, Work};
+use crate::work::Work;
 use cfgindex::{RIdx, Storage, Symbol};
 use std::alloc::AllocError;
 

@@ -2,6 +2,7 @@
 #![tactic(auto)]
 
 pub mod bits;
+mod dependents;
 pub mod firsts;
 pub mod follows;
 mod growth;

@@ -11,11 +11,11 @@ ghost use Rattle.cfganalysis.specs.Inner.Work.{Notes};
 ghost use Rattle.cfganalysis.specs.ProductiveRules.{AreProductiveRules, AreProductiveSymbols, is_productive_symbol};
 ghost use Rattle.cfganalysis.specs.Table.{bits_on};
 
+use crate::dependents::Dependents;
 use crate::firsts::note_rules;
 use crate::growth::Analysis;
 use crate::visits::visit_all;
 use crate::waiting::Waiting;
-use crate::work::Dependents;
 use cfgindex::{RIdx, Storage, Symbol, Vob};
 use cfgtables::{CountedTables, Productions, Tables};
 use std::alloc::{AllocError, Global};

@@ -2,41 +2,11 @@
 
 ghost use Rattle.std.specs.Prelude.{◌≡◌, ◌<◌, ℕ, [], false, length, replicate, Contains, IfOk};
 ghost use Rattle.cfganalysis.specs.Inner.Waiting.{NoneWaits, Waits};
-ghost use Rattle.cfganalysis.specs.Inner.Work.{Queues, Notes, dependents_of};
+ghost use Rattle.cfganalysis.specs.Inner.Work.{Queues, dependents_of};
 
+use crate::dependents::Dependents;
 use crate::waiting::Waiting;
-use cfgindex::ListTable;
 use std::alloc::{AllocError, Global};
-
-/// For each rule, the numbers of the productions that depend on it: what they give depends on the rule's set.
-pub(crate) type Dependents = ListTable<usize>;
-
-/// Notes that a production depends on the rule.
-///
-/// # Errors
-///
-/// Out of memory.
-pub(crate) fn note(
-    dependents: &mut Dependents,
-    rule: usize,
-    production: usize,
-) -> Result<(), AllocError>
-    requires { rule < length dependents.old }
-    ensures { IfOk result (λ _. Notes production (λ r. r ≡ rule) dependents.old dependents.new) }
-{
-    dependents.push(rule, production)
-}
-
-/// Queues the productions that depend on the rule.
-fn queue_dependents(dependents: &Dependents, rule: usize, waiting: &mut Waiting)
-    requires rule { rule < length dependents.now }
-    requires within { (p : ℕ) → Contains (dependents_of dependents.now rule) p → p < length waiting.old }
-    ensures { Queues dependents.now (λ r. r ≡ rule) waiting.old waiting.new }
-{
-    for production in dependents.of(rule) {
-        waiting.put(*production);
-    }
-}
 
 /// The work that an analysis has left.
 #[derive(Drop)]
@@ -79,7 +49,7 @@ impl Work {
         ensures rules { length self.new.grown ≡ length self.old.grown }
     {
         while let Some(rule) = self.grown.next() {
-            queue_dependents(&self.dependents, rule, &mut self.waiting);
+            self.dependents.queue(rule, &mut self.waiting);
         }
     }
 }
