@@ -17,6 +17,7 @@ use cfgprogram::KindArg;
 use cfgrammar::yacc::ast::{ASTWithValidityInfo, GrammarAST};
 use cfgrammar::yacc::{YaccFault, YaccGrammar, YaccGrammarError, YaccKind};
 use std::alloc::{AllocError, Global};
+use std::mem;
 
 /// What makes something of a text: of its errors, or of its grammar.
 pub trait TextReader<R> {
@@ -58,6 +59,11 @@ pub trait TextReader<R> {
             → of_grammar self.now text.now (syntax ast.now) grammar made)) }
     {
         Ok(None)
+    }
+
+    /// Whether the process ends after this reader's result. What was read is then kept till it ends, and not dropped.
+    fn is_last(&self) -> bool {
+        false
     }
 
     /// Makes the result for a text that has this tree and this grammar.
@@ -192,7 +198,9 @@ fn finish<R, T: TextReader<R>>(
         (WasRead parsed)) }
 {
     let kind = parsed.yacc_kind();
-    let made = lend(parsed, |parsed| finish_parsed(alloc, text, parsed, reader))?;
+    let made = lend(parsed, reader.is_last(), |parsed| {
+        finish_parsed(alloc, text, parsed, reader)
+    })?;
     Ok((made, Some(kind)))
 }
 
@@ -229,15 +237,38 @@ fn finish_valid<R, T: TextReader<R>>(
         Some(made) => Ok(made),
         None => {
             let grammar = YaccGrammar::new_from_checked_ast(alloc, parsed)?;
-            reader.grammar(alloc, text, parsed.ast(), &grammar)
+            lend(grammar, reader.is_last(), |grammar| {
+                finish_grammar(alloc, text, parsed, grammar, reader)
+            })
         }
     }
 }
 
-/// What `next` returns for a value that is owned only here, since a function that drops a tree has to prove how.
-fn lend<V: Drop, R, F: FnOnce(&V) -> R>(value: V, next: F) -> R
+/// What is made of a text that reads as this, which has this grammar.
+fn finish_grammar<R, T: TextReader<R>>(
+    alloc: Global,
+    text: &str,
+    parsed: &ASTWithValidityInfo,
+    grammar: &YaccGrammar<u32>,
+    reader: &T,
+) -> Result<R, AllocError>
+    requires spans { EachParsedSpan (IsPiece text.now) (IsWithin text.now) parsed.now }
+    requires valid { IsGrammar greatest (WasRead parsed.now) (in_numbers parsed.now) }
+    requires numbers { grammar.now ≡ in_numbers parsed.now }
+    ensures { IfOk result (IsMadeOfGrammar (T.of_grammar reader.now text.now) (WasRead parsed.now)) }
+{
+    reader.grammar(alloc, text, parsed.ast(), grammar)
+}
+
+/// What `next` returns for a value that is owned only here, since a function that drops a tree has to prove how. If it
+/// is kept, it isn't dropped.
+fn lend<V: Drop, R, F: FnOnce(&V) -> R>(value: V, is_kept: bool, next: F) -> R
     requires { FnOnceTakesAt F.FnOnce next value }
     ensures { FnOnceReturnsAt F.FnOnce next value result }
 {
-    next(&value)
+    let made = next(&value);
+    if is_kept {
+        mem::forget(value);
+    }
+    made
 }

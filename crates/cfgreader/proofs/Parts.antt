@@ -73,7 +73,7 @@ module _ (c : ℕ → Turn Part) (before : Parts) (start now : Reader) (parts : 
   pub parts_smaller : (turn : Option CodePart) (x : CodePart) → Builds (option_map part_view) now next (Ok turn) (c now.len) → turn ≡ Some x → length next.rest.now < length now.rest.now
   parts_smaller turn x builds is = turn_shorter file_reader c (option_map part_view) now next turn (part_view x) builds (ap (option_map part_view) is)
 
-  pub parts_done : (turn : Option CodePart) → Builds (option_map part_view) now next (Ok turn) (c now.len) → turn ≡ None → Builds parts_view start next (Ok parts) (parts_sequence (c start.len) before)
+  pub parts_done : (turn : Option CodePart) → Builds (option_map part_view) now next (Ok turn) (c now.len) → turn ≡ None → Builds (λ (x : Unit {0}). parts_view parts) start next (Ok tt) (parts_sequence (c start.len) before)
   unfolding parts_sequence
   parts_done turn builds is =
       let sequence = many_done so_far.gathers next (option_map part_view) turn builds (λ (x : Unit {0}). so_far.gathers.values) tt refl (ap (option_map part_view) is) in

@@ -175,31 +175,30 @@ impl<'a> Reader<'a> {
 
     /// Passes the parts of a production before its first symbol. They replace those in `parts`, whose lists are used
     /// again.
-    pub(super) fn prefix_parts(&mut self, parts: Parts<'a>) -> Result<Parts<'a>, ReadFault>
-        ensures read { Builds parts_view self.old self.new result (prefix_parts self.old.len) }
-        ensures ends { IfOk result (λ parts. IfSome parts.end (λ end. offset_of self.old.len self.old.rest.now ≤ end)) }
+    pub(super) fn prefix_parts(&mut self, parts: &mut Parts<'a>) -> Result<(), ReadFault>
+        ensures read { Builds (λ _. parts_view parts.new) self.old self.new result (prefix_parts self.old.len) }
+        ensures ends { OnOk result (IfSome parts.new.end (λ end. offset_of self.old.len self.old.rest.now ≤ end)) }
         ensures shorter { OnOk result (length self.new.rest.now ≤ length self.old.rest.now) }
     {
-        let mut parts = parts;
         parts.clear();
         while let Some(part) = self.prefix_part()? {
             parts.add(part)?;
         }
-        Ok(parts)
+        Ok(())
     }
 
     /// Passes the parts of a production from its first symbol on, and adds them to those before.
-    pub(super) fn more_parts(&mut self, prefix: Parts<'a>) -> Result<Parts<'a>, ReadFault>
-        ensures read { Builds parts_view self.old self.new result (more_parts self.old.len (parts_view prefix.entry)) }
+    pub(super) fn more_parts(&mut self, parts: &mut Parts<'a>) -> Result<(), ReadFault>
+        ensures read { Builds (λ _. parts_view parts.new) self.old self.new result
+            (more_parts self.old.len (parts_view parts.old)) }
         ensures ends { (start : ℕ) → start ≤ offset_of self.old.len self.old.rest.now
-            → IfSome prefix.entry.end (λ end. start ≤ end)
-            → IfOk result (λ parts. IfSome parts.end (λ end. start ≤ end)) }
+            → IfSome parts.old.end (λ end. start ≤ end)
+            → OnOk result (IfSome parts.new.end (λ end. start ≤ end)) }
         ensures shorter { OnOk result (length self.new.rest.now ≤ length self.old.rest.now) }
     {
-        let mut parts = prefix;
         while let Some(part) = self.later_part()? {
             parts.add(part)?;
         }
-        Ok(parts)
+        Ok(())
     }
 }

@@ -113,9 +113,9 @@ impl<'a> Reader<'a> {
         ensures { Builds goes_on self.old self.new result (production self.old.len (head_view head.entry)) }
     {
         let start = self.offset();
-        let parts = mem::replace(&mut self.parts, Parts::new(self.alloc));
-        let prefix = self.prefix_parts(parts)?;
-        let parts = self.more_parts(prefix)?;
+        let mut parts = mem::replace(&mut self.parts, Parts::new(self.alloc));
+        self.prefix_parts(&mut parts)?;
+        self.more_parts(&mut parts)?;
         let follows = self.production_end(head, start, &parts)?;
         self.parts = parts;
         Ok(follows)

@@ -46,7 +46,7 @@ pub fn report<W: Sink>(
     ensures faults { W.faults_counted out.new ≡ W.faults_counted out.old + faults_met result }
     ensures untouched { IsErrOf result variants.OutOfMemory → out.new ≡ out.old }
 {
-    write_requested(alloc, kind, Request::Command(command), text, out)
+    write_requested(alloc, kind, Request::Command(command), false, text, out)
 }
 
 /// Writes the differences between the tokens of the text's grammar and the names that a lexer has, or else the errors
@@ -67,7 +67,7 @@ pub fn report_lex<W: Sink>(
     ensures faults { W.faults_counted out.new ≡ W.faults_counted out.old + faults_met result }
     ensures untouched { IsErrOf result variants.OutOfMemory → out.new ≡ out.old }
 {
-    write_requested(alloc, kind, Request::Names(names), text, out)
+    write_requested(alloc, kind, Request::Names(names), false, text, out)
 }
 
 /// What is requested of a text's grammar.
@@ -79,15 +79,27 @@ pub(crate) enum Request<'a> {
     Names(&'a str),
 }
 
-impl TextReader<(Outcome, String)> for Request<'_> {
+/// Makes a report on what is requested.
+#[derive(Clone, Copy)]
+struct RequestReader<'a> {
+    request: Request<'a>,
+    /// Whether the process ends after the report.
+    is_last: bool,
+}
+
+impl TextReader<(Outcome, String)> for RequestReader<'_> {
     ghost use Rattle.std.specs.Prelude.{◌≡◌};
     ghost use Rattle.cfgsink.specs.declared.outcome.Outcome.TheVariants.{Done, Refused};
     ghost use Rattle.cfgtool.specs.Report.{AreRequestedLines, IsReported};
     ghost use Rattle.cfgtool.specs.ReportLines.{error_lines};
 
-    ghost of_errors = { λ request text _ errors. IsReported Refused (λ lines. lines ≡ error_lines text errors) };
+    ghost of_errors = { λ reader text _ errors. IsReported Refused (λ lines. lines ≡ error_lines text errors) };
 
-    ghost of_grammar = { λ request text s g. IsReported Done (AreRequestedLines request text s g) };
+    ghost of_grammar = { λ reader text s g. IsReported Done (AreRequestedLines reader.request text s g) };
+
+    fn is_last(&self) -> bool {
+        self.is_last
+    }
 
     fn errors(
         &self,
@@ -105,7 +117,7 @@ impl TextReader<(Outcome, String)> for Request<'_> {
         text: &str,
         ast: &GrammarAST,
     ) -> Result<Option<(Outcome, String)>, AllocError> {
-        match self {
+        match self.request {
             Request::Command(Command::Warnings) => {
                 let lines = reported_warnings(alloc, text, ast)?;
                 Ok(Some((Outcome::Done, lines)))
@@ -123,16 +135,17 @@ impl TextReader<(Outcome, String)> for Request<'_> {
     ) -> Result<(Outcome, String), AllocError> {
         Ok((
             Outcome::Done,
-            request_lines(alloc, *self, text, ast, grammar)?,
+            request_lines(alloc, self.request, text, ast, grammar)?,
         ))
     }
 }
 
-/// Makes the whole report, and then writes it.
-fn write_requested<W: Sink>(
+/// Makes the whole report, and then writes it. If the process ends after that, nothing of the grammar is dropped.
+pub(crate) fn write_requested<W: Sink>(
     alloc: Global,
     kind: KindArg,
     request: Request<'_>,
+    is_last: bool,
     text: &str,
     out: &mut W,
 ) -> Result<Outcome, ReportFault>
@@ -143,7 +156,8 @@ fn write_requested<W: Sink>(
     ensures faults { W.faults_counted out.new ≡ W.faults_counted out.old + faults_met result }
     ensures untouched { IsErrOf result variants.OutOfMemory → out.new ≡ out.old }
 {
-    let made = read_text(alloc, kind, text, &request);
+    let reader = RequestReader { request, is_last };
+    let made = read_text(alloc, kind, text, &reader);
     write_report(out, made)
 }
 

@@ -5,7 +5,7 @@ ghost use Rattle.cfgtool_shell.specs.Endings.{faults_at, line_of, status_of};
 ghost use Rattle.cfgsink.specs.Runs.{EndsWith};
 ghost use Rattle.cfgtool.specs.Run.{HandlesArguments};
 
-use crate::engine::{Outcome, ReportFault, report, report_lex};
+use crate::engine::{Outcome, ReportFault, Request, write_requested};
 use cfgprogram::KindArg;
 use cfgprogram::source::Source;
 use cfgtool_shell::arguments::Command;
@@ -29,12 +29,15 @@ pub fn run<S: Source, O: Sink, E: Sink>(
         (HandlesArguments (map (λ word. word.now) args.now) S.fetches source.old source.new)
         O.written O.faults_counted out.old out.new E.written E.faults_counted err.old err.new result }
 {
-    program::run(alloc, &Reports, args, source, out, err)
+    program::run(alloc, &Reports { is_last: false }, args, source, out, err)
 }
 
 /// The program's reports: those of [`report`](crate::report) and [`report_lex`](crate::report_lex).
 #[derive(Drop)]
-pub(crate) struct Reports;
+pub(crate) struct Reports {
+    /// Whether the process ends after a report.
+    pub(crate) is_last: bool,
+}
 
 impl Reporter for Reports {
     ghost use Rattle.cfgtool.specs.Report.{ReportsLexer, ReportsText};
@@ -51,7 +54,14 @@ impl Reporter for Reports {
         text: &str,
         out: &mut W,
     ) -> Result<Outcome, ReportFault> {
-        report(alloc, kind, command, text, out)
+        write_requested(
+            alloc,
+            kind,
+            Request::Command(command),
+            self.is_last,
+            text,
+            out,
+        )
     }
 
     fn report_lex<W: Sink>(
@@ -62,6 +72,6 @@ impl Reporter for Reports {
         names: &str,
         out: &mut W,
     ) -> Result<Outcome, ReportFault> {
-        report_lex(alloc, kind, text, names, out)
+        write_requested(alloc, kind, Request::Names(names), self.is_last, text, out)
     }
 }

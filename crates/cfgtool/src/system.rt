@@ -15,5 +15,5 @@ use std::rt::{Clock, Env, Files};
 pub fn run_over<R: Env + Files + Input + Print + Eprint + Clock + AllocGlobal>(rt: &R) -> Ended
     ensures { (ending : Ending) × (result.status ≡ status_of ending) }
 {
-    ended_with(runtime::run_over(rt, &Reports))
+    ended_with(runtime::run_over(rt, &Reports { is_last: true }))
 }

@@ -32,14 +32,14 @@ returns-in_err-follows c =
     let mid = c.prefix_parts.new.self in
     let last = c.more_parts.new.self in
     let new = c.production_end.new.self in
-    let prefix = parts_view c.in_ok-prefix.prefix in
-    let parts = parts_view c.in_ok-parts.parts in
+    let prefix = parts_view c.prefix_parts.new.parts in
+    let parts = parts_view c.more_parts.new.parts in
     let head = head_view c.args.head in
-    let more = subst (λ len. Builds parts_view mid last (Ok c.in_ok-parts.parts) (more_parts len prefix)) c.in_ok-prefix.ensures.read.1 c.in_ok-parts.ensures.read in
+    let more = subst (λ len. Builds (λ (x : Unit {0}). parts) mid last (Ok tt) (more_parts len prefix)) c.in_ok-prefix_parts.ensures.read.1 c.in_ok-more_parts.ensures.read in
     let fails = subst (λ len. Fails file_reader last new c.in_err-follows.field-0.0 (production_end len head c.offset-start.result parts))
-    (c.in_ok-parts.ensures.read.1 ∙ c.in_ok-prefix.ensures.read.1) c.in_err-follows.ensures in
+    (c.in_ok-more_parts.ensures.read.1 ∙ c.in_ok-prefix_parts.ensures.read.1) c.in_err-follows.ensures in
     let p = err_from_is_err_and c.from_residual-in_err-follows.result c.from_residual-in_err-follows.ensures.1 in
     let end = production_end self.len head (offset_of self.len self.rest.now) in
-    rw (p.1, p.2) (fails_after (prefix_parts self.len) (λ (prefix : Parts). then (more_parts self.len prefix) end) parts_view self mid new c.in_ok-prefix.prefix _ c.in_ok-prefix.ensures.read
-    (fails_after (more_parts self.len prefix) end parts_view mid last new c.in_ok-parts.parts _ more
+    rw (p.1, p.2) (fails_after (prefix_parts self.len) (λ (prefix : Parts). then (more_parts self.len prefix) end) (λ (x : Unit {0}). prefix) self mid new tt _ c.in_ok-prefix_parts.ensures.read
+    (fails_after (more_parts self.len prefix) end (λ (x : Unit {0}). parts) mid last new tt _ more
     (subst (λ start. Fails file_reader last new c.in_err-follows.field-0.0 (production_end self.len head start parts)) c.offset-start.ensures fails)))
