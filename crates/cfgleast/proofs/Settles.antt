@@ -78,3 +78,7 @@ settled_if_some least r entry within at h = go entry h (get_or_default least r N
 pub unset_if_none : (least : List (Option ℕ)) (r : ℕ) (entry : Option ℕ) → r < length least → entry ≡ get_or least r entry → is_some entry ≡ false
     → rule_cost least r ≡ None
 unset_if_none least r entry within at h = get_or_default least r None entry within ∙ sym at ∙ None-from_is_some entry h
+
+-- a production's rule is a rule of the grammar
+pub owner_within : (g : Grammar) (p : ℕ) → IsGrammar g → p < length g.productions → (nth_production g p).rule < g.rules
+owner_within g p is within = is.owners p (record { rule = 0; symbols = [] }) within

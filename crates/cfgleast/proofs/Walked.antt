@@ -5,7 +5,7 @@ use Rattle.std.proofs.lemmas.List.{take_more, take_all, length_push, drop_all}
 use Rattle.std.proofs.lemmas.List.Sums.{sum_by-set}
 use Rattle.std.proofs.lemmas.List.Sorted.{length_permutation}
 use Rattle.std.proofs.lemmas.List.Elements.{All-get_or}
-use Rattle.derivation.specs.Grammar.{Sym, Rule, Grammar, IsGrammar}
+use Rattle.derivation.specs.Grammar.{Sym, Rule, Grammar}
 use Rattle.cfgtables.specs.Openings.{nth_production}
 use Rattle.cfgleast.specs.declared.partial.Partial.{Partial}
 use Rattle.derivation.specs.Sums.{sum_of, symbol_cost}
@@ -16,10 +16,6 @@ use Rattle.derivation.proofs.Sums.{sum_of-append, plus_both, plus_zero}
 use Rattle.lemmas.proofs.Contained.{contains_cases}
 use Rattle.lemmas.proofs.Elements.{get_or-set}
 use Rattle.cfgleast.proofs.Opened.{more_at_most, moved_on, top_in, woken_above}
-
--- a production's rule is a rule of the grammar
-pub owner_within : (g : Grammar) (p : ℕ) → IsGrammar g → p < length g.productions → (nth_production g p).rule < g.rules
-owner_within g p is within = is.owners p (record { rule = 0; symbols = [] }) within
 
 module _ (cost : ℕ → ℕ) (settled : ℕ → Option ℕ) where
   -- one more symbol

@@ -7,8 +7,7 @@ use Rattle.cfgleast.specs.Certificate.{choice_of}
 use Rattle.derivation.specs.CostLists.{rule_cost}
 use Rattle.cfgleast.specs.Inner.Open.{AreAllOpen, AreBests, AreInput}
 use Rattle.cfgleast.specs.Settled.{AreSettledSoFar}
-use Rattle.cfgleast.proofs.Settles.{popped_position, popped_again, settles_chosen, settles_woken, popped_bests_again, settles_bests, settled_if_some, unset_if_none}
-use Rattle.cfgleast.proofs.Walked.{owner_within}
+use Rattle.cfgleast.proofs.Settles.{popped_position, popped_again, settles_chosen, settles_woken, popped_bests_again, settles_bests, settled_if_some, unset_if_none, owner_within}
 use Rattle.cfgleast.proofs.settle.settle_next.Given.{Over}
 use Rattle.cfgleast.proofs.settle.settle_next.Goals.{After-from-rule}
 use Rattle.cfgleast.proofs.settle.settle_next.Goals as goal

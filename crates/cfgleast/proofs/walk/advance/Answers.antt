@@ -9,7 +9,8 @@ use Rattle.derivation.specs.CostLists.{IsListed, rule_cost}
 use Rattle.cfgleast.specs.CutSums.{IsCutSum, StopsAt}
 use Rattle.cfgleast.specs.Inner.Open.{AreBests, MovesOn, Offers, waits}
 use Rattle.derivation.proofs.Listed.{symbols_listed}
-use Rattle.cfgleast.proofs.Walked.{offered_bests, offered_moves, owner_within, stop_listed, stop_waits}
+use Rattle.cfgleast.proofs.Settles.{owner_within}
+use Rattle.cfgleast.proofs.Walked.{offered_bests, offered_moves, stop_listed, stop_waits}
 use Rattle.cfgleast.proofs.walk.advance.Given.{Over}
 use Rattle.cfgleast.proofs.walk.advance.Goals.{After-from-rule}
 use Rattle.cfgleast.proofs.walk.advance.Goals as goal
