@@ -1,5 +1,5 @@
 -- Productions on the way to their sums: one advances, one leaves the queue, or a rule is settled.
-use Rattle.std.proofs.Common.{◌≡◌, ℕ, ◌<◌, ◌≤◌, ◌⊎◌, inl, inr, ◌++◌, min, List, [], ◌∷◌, length, slice_set, Option, Some, None, All, Contains, arith, sym, ap, subst, ◌∙◌}
+use Rattle.std.proofs.Common.{◌≡◌, ℕ, ◌<◌, ◌≤◌, ◌⊎◌, inl, inr, ◌++◌, min, List, [], ◌∷◌, length, slice_set, Option, Some, None, All, Contains, arith, refl, sym, ap, subst, ◌∙◌}
 use Rattle.std.proofs.lemmas.Option.{same_Some}
 use Rattle.std.specs.List.Sorted.{IsPermutation}
 use Rattle.std.proofs.lemmas.List.{get_or-set_same}
@@ -12,8 +12,8 @@ use Rattle.cfgtables.specs.Openings.{nth_production}
 use Rattle.cfgleast.specs.declared.partial.Partial.{Partial}
 use Rattle.derivation.specs.Sums.{sum_of, symbol_cost}
 use Rattle.cfgleast.specs.CutSums.{IsCutSum}
-use Rattle.cfgleast.specs.Inner.Open.{WaitsFor, MovesOn, enters, waits, Phase, queued, held, past, moved, AreOpen, IsAmong, waiting_for}
-use Rattle.cfgleast.proofs.Gains.{Gains, part_at, rule_kept, rule_gained, sequence_kept, sequence_gained}
+use Rattle.cfgleast.specs.Inner.Open.{WaitsFor, HasAtMost, by_cost, by_sum, AreBests, MovesOn, enters, beaten, waits, Phase, past, held, moved, AreOpen, IsAmong, waiting_for}
+use Rattle.cfgleast.proofs.Gains.{Gains, part_at, rule_kept, rule_gained, sequence_kept}
 
 -- the elements of a list that is a permutation of another with one more element
 module _ {A : Type 0} (x : A) (xs ys : List A) (perm : IsPermutation (x ∷ xs) ys) where
@@ -54,6 +54,12 @@ cut_is_one : (cost : ℕ → ℕ) (settled : ℕ → Option ℕ) (symbols : List
 cut_is_one cost settled symbols c n h e = let same : h.total ≡ n = same_Some _ _ (sym h.is ∙ e) in
     h.cut ∙ ap (λ m. min m 65536) same
 
+-- one more entry in the queue
+module _ (g : Grammar) (cost : ℕ → ℕ) (settled : ℕ → Option ℕ) (top : ℕ × ℕ) (queue queue' : List (ℕ × ℕ)) (into : IsPermutation (top ∷ queue) queue') where
+  pub more_at_most : (r b : ℕ) → HasAtMost cost settled g queue r b → HasAtMost cost settled g queue' r b
+  more_at_most r b (by_cost d h low) = by_cost d h low
+  more_at_most r b (by_sum s q h of low) = by_sum s q (others_in top queue queue' into (s, q) h) of low
+
 module _ (g : Grammar) (cost : ℕ → ℕ) (settled : ℕ → Option ℕ) (floor : ℕ) where
   -- the top of the queue belongs to a rule that is settled
   module _ (queue rest : List (ℕ × ℕ)) (waiting : List (List Partial)) (moving : ℕ → Type 0) (c p d : ℕ) (out : IsPermutation queue ((c, p) ∷ rest))
@@ -61,20 +67,20 @@ module _ (g : Grammar) (cost : ℕ → ℕ) (settled : ℕ → Option ℕ) (floo
     back : IsPermutation ((c, p) ∷ rest) queue
     back = IsPermutation-sym queue ((c, p) ∷ rest) out
 
-    low : (b q n : ℕ) → Contains queue (b, q) → sum_of (symbol_cost cost settled) (nth_production g q).symbols ≡ Some n → d ≤ min n 65536
-    low b q n h e =
-        let cut = cut_is_one cost settled (nth_production g q).symbols b n (state.queued_sum b q h) e in
-        let above = state.queued_above b q h in
-        let below = state.settled_below (nth_production g p).rule d done in
-        omega (arith, cut, above, below)
+    popped_at_most : (r b : ℕ) → HasAtMost cost settled g queue r b → HasAtMost cost settled g rest r b
+    popped_at_most r b (by_cost e h low) = by_cost e h low
+    popped_at_most r b (by_sum s q h of low) = elim (cases_in (c, p) rest queue back (s, q) h) [
+      | inl e ↦ by_cost d (subst (λ n. settled n ≡ Some d) (ap (λ (x : ℕ × ℕ). (nth_production g x.1).rule) e ∙ of) done)
+          (omega (arith, state.settled_below (nth_production g p).rule d done, state.queued_above s q h, low))
+      | inr k ↦ by_sum s q k of low
+    ]
+
+    pub popped_bests : (bests : List ℕ) → AreBests cost settled g queue bests → AreBests cost settled g rest bests
+    popped_bests bests h = record { rules = h.rules; each = λ r within low. popped_at_most r _ (h.each r within low) }
 
     popped_phase : (q : ℕ) → Phase cost settled g queue waiting moving q → Phase cost settled g rest waiting moving q
-    popped_phase q (queued b h) = elim (cases_in (c, p) rest queue back (b, q) h) [
-      | inl e ↦ past d (subst (λ n. settled (nth_production g n).rule ≡ Some d) (ap (λ (x : ℕ × ℕ). x.1) e) done) (λ n k. low b q n h k)
-      | inr k ↦ queued b k
-    ]
+    popped_phase q (past b sum h) = past b sum (popped_at_most _ b h)
     popped_phase q (held r x e h i) = held r x e h i
-    popped_phase q (past b e f) = past b e f
     popped_phase q (moved m) = moved m
 
     pub popped_past : AreOpen cost settled g rest waiting moving floor
@@ -95,11 +101,10 @@ module _ (g : Grammar) (cost : ℕ → ℕ) (settled : ℕ → Option ℕ) (floo
       (state : AreOpen cost settled g queue waiting moving floor) where
     module _ (c : ℕ) (sum : IsCutSum cost settled (nth_production g p).symbols c) (queue' : List (ℕ × ℕ)) (into : IsPermutation ((c, p) ∷ queue) queue') where
       enters_phase : (q : ℕ) → Phase cost settled g queue waiting moving q → Phase cost settled g queue' waiting moving' q
-      enters_phase q (queued b h) = queued b (others_in (c, p) queue queue' into (b, q) h)
+      enters_phase q (past b s h) = past b s (more_at_most g cost settled (c, p) queue queue' into _ b h)
       enters_phase q (held r x e h i) = held r x e h i
-      enters_phase q (past b e f) = past b e f
       enters_phase q (moved m) = elim (rest q m) [
-        | inl e ↦ queued c (subst (λ n. Contains queue' (c, n)) (sym e) (top_in (c, p) queue queue' into))
+        | inl e ↦ subst (Phase cost settled g queue' waiting moving') (sym e) (past c sum (by_sum c p (top_in (c, p) queue queue' into) refl (omega arith)))
         | inr k ↦ moved k
       ]
 
@@ -120,11 +125,30 @@ module _ (g : Grammar) (cost : ℕ → ℕ) (settled : ℕ → Option ℕ) (floo
         limit = state.limit;
       }
 
+    module _ (c : ℕ) (sum : IsCutSum cost settled (nth_production g p).symbols c) (enough : HasAtMost cost settled g queue (nth_production g p).rule c) where
+      beaten_phase : (q : ℕ) → Phase cost settled g queue waiting moving q → Phase cost settled g queue waiting moving' q
+      beaten_phase q (past b s h) = past b s h
+      beaten_phase q (held r x e h i) = held r x e h i
+      beaten_phase q (moved m) = elim (rest q m) [
+        | inl e ↦ subst (Phase cost settled g queue waiting moving') (sym e) (past c sum enough)
+        | inr k ↦ moved k
+      ]
+
+      passed : AreOpen cost settled g queue waiting moving' floor
+      passed = record {
+        queued_sum = state.queued_sum;
+        queued_position = state.queued_position;
+        queued_above = state.queued_above;
+        held_for = state.held_for;
+        phase = λ q h. beaten_phase q (state.phase q h);
+        settled_below = state.settled_below;
+        limit = state.limit;
+      }
+
     module _ (r : ℕ) (x : Partial) (is : x.production ≡ p) (for : WaitsFor cost settled g r x) (none : settled r ≡ None) (within : r < length waiting) where
       waits_phase : (q : ℕ) → Phase cost settled g queue waiting moving q → Phase cost settled g queue (slice_set waiting r (waiting_for waiting r ++ x ∷ [])) moving' q
-      waits_phase q (queued b h) = queued b h
+      waits_phase q (past b s h) = past b s h
       waits_phase q (held s y e h i) = held s y e (added_old waiting r x s y h) i
-      waits_phase q (past b e f) = past b e f
       waits_phase q (moved m) = elim (rest q m) [
         | inl e ↦ held r x none (added_new waiting r x within) (is ∙ sym e)
         | inr k ↦ moved k
@@ -147,6 +171,8 @@ module _ (g : Grammar) (cost : ℕ → ℕ) (settled : ℕ → Option ℕ) (floo
     pub moved_on : (queue' : List (ℕ × ℕ)) (waiting' : List (List Partial)) → MovesOn cost settled g p queue queue' waiting waiting'
         → AreOpen cost settled g queue' waiting' moving' floor
     moved_on queue' waiting' (enters c sum into same) = subst (λ l. AreOpen cost settled g queue' l moving' floor) (sym same) (entered c sum queue' into)
+    moved_on queue' waiting' (beaten c sum enough same kept) = subst (λ l. AreOpen cost settled g l waiting' moving' floor) (sym same)
+        (subst (λ l. AreOpen cost settled g queue l moving' floor) (sym kept) (passed c sum enough))
     moved_on queue' waiting' (waits r x is for none within same put) =
         subst (λ l. AreOpen cost settled g l waiting' moving' floor) (sym same)
         (subst (λ l. AreOpen cost settled g queue l moving' floor) (sym put) (waited r x is for none within))
@@ -163,14 +189,14 @@ module _ (g : Grammar) (cost : ℕ → ℕ) (settled : ℕ → Option ℕ) (floo
   module _ (waiting : List (List Partial)) (moving : ℕ → Type 0) (none : (q : ℕ) → moving q → ⊥) (state : AreOpen cost settled g [] waiting moving floor) where
     finish : (p m : ℕ) → Phase cost settled g [] waiting moving p → sum_of (symbol_cost cost settled) (nth_production g p).symbols ≡ Some m
         → (d : ℕ) × (settled (nth_production g p).rule ≡ Some d) × (d ≤ min m 65536)
-    finish p m (queued b h) e = absurd (contains_none (b, p) h)
+    finish p m (past b s (by_cost d h low)) e = let cut = cut_is_one cost settled (nth_production g p).symbols b m s e in (d, h, omega (arith, cut, low))
+    finish p m (past b s (by_sum c q h of low)) e = absurd (contains_none (c, q) h)
     finish p m (held r x unset h i) e =
         let for = state.held_for r x h in
         let sum = subst (λ n. sum_of (symbol_cost cost settled) (nth_production g n).symbols ≡ Some m) (sym i) e in
         let part = part_at (symbol_cost cost settled) (nth_production g x.production).symbols x.taken (Rule r) m for.taken for.symbol sum in
         let no : None ≡ Some part.value = sym unset ∙ part.is in
         absurd (cc)
-    finish p m (past d e f) k = (d, e, f m k)
     finish p m (moved h) e = absurd (none p h)
 
     pub finished : (p m : ℕ) → p < length g.productions → sum_of (symbol_cost cost settled) (nth_production g p).symbols ≡ Some m
@@ -224,23 +250,24 @@ module _ (g : Grammar) (cost : ℕ → ℕ) (old new : ℕ → Option ℕ) (r c 
   woken_phase : (q s : ℕ) (x : Partial) → s ≡ r → Contains (waiting_for waiting s) x → x.production ≡ q → Phase cost new g rest (slice_set waiting r []) (IsAmong (waiting_for waiting r)) q
   woken_phase q s x e h i = moved (record { entry = x; among = subst (λ n. Contains (waiting_for waiting n) x) e h; is = i })
 
-  settled_phase : (q : ℕ) → Phase cost old g queue waiting moving q → Phase cost new g rest (slice_set waiting r []) (IsAmong (waiting_for waiting r)) q
-  settled_phase q (queued b h) = elim (cases_in (c, p) rest queue out_back (b, q) h) [
+  settled_at_most : (q b : ℕ) → HasAtMost cost old g queue q b → HasAtMost cost new g rest q b
+  settled_at_most q b (by_cost d h low) = by_cost d (rule_kept cost old new r c gains q d h) low
+  settled_at_most q b (by_sum s n h of low) = elim (cases_in (c, p) rest queue out_back (s, n) h) [
     | inl e ↦
-        let same : c ≡ b = ap (λ (x : ℕ × ℕ). x.0) e in
-        past c (ap new (ap (λ n. (nth_production g n).rule) (sym (ap (λ (x : ℕ × ℕ). x.1) e)) ∙ owner) ∙ gains.now) (λ n k.
-        let cut = cut_is_one cost new (nth_production g q).symbols b n (cut_kept _ b (state.queued_sum b q h)) k in omega (arith, cut, same))
-    | inr k ↦ queued b k
+        let same : c ≡ s = ap (λ (x : ℕ × ℕ). x.0) e in
+        by_cost c (ap new (sym of ∙ ap (λ (x : ℕ × ℕ). (nth_production g x.1).rule) (sym e) ∙ owner) ∙ gains.now) (omega (arith, same, low))
+    | inr k ↦ by_sum s n k of low
   ]
+
+  pub settled_bests : (bests : List ℕ) → AreBests cost old g queue bests → AreBests cost new g rest bests
+  settled_bests bests h = record { rules = h.rules; each = λ q within low. settled_at_most q _ (h.each q within low) }
+
+  settled_phase : (q : ℕ) → Phase cost old g queue waiting moving q → Phase cost new g rest (slice_set waiting r []) (IsAmong (waiting_for waiting r)) q
+  settled_phase q (past b s h) = past b (cut_kept _ b s) (settled_at_most _ b h)
   settled_phase q (held s x unset h i) = elim (gains.others s) [
     | inr e ↦ woken_phase q s x e h i
     | inl e ↦ elim (taken_cases s x h) [ inl k ↦ held s x (e ∙ unset) k i | inr k ↦ woken_phase q s x k h i ]
   ]
-  settled_phase q (past d e f) = past d (rule_kept cost old new r c gains (nth_production g q).rule d e) (λ n k.
-      elim (sequence_gained cost old new r c gains (nth_production g q).symbols n k) [
-        | inl h ↦ f n h
-        | inr h ↦ omega (arith, state.settled_below (nth_production g q).rule d e, floor_below, cost_limit, h)
-      ])
   settled_phase q (moved m) = absurd (none q m)
 
   pub settled_open : AreOpen cost new g rest (slice_set waiting r []) (IsAmong (waiting_for waiting r)) c

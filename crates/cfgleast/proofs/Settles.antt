@@ -8,14 +8,14 @@ use Rattle.derivation.specs.Grammar.{Grammar, IsGrammar}
 use Rattle.cfgtables.specs.Openings.{nth_production}
 use Rattle.cfgleast.specs.declared.partial.Partial.{Partial}
 use Rattle.derivation.specs.CostLists.{rule_cost}
-use Rattle.cfgleast.specs.Inner.Open.{WaitsFor, AreAllOpen, AreWaking, waiting_for}
+use Rattle.cfgleast.specs.Inner.Open.{WaitsFor, AreAllOpen, AreBests, AreWaking, waiting_for}
 use Rattle.cfgleast.specs.Inner.Open.{HasPopped}
 use Rattle.cfgleast.specs.Settled.{AreSettledSoFar}
-use Rattle.cfgleast.proofs.Opened.{top_in, popped_past, settled_open, woken_wait}
+use Rattle.cfgleast.proofs.Opened.{top_in, popped_bests, popped_past, settled_bests, settled_open, woken_wait}
 use Rattle.cfgleast.proofs.Chosen.{gains_one, chosen_more}
 
-module _ (g : Grammar) (cost : ℕ → ℕ) (least : List (Option ℕ)) (top : ℕ × ℕ) (queue : List (ℕ × ℕ)) (waiting : List (List Partial))
-    (popped : HasPopped g cost least top queue waiting) where
+module _ (g : Grammar) (cost : ℕ → ℕ) (least : List (Option ℕ)) (top : ℕ × ℕ) (queue : List (ℕ × ℕ)) (bests : List ℕ) (waiting : List (List Partial))
+    (popped : HasPopped g cost least top queue bests waiting) where
   top_queued : Contains popped.before top
   top_queued = top_in top queue popped.before (IsPermutation-sym popped.before (top ∷ queue) popped.out)
 
@@ -28,6 +28,10 @@ module _ (g : Grammar) (cost : ℕ → ℕ) (least : List (Option ℕ)) (top : �
     popped_past g cost (rule_cost least) popped.state.0 popped.before queue waiting (λ p. ⊥) top.0 top.1 d popped.out
         (ap (rule_cost least) owner ∙ e) popped.state.1,
   )
+
+  pub popped_bests_again : (r d : ℕ) → (nth_production g top.1).rule ≡ r → rule_cost least r ≡ Some d → AreBests cost (rule_cost least) g queue bests
+  popped_bests_again r d owner e = popped_bests g cost (rule_cost least) popped.state.0 popped.before queue waiting (λ p. ⊥) top.0 top.1 d popped.out
+      (ap (rule_cost least) owner ∙ e) popped.state.1 bests popped.known
 
   module _ (choices : List (Option (ℕ × ℕ))) (n r : ℕ) (chosen : AreSettledSoFar g cost least choices n) (within : r < g.rules) (unset : rule_cost least r ≡ None)
       (owner : (nth_production g top.1).rule ≡ r) where
@@ -50,6 +54,11 @@ module _ (g : Grammar) (cost : ℕ → ℕ) (least : List (Option ℕ)) (top : �
           state = settled_open g cost (rule_cost least) (rule_cost (slice_set least r (Some top.0))) r top.0 gains popped.state.0 top.1 owner popped.before queue waiting
               popped.out popped.cheapest (λ p. ⊥) (λ q h. h) popped.state.1;
         }
+
+    pub settles_bests : (least' : List (Option ℕ)) → least' ≡ slice_set least r (Some top.0) → AreBests cost (rule_cost least') g queue bests
+    settles_bests least' e = subst (λ l. AreBests cost (rule_cost l) g queue bests) (sym e)
+        (settled_bests g cost (rule_cost least) (rule_cost (slice_set least r (Some top.0))) r top.0 (gains_one g cost least choices n chosen r within unset top.0)
+        popped.state.0 top.1 owner popped.before queue waiting popped.out popped.cheapest (λ p. ⊥) (λ q h. h) popped.state.1 bests popped.known)
 
     pub settles_woken : (least' : List (Option ℕ)) (waiting' : List (List Partial)) (woken : List Partial) → least' ≡ slice_set least r (Some top.0)
         → waiting' ≡ slice_set waiting r [] → woken ≡ waiting_for waiting r → AreWaking cost (rule_cost least') g queue waiting' woken 0

@@ -11,10 +11,11 @@ use Rattle.cfgleast.specs.declared.partial.Partial.{Partial}
 use Rattle.derivation.specs.Sums.{sum_of, symbol_cost}
 use Rattle.derivation.specs.CostLists.{IsListed}
 use Rattle.cfgleast.specs.CutSums.{IsCutSum, StopsAt}
-use Rattle.cfgleast.specs.Inner.Open.{IsPartial, WaitsFor, MovesOn, enters, waits, Phase, queued, held, past, moved, AreOpen, AreAllOpen, AreWaking, IsAmong, count_open, waiting_for}
+use Rattle.cfgleast.specs.Inner.Open.{IsPartial, WaitsFor, HasAtMost, by_cost, by_sum, AreBests, MovesOn, enters, beaten, waits, Offers, enqueued, declined, Phase, past, held, moved, AreOpen, AreAllOpen, AreWaking, IsAmong, count_open, waiting_for}
 use Rattle.derivation.proofs.Sums.{sum_of-append, plus_both, plus_zero}
 use Rattle.lemmas.proofs.Contained.{contains_cases}
-use Rattle.cfgleast.proofs.Opened.{moved_on, woken_above}
+use Rattle.lemmas.proofs.Elements.{get_or-set}
+use Rattle.cfgleast.proofs.Opened.{more_at_most, moved_on, top_in, woken_above}
 
 module _ (cost : ℕ → ℕ) (settled : ℕ → Option ℕ) where
   -- one more symbol
@@ -56,11 +57,15 @@ module _ (cost : ℕ → ℕ) (settled : ℕ → Option ℕ) where
 
     -- one more production advances
     pub count_moved : (p : ℕ) (queue queue' : List (ℕ × ℕ)) (waiting waiting' : List (List Partial)) → MovesOn cost settled g p queue queue' waiting waiting'
-        → count_open queue' waiting' ≡ count_open queue waiting + 1
+        → count_open queue' waiting' ≤ count_open queue waiting + 1
     count_moved p queue queue' waiting waiting' (enters c sum into same) =
         let longer = length_permutation ((c, p) ∷ queue) queue' into in
         let lists = ap (sum_by length) same in
         omega (arith, longer, lists)
+    count_moved p queue queue' waiting waiting' (beaten c sum enough same kept) =
+        let queues = ap length same in
+        let lists = ap (sum_by length) kept in
+        omega (arith, queues, lists)
     count_moved p queue queue' waiting waiting' (waits r x is for unset within same put) =
         let queues = ap length same in
         let lists = ap (sum_by length) put in
@@ -71,7 +76,32 @@ module _ (cost : ℕ → ℕ) (settled : ℕ → Option ℕ) where
     pub lists_moved : (p : ℕ) (queue queue' : List (ℕ × ℕ)) (waiting waiting' : List (List Partial)) → MovesOn cost settled g p queue queue' waiting waiting'
         → length waiting' ≡ length waiting
     lists_moved p queue queue' waiting waiting' (enters c sum into same) = ap length same
+    lists_moved p queue queue' waiting waiting' (beaten c sum enough same kept) = ap length kept
     lists_moved p queue queue' waiting waiting' (waits r x is for unset within same put) = ap length put ∙ length-set waiting r _
+
+    at_most_weaker : (queue : List (ℕ × ℕ)) (r b c : ℕ) → HasAtMost cost settled g queue r b → b ≤ c → HasAtMost cost settled g queue r c
+    at_most_weaker queue r b c (by_cost d h low) le = by_cost d h (omega (arith, low, le))
+    at_most_weaker queue r b c (by_sum s q h of low) le = by_sum s q h of (omega (arith, low, le))
+
+    -- a production with its sum is offered to its rule
+    module _ (p c : ℕ) (sum : IsCutSum cost settled (nth_production g p).symbols c) (queue queue' : List (ℕ × ℕ)) (bests bests' : List ℕ)
+        (are : AreBests cost settled g queue bests) where
+      pub offered_moves : (waiting : List (List Partial)) → (nth_production g p).rule < length bests → Offers (nth_production g p).rule c p queue queue' bests bests'
+          → MovesOn cost settled g p queue queue' waiting waiting
+      offered_moves waiting within (enqueued less into put) = enters c sum into refl
+      offered_moves waiting within (declined low same kept) =
+          beaten c sum (at_most_weaker queue _ _ c (are.each _ within (omega (arith, low, sum.cut))) low) same refl
+
+      pub offered_bests : (nth_production g p).rule < length bests → Offers (nth_production g p).rule c p queue queue' bests bests' → AreBests cost settled g queue' bests'
+      offered_bests within (declined low same kept) = subst (λ l. AreBests cost settled g l bests') (sym same) (subst (AreBests cost settled g queue) (sym kept) are)
+      offered_bests within (enqueued less into put) = subst (AreBests cost settled g queue') (sym put) (record {
+        rules = length-set bests (nth_production g p).rule c ∙ are.rules;
+        each = λ r inside low. elim (get_or-set bests (nth_production g p).rule r c 0) [
+          | inl e ↦ subst (HasAtMost cost settled g queue' r) (sym e) (more_at_most g cost settled (c, p) queue queue' into r _
+              (are.each r (subst (λ n. r < n) (length-set bests (nth_production g p).rule c) inside) (subst (λ n. n ≤ 65536) e low)))
+          | inr e ↦ subst (HasAtMost cost settled g queue' r) (sym e.1) (by_sum c p (top_in (c, p) queue queue' into) (sym e.0) (omega arith))
+        ];
+      })
 
     -- the productions from a number on are still to start
     pub start_more : (n p : ℕ) (queue queue' : List (ℕ × ℕ)) (waiting waiting' : List (List Partial)) → n < length g.productions → p ≡ n
@@ -99,9 +129,8 @@ module _ (cost : ℕ → ℕ) (settled : ℕ → Option ℕ) where
     )
       where
         go : (q : ℕ) → q < length g.productions → Phase cost settled g queue waiting moving q → Phase cost settled g queue waiting (λ p. ⊥) q
-        go q within (queued b h) = queued b h
+        go q within (past b s h) = past b s h
         go q within (held s y e h i) = held s y e h i
-        go q within (past b e f) = past b e f
         go q within (moved m) = absurd (none q within m)
 
     -- one more of those that waited has advanced

@@ -6,7 +6,7 @@ ghost use Rattle.std.specs.Prelude.{length, map, replicate, slice_index, slice_s
 ghost use Rattle.derivation.specs.Grammar.{IsGrammar};
 ghost use Rattle.derivation.specs.CostLists.{rule_cost};
 ghost use Rattle.cfgleast.specs.Certificate.{choice_of};
-ghost use Rattle.cfgleast.specs.Inner.Open.{AreAllOpen, AreInput, count_open};
+ghost use Rattle.cfgleast.specs.Inner.Open.{AreAllOpen, AreBests, AreInput, count_open};
 ghost use Rattle.cfgleast.specs.Inner.Open.{HasPopped};
 ghost use Rattle.cfgleast.specs.Settled.{AreSettledSoFar, AreSettled};
 
@@ -92,6 +92,7 @@ fn settle_next<S: Storage, T: Tables<S>>(
     costs: &[u8],
     settled: &mut Settled<S>,
     queue: &mut Queue,
+    bests: &mut [u32],
     waiting: &mut Waitlists,
     top: (u32, u32),
 ) -> Result<(), AllocError>
@@ -101,7 +102,7 @@ fn settle_next<S: Storage, T: Tables<S>>(
     requires chosen { AreSettledSoFar (T.grammar grm.now) (slice_index costs.now) settled.old.least.items
         (map (choice_of S.number) settled.old.choices.items) settled.old.number }
     requires popped { HasPopped (T.grammar grm.now) (slice_index costs.now) settled.old.least.items
-        top queue.old waiting.old }
+        top queue.old bests.old waiting.old }
     ensures input { OnOk result (AreInput (T.grammar grm.now) S.MAX costs.now settled.new.least.items) }
     ensures lists { OnOk result (length waiting.new ≡ (T.grammar grm.now).rules) }
     ensures chosen { OnOk result (AreSettledSoFar (T.grammar grm.now) (slice_index costs.now) settled.new.least.items
@@ -109,7 +110,10 @@ fn settle_next<S: Storage, T: Tables<S>>(
     ensures state { OnOk result (AreAllOpen (slice_index costs.now) (rule_cost settled.new.least.items)
         (T.grammar grm.now)
         queue.new waiting.new) }
-    ensures count { OnOk result (count_open queue.new waiting.new ≡ count_open queue.old waiting.old) }
+    ensures bests { OnOk result (AreBests (slice_index costs.now) (rule_cost settled.new.least.items)
+        (T.grammar grm.now)
+        queue.new bests.new) }
+    ensures count { OnOk result (count_open queue.new waiting.new ≤ count_open queue.old waiting.old) }
 {
     let (cost, index) = top;
     let p = PIdx(to_storage(index as usize));
@@ -119,7 +123,7 @@ fn settle_next<S: Storage, T: Tables<S>>(
     }
     settled.settle(rule, cost, p);
     let woken = waiting.take(rule);
-    wake(grm, costs, &settled.least, &woken, queue, waiting)
+    wake(grm, costs, &settled.least, &woken, queue, bests, waiting)
 }
 
 /// Settles the rule of the cheapest production, until no production is left whose rules are all settled.
@@ -132,6 +136,7 @@ fn settle_all<S: Storage, T: Tables<S>>(
     costs: &[u8],
     settled: &mut Settled<S>,
     queue: &mut Queue,
+    bests: &mut [u32],
     waiting: &mut Waitlists,
 ) -> Result<(), AllocError>
     requires costs { length costs.now ≡ (T.grammar grm.now).tokens }
@@ -139,15 +144,16 @@ fn settle_all<S: Storage, T: Tables<S>>(
     requires choices { map (choice_of S.number) settled.old.choices.items ≡ replicate (T.grammar grm.now).rules None }
     requires number { settled.old.number ≡ 0 }
     requires queue { queue.old ≡ [] }
+    requires bests { bests.old ≡ replicate (T.grammar grm.now).rules u32.MAX }
     requires waiting { waiting.old ≡ replicate (T.grammar grm.now).rules [] }
     ensures { OnOk result (AreSettled (T.grammar grm.now) (slice_index costs.now) settled.new.least.items
         (map (choice_of S.number) settled.new.choices.items) settled.new.number) }
 {
     grm.invariant_holds();
     let prods_len = grm.prods_len().0.to_usize();
-    start(grm, prods_len, costs, &settled.least, queue, waiting)?;
+    start(grm, prods_len, costs, &settled.least, queue, bests, waiting)?;
     while let Some(top) = queue.pop() {
-        settle_next(grm, costs, settled, queue, waiting, top)?;
+        settle_next(grm, costs, settled, queue, bests, waiting, top)?;
     }
     Ok(())
 }
@@ -169,7 +175,15 @@ pub fn settle<S: Storage, T: Tables<S>>(
     let rules_len = grm.rules_len().0.to_usize();
     let mut settled = Settled::new(alloc, rules_len)?;
     let mut queue = Queue::new(alloc);
+    let mut bests = vec![in alloc; u32::MAX; rules_len]?;
     let mut waiting = Waitlists::new(alloc, rules_len)?;
-    settle_all(grm, costs, &mut settled, &mut queue, &mut waiting)?;
+    settle_all(
+        grm,
+        costs,
+        &mut settled,
+        &mut queue,
+        &mut bests,
+        &mut waiting,
+    )?;
     Ok(settled)
 }

@@ -6,8 +6,8 @@ ghost use Rattle.derivation.specs.Grammar.{Rule};
 ghost use Rattle.cfgtables.specs.NumberedSymbols.{sym_of};
 ghost use Rattle.derivation.specs.CostLists.{IsListed, rule_cost};
 ghost use Rattle.cfgleast.specs.CutSums.{IsCutSum, StopsAt};
-ghost use Rattle.cfgleast.specs.Inner.Open.{AreInput, AreWaking, AreAllOpen, IsPartial, MovesOn};
-ghost use Rattle.cfgleast.specs.Inner.Open.{count_open};
+ghost use Rattle.cfgleast.specs.Inner.Open.{AreAllOpen, AreBests, AreInput, AreWaking, IsPartial};
+ghost use Rattle.cfgleast.specs.Inner.Open.{MovesOn, Offers, count_open};
 ghost use Rattle.derivation.specs.Sums.{symbol_cost};
 
 use crate::partial::{Partial, Waitlists};
@@ -79,7 +79,29 @@ pub fn walk<S: Storage>(
     Ok(sum)
 }
 
-/// Advances a production from what was summed: it enters the queue, or waits for a rule.
+/// Queues a production of the rule with its sum, unless an earlier one has at most this sum.
+///
+/// # Errors
+///
+/// Out of memory.
+fn offer(
+    rule: usize,
+    sum: u32,
+    production: u32,
+    queue: &mut Queue,
+    bests: &mut [u32],
+) -> Result<(), AllocError>
+    requires { rule < length bests.old }
+    ensures { OnOk result (Offers rule sum production queue.old queue.new bests.old bests.new) }
+{
+    if bests[rule] <= sum {
+        return Ok(());
+    }
+    bests[rule] = sum;
+    queue.push(sum, production)
+}
+
+/// Advances a production from what was summed: it is offered to its rule, or waits for a rule.
 ///
 /// # Errors
 ///
@@ -90,18 +112,26 @@ fn advance<S: Storage, T: Tables<S>>(
     least: &[Option<u32>],
     partial: Partial,
     queue: &mut Queue,
+    bests: &mut [u32],
     waiting: &mut Waitlists,
 ) -> Result<(), AllocError>
     requires input { AreInput (T.grammar grm.now) S.MAX costs.now least.now }
     requires lists { length waiting.old ≡ (T.grammar grm.now).rules }
+    requires bests { AreBests (slice_index costs.now) (rule_cost least.now) (T.grammar grm.now) queue.old bests.old }
     requires partial { IsPartial (slice_index costs.now) (rule_cost least.now) (T.grammar grm.now) partial }
-    ensures { OnOk result (MovesOn (slice_index costs.now) (rule_cost least.now) (T.grammar grm.now) partial.production
-        queue.old queue.new waiting.old waiting.new) }
+    ensures moves { OnOk result (MovesOn (slice_index costs.now) (rule_cost least.now) (T.grammar grm.now)
+        partial.production queue.old queue.new waiting.old waiting.new) }
+    ensures bests { OnOk result (AreBests (slice_index costs.now) (rule_cost least.now) (T.grammar grm.now)
+        queue.new bests.new) }
 {
     let production = partial.production;
-    let symbols = grm.prod(PIdx(to_storage(production as usize)));
+    let p = PIdx(to_storage(production as usize));
+    let symbols = grm.prod(p);
     match walk(costs, least, symbols, partial) {
-        Ok(sum) => queue.push(sum, production),
+        Ok(sum) => {
+            let rule = usize::from(grm.prod_to_rule(p));
+            offer(rule, sum, production, queue, bests)
+        }
         Err((rule, partial)) => waiting.push(rule, partial),
     }
 }
@@ -117,6 +147,7 @@ pub(crate) fn start<S: Storage, T: Tables<S>>(
     costs: &[u8],
     least: &[Option<u32>],
     queue: &mut Queue,
+    bests: &mut [u32],
     waiting: &mut Waitlists,
 ) -> Result<(), AllocError>
     requires input { AreInput (T.grammar grm.now) S.MAX costs.now least.now }
@@ -125,8 +156,11 @@ pub(crate) fn start<S: Storage, T: Tables<S>>(
     requires least { least.now ≡ replicate (T.grammar grm.now).rules None }
     requires queue { queue.old ≡ [] }
     requires waiting { waiting.old ≡ replicate (T.grammar grm.now).rules [] }
+    requires bests { AreBests (slice_index costs.now) (rule_cost least.now) (T.grammar grm.now) [] bests.old }
     ensures state { OnOk result (AreAllOpen (slice_index costs.now) (rule_cost least.now) (T.grammar grm.now)
         queue.new waiting.new) }
+    ensures bests { OnOk result (AreBests (slice_index costs.now) (rule_cost least.now) (T.grammar grm.now)
+        queue.new bests.new) }
     ensures lists { OnOk result (length waiting.new ≡ (T.grammar grm.now).rules) }
 {
     for number in 0..prods_len {
@@ -135,7 +169,7 @@ pub(crate) fn start<S: Storage, T: Tables<S>>(
             taken: 0,
             sum: 0,
         };
-        advance(grm, costs, least, partial, queue, waiting)?;
+        advance(grm, costs, least, partial, queue, bests, waiting)?;
     }
     Ok(())
 }
@@ -151,20 +185,24 @@ pub(crate) fn wake<S: Storage, T: Tables<S>>(
     least: &[Option<u32>],
     woken: &[Partial],
     queue: &mut Queue,
+    bests: &mut [u32],
     waiting: &mut Waitlists,
 ) -> Result<(), AllocError>
     requires input { AreInput (T.grammar grm.now) S.MAX costs.now least.now }
     requires lists { length waiting.old ≡ (T.grammar grm.now).rules }
     requires woken { AreWaking (slice_index costs.now) (rule_cost least.now) (T.grammar grm.now)
         queue.old waiting.old woken.now 0 }
+    requires bests { AreBests (slice_index costs.now) (rule_cost least.now) (T.grammar grm.now) queue.old bests.old }
     ensures state { OnOk result (AreAllOpen (slice_index costs.now) (rule_cost least.now) (T.grammar grm.now)
         queue.new waiting.new) }
     ensures lists { OnOk result (length waiting.new ≡ (T.grammar grm.now).rules) }
+    ensures bests { OnOk result (AreBests (slice_index costs.now) (rule_cost least.now) (T.grammar grm.now)
+        queue.new bests.new) }
     ensures count { OnOk result (count_open queue.new waiting.new
-        ≡ count_open queue.old waiting.old + length woken.now) }
+        ≤ count_open queue.old waiting.old + length woken.now) }
 {
     for partial in woken {
-        advance(grm, costs, least, *partial, queue, waiting)?;
+        advance(grm, costs, least, *partial, queue, bests, waiting)?;
     }
     Ok(())
 }

@@ -5,9 +5,9 @@ use Rattle.std.specs.List.{slice_index}
 use Rattle.cfgtables.specs.Openings.{nth_production}
 use Rattle.cfgleast.specs.Certificate.{choice_of}
 use Rattle.derivation.specs.CostLists.{rule_cost}
-use Rattle.cfgleast.specs.Inner.Open.{AreAllOpen, AreInput}
+use Rattle.cfgleast.specs.Inner.Open.{AreAllOpen, AreBests, AreInput}
 use Rattle.cfgleast.specs.Settled.{AreSettledSoFar}
-use Rattle.cfgleast.proofs.Settles.{popped_position, popped_again, settles_chosen, settles_woken, settled_if_some, unset_if_none, owner_within}
+use Rattle.cfgleast.proofs.Settles.{popped_position, popped_again, settles_chosen, settles_woken, popped_bests_again, settles_bests, settled_if_some, unset_if_none, owner_within}
 use Rattle.cfgleast.proofs.settle.settle_next.Given.{Over}
 use Rattle.cfgleast.proofs.settle.settle_next.Goals.{After-from-rule}
 use Rattle.cfgleast.proofs.settle.settle_next.Goals as goal
@@ -18,17 +18,17 @@ owner g c = c.from-rule.ensures ∙ c.prod_to_rule.ensures ∙ ap (λ n. (nth_pr
 rule_within : (g : Over) (c : After-from-rule g) → c.from-rule.result < (g.T.Tables.grammar c.args.grm.now).rules
 rule_within g c =
     let grammar = g.T.Tables.grammar c.args.grm.now in
-    let index = popped_position grammar (slice_index c.args.costs.now) c.args.settled.now.least.items c.args.top c.args.queue.now c.args.waiting.now c.requires.popped in
+    let index = popped_position grammar (slice_index c.args.costs.now) c.args.settled.now.least.items c.args.top c.args.queue.now c.args.bests.now c.args.waiting.now c.requires.popped in
     subst (λ n. n < grammar.rules) (sym (owner g c)) (owner_within grammar c.args.top.1 c.requires.input.grammar index)
 
 pub to_storage-requires : goal.to_storage-requires
 to_storage-requires g c =
-    let index = popped_position (g.T.Tables.grammar c.args.grm.now) (slice_index c.args.costs.now) c.args.settled.now.least.items c.args.top c.args.queue.now c.args.waiting.now c.requires.popped in
+    let index = popped_position (g.T.Tables.grammar c.args.grm.now) (slice_index c.args.costs.now) c.args.settled.now.least.items c.args.top c.args.queue.now c.args.bests.now c.args.waiting.now c.requires.popped in
     omega (arith, index, c.requires.input.positions)
 
 pub prod_to_rule-requires : goal.prod_to_rule-requires
 prod_to_rule-requires g c =
-    let index = popped_position (g.T.Tables.grammar c.args.grm.now) (slice_index c.args.costs.now) c.args.settled.now.least.items c.args.top c.args.queue.now c.args.waiting.now c.requires.popped in
+    let index = popped_position (g.T.Tables.grammar c.args.grm.now) (slice_index c.args.costs.now) c.args.settled.now.least.items c.args.top c.args.queue.now c.args.bests.now c.args.waiting.now c.requires.popped in
     subst (λ n. n < length (g.T.Tables.grammar c.args.grm.now).productions) (sym c.to_storage.ensures) index
 
 pub returns-then-is_some-clause-state : goal.returns-then-is_some-clause-state
@@ -38,7 +38,7 @@ returns-then-is_some-clause-state g c =
     let at = (goal.at.returns-then-is_some-clause-state g c).After-from-rule in
     let within : c.from-rule.result < length least = omega (arith, rule_within g at, c.requires.input.rules) in
     let done = settled_if_some least c.from-rule.result c.index.result.now within c.index.ensures (sym c.is_some.ensures ∙ c.if-is_some.true) in
-    popped_again grammar (slice_index c.args.costs.now) least c.args.top c.args.queue.now c.args.waiting.now c.requires.popped c.from-rule.result done.0 (sym (owner g at)) done.1
+    popped_again grammar (slice_index c.args.costs.now) least c.args.top c.args.queue.now c.args.bests.now c.args.waiting.now c.requires.popped c.from-rule.result done.0 (sym (owner g at)) done.1
 
 pub wake-requires-clause-woken : goal.wake-requires-clause-woken
 wake-requires-clause-woken g c =
@@ -48,7 +48,7 @@ wake-requires-clause-woken g c =
     let rule = rule_within g at in
     let within : c.from-rule.result < length least = omega (arith, rule, c.requires.input.rules) in
     let unset = unset_if_none least c.from-rule.result c.index.result.now within c.index.ensures (sym c.is_some.ensures ∙ c.if-is_some.false) in
-    settles_woken grammar (slice_index c.args.costs.now) least c.args.top c.args.queue.now c.args.waiting.now c.requires.popped
+    settles_woken grammar (slice_index c.args.costs.now) least c.args.top c.args.queue.now c.args.bests.now c.args.waiting.now c.requires.popped
     (map (choice_of g.S.Storage.number) c.args.settled.now.choices.items) c.args.settled.now.number c.from-rule.result c.requires.chosen rule unset (sym (owner g at))
     c.deref.result.now c.take-woken.new.self c.deref-2.result.now (c.deref.ensures.value ∙ c.settle.ensures.least) c.take-woken.ensures.rest
     (c.deref-2.ensures.value ∙ c.take-woken.ensures.list)
@@ -63,7 +63,7 @@ returns-clause-chosen g c =
     let within : c.from-rule.result < length least = omega (arith, rule, c.requires.input.rules) in
     let unset = unset_if_none least c.from-rule.result c.index.result.now within c.index.ensures (sym c.is_some.ensures ∙ c.if-is_some.false) in
     on_ok_weaker {Q = AreSettledSoFar grammar (slice_index c.args.costs.now) c.settle.new.self.least.items (map (choice_of g.S.Storage.number) c.settle.new.self.choices.items) c.settle.new.self.number}
-    c.wake.result (λ _. settles_chosen grammar (slice_index c.args.costs.now) least c.args.top c.args.queue.now c.args.waiting.now c.requires.popped
+    c.wake.result (λ _. settles_chosen grammar (slice_index c.args.costs.now) least c.args.top c.args.queue.now c.args.bests.now c.args.waiting.now c.requires.popped
     choices c.args.settled.now.number c.from-rule.result c.requires.chosen rule unset (sym (owner g at))
     c.settle.new.self.least.items (map (choice_of g.S.Storage.number) c.settle.new.self.choices.items) c.settle.new.self.number
     c.settle.ensures.least (c.settle.ensures.choices ∙ ap (λ (n : ℕ). slice_set choices c.from-rule.result (Some (n, c.args.settled.now.number))) c.to_storage.ensures)
@@ -125,5 +125,28 @@ returns-then-is_some-clause-input g c = c.requires.input
 pub returns-then-is_some-clause-chosen : goal.returns-then-is_some-clause-chosen
 returns-then-is_some-clause-chosen g c = c.requires.chosen
 
-pub returns-then-is_some-clause-count : goal.returns-then-is_some-clause-count
-returns-then-is_some-clause-count g c = refl
+pub returns-then-is_some-clause-bests : goal.returns-then-is_some-clause-bests
+returns-then-is_some-clause-bests g c =
+    let grammar = g.T.Tables.grammar c.args.grm.now in
+    let least = c.args.settled.now.least.items in
+    let at = (goal.at.returns-then-is_some-clause-bests g c).After-from-rule in
+    let within : c.from-rule.result < length least = omega (arith, rule_within g at, c.requires.input.rules) in
+    let done = settled_if_some least c.from-rule.result c.index.result.now within c.index.ensures (sym c.is_some.ensures ∙ c.if-is_some.true) in
+    popped_bests_again grammar (slice_index c.args.costs.now) least c.args.top c.args.queue.now c.args.bests.now c.args.waiting.now c.requires.popped c.from-rule.result done.0 (sym (owner g at)) done.1
+
+pub wake-requires-clause-bests : goal.wake-requires-clause-bests
+wake-requires-clause-bests g c =
+    let grammar = g.T.Tables.grammar c.args.grm.now in
+    let least = c.args.settled.now.least.items in
+    let at = (goal.at.wake-requires-clause-bests g c).After-from-rule in
+    let rule = rule_within g at in
+    let within : c.from-rule.result < length least = omega (arith, rule, c.requires.input.rules) in
+    let unset = unset_if_none least c.from-rule.result c.index.result.now within c.index.ensures (sym c.is_some.ensures ∙ c.if-is_some.false) in
+    settles_bests grammar (slice_index c.args.costs.now) least c.args.top c.args.queue.now c.args.bests.now c.args.waiting.now c.requires.popped
+    (map (choice_of g.S.Storage.number) c.args.settled.now.choices.items) c.args.settled.now.number c.from-rule.result c.requires.chosen rule unset (sym (owner g at))
+    c.deref.result.now (c.deref.ensures.value ∙ c.settle.ensures.least)
+
+pub returns-clause-bests : goal.returns-clause-bests
+returns-clause-bests g c =
+    subst (λ l. OnOk c.wake.result (AreBests (slice_index c.args.costs.now) (rule_cost l) (g.T.Tables.grammar c.args.grm.now) c.wake.new.queue c.wake.new.bests))
+    c.deref.ensures.value c.wake.ensures.bests

@@ -1,4 +1,4 @@
-use Rattle.std.proofs.Common.{◌<◌, ◌≤◌, All, List, length, map, take, arith, refl, sym, ap, subst, ◌∙◌}
+use Rattle.std.proofs.Common.{◌≡◌, ◌<◌, ◌≤◌, All, List, length, map, take, arith, refl, sym, ap, subst, ◌∙◌}
 use Rattle.std.proofs.lemmas.List.{length-map}
 use Rattle.std.proofs.lemmas.Result.{on_ok_weaker}
 use Rattle.std.specs.List.{slice_index}
@@ -7,21 +7,53 @@ use Rattle.cfgtables.specs.NumberedSymbols.{sym_of}
 use Rattle.cfgtables.specs.Openings.{nth_production}
 use Rattle.derivation.specs.CostLists.{IsListed, rule_cost}
 use Rattle.cfgleast.specs.CutSums.{IsCutSum, StopsAt}
-use Rattle.cfgleast.specs.Inner.Open.{MovesOn, enters, waits}
+use Rattle.cfgleast.specs.Inner.Open.{AreBests, MovesOn, Offers, waits}
 use Rattle.derivation.proofs.Listed.{symbols_listed}
-use Rattle.cfgleast.proofs.Walked.{stop_listed, stop_waits}
+use Rattle.cfgleast.proofs.Settles.{owner_within}
+use Rattle.cfgleast.proofs.Walked.{offered_bests, offered_moves, stop_listed, stop_waits}
+use Rattle.cfgleast.proofs.walk.advance.Given.{Over}
+use Rattle.cfgleast.proofs.walk.advance.Goals.{After-from-rule}
 use Rattle.cfgleast.proofs.walk.advance.Goals as goal
 
-pub returns-in-Ok : goal.returns-in-Ok
-returns-in-Ok g c =
-    let grammar = g.T.Tables.grammar c.args.grm.now in
-    let symbols = c.prod-symbols.ensures ∙ ap (λ n. (nth_production grammar n).symbols) c.to_storage.ensures in
-    on_ok_weaker {Q = MovesOn (slice_index c.args.costs.now) (rule_cost c.args.least.now) grammar c.args.partial.production c.args.queue.now c.push.new.self c.args.waiting.now c.args.waiting.now}
-    c.push.result (λ into. enters c.in-Ok.sum
-    (subst (λ (a : List Sym). IsCutSum (slice_index c.args.costs.now) (rule_cost c.args.least.now) a c.in-Ok.sum) symbols c.in-Ok.ensures.whole) into refl) c.push.ensures
+owner : (g : Over) (c : After-from-rule g) → c.from-rule.result ≡ (nth_production (g.T.Tables.grammar c.args.grm.now) c.args.partial.production).rule
+owner g c = c.from-rule.ensures ∙ c.prod_to_rule.ensures ∙ ap (λ n. (nth_production (g.T.Tables.grammar c.args.grm.now) n).rule) c.to_storage.ensures
 
-pub returns-in-Err : goal.returns-in-Err
-returns-in-Err g c =
+within : (g : Over) (c : After-from-rule g) → (nth_production (g.T.Tables.grammar c.args.grm.now) c.args.partial.production).rule < length c.args.bests.now
+within g c = subst (λ n. (nth_production (g.T.Tables.grammar c.args.grm.now) c.args.partial.production).rule < n) (sym c.requires.bests.rules)
+    (owner_within (g.T.Tables.grammar c.args.grm.now) c.args.partial.production c.requires.input.grammar c.requires.partial.index)
+
+pub offer-requires : goal.offer-requires
+offer-requires g c =
+    let at = (goal.at.offer-requires g c).After-from-rule in
+    subst (λ n. n < length c.args.bests.now) (sym (owner g at)) (within g at)
+
+whole : (g : Over) (c : After-from-rule g) → IsCutSum (slice_index c.args.costs.now) (rule_cost c.args.least.now)
+    (nth_production (g.T.Tables.grammar c.args.grm.now) c.args.partial.production).symbols c.in-Ok.sum
+whole g c = subst (λ (a : List Sym). IsCutSum (slice_index c.args.costs.now) (rule_cost c.args.least.now) a c.in-Ok.sum)
+    (c.prod-symbols.ensures ∙ ap (λ n. (nth_production (g.T.Tables.grammar c.args.grm.now) n).symbols) c.to_storage.ensures) c.in-Ok.ensures.whole
+
+pub returns-in-Ok-clause-moves : goal.returns-in-Ok-clause-moves
+returns-in-Ok-clause-moves g c =
+    let grammar = g.T.Tables.grammar c.args.grm.now in
+    let at = (goal.at.returns-in-Ok-clause-moves g c).After-from-rule in
+    let p = c.args.partial.production in
+    on_ok_weaker {Q = MovesOn (slice_index c.args.costs.now) (rule_cost c.args.least.now) grammar p c.args.queue.now c.offer.new.queue c.args.waiting.now c.args.waiting.now}
+    c.offer.result (λ (o : Offers c.from-rule.result c.in-Ok.sum p c.args.queue.now c.offer.new.queue c.args.bests.now c.offer.new.bests).
+    offered_moves (slice_index c.args.costs.now) (rule_cost c.args.least.now) grammar p c.in-Ok.sum (whole g at) _ _ _ _ c.requires.bests c.args.waiting.now (within g at)
+    (subst (λ n. Offers n c.in-Ok.sum p c.args.queue.now c.offer.new.queue c.args.bests.now c.offer.new.bests) (owner g at) o)) c.offer.ensures
+
+pub returns-in-Ok-clause-bests : goal.returns-in-Ok-clause-bests
+returns-in-Ok-clause-bests g c =
+    let grammar = g.T.Tables.grammar c.args.grm.now in
+    let at = (goal.at.returns-in-Ok-clause-bests g c).After-from-rule in
+    let p = c.args.partial.production in
+    on_ok_weaker {Q = AreBests (slice_index c.args.costs.now) (rule_cost c.args.least.now) grammar c.offer.new.queue c.offer.new.bests}
+    c.offer.result (λ (o : Offers c.from-rule.result c.in-Ok.sum p c.args.queue.now c.offer.new.queue c.args.bests.now c.offer.new.bests).
+    offered_bests (slice_index c.args.costs.now) (rule_cost c.args.least.now) grammar p c.in-Ok.sum (whole g at) _ _ _ _ c.requires.bests (within g at)
+    (subst (λ n. Offers n c.in-Ok.sum p c.args.queue.now c.offer.new.queue c.args.bests.now c.offer.new.bests) (owner g at) o)) c.offer.ensures
+
+pub returns-in-Err-clause-moves : goal.returns-in-Err-clause-moves
+returns-in-Err-clause-moves g c =
     let grammar = g.T.Tables.grammar c.args.grm.now in
     let symbols = c.prod-symbols.ensures ∙ ap (λ n. (nth_production grammar n).symbols) c.to_storage.ensures in
     let cost = slice_index c.args.costs.now in
@@ -30,9 +62,13 @@ returns-in-Err g c =
     let listed = symbols_listed grammar c.args.partial.production c.requires.input.grammar c.requires.partial.index in
     let within = subst (λ n. c.in-Err.rule < n) (sym c.requires.lists)
     (stop_listed cost settled grammar (nth_production grammar c.args.partial.production).symbols grammar.rules grammar.tokens c.in-Err.rule c.in-Err.partial listed stop) in
-    on_ok_weaker {Q = MovesOn cost settled grammar c.args.partial.production c.args.queue.now c.args.queue.now c.args.waiting.now c.push-in-Err.new.self}
-    c.push-in-Err.result (λ put. waits c.in-Err.rule c.in-Err.partial c.in-Err.ensures.same
-    (stop_waits cost settled grammar c.args.partial.production c.in-Err.rule c.in-Err.partial c.requires.partial.index c.in-Err.ensures.same stop) stop.unset within refl put) c.push-in-Err.ensures.ok
+    on_ok_weaker {Q = MovesOn cost settled grammar c.args.partial.production c.args.queue.now c.args.queue.now c.args.waiting.now c.push.new.self}
+    c.push.result (λ put. waits c.in-Err.rule c.in-Err.partial c.in-Err.ensures.same
+    (stop_waits cost settled grammar c.args.partial.production c.in-Err.rule c.in-Err.partial c.requires.partial.index c.in-Err.ensures.same stop) stop.unset within refl put) c.push.ensures.ok
+
+pub returns-in-Err-clause-bests : goal.returns-in-Err-clause-bests
+returns-in-Err-clause-bests g c = on_ok_weaker {Q = AreBests (slice_index c.args.costs.now) (rule_cost c.args.least.now) (g.T.Tables.grammar c.args.grm.now) c.args.queue.now c.args.bests.now}
+    c.push.result (λ put. c.requires.bests) c.push.ensures.ok
 
 pub to_storage-requires : goal.to_storage-requires
 to_storage-requires g c =
@@ -62,3 +98,6 @@ walk-requires-clause-sum g c =
     let grammar = g.T.Tables.grammar c.args.grm.now in
     let symbols = c.prod-symbols.ensures ∙ ap (λ n. (nth_production grammar n).symbols) c.to_storage.ensures in
     subst (λ (a : List Sym). IsCutSum (slice_index c.args.costs.now) (rule_cost c.args.least.now) (take c.args.partial.taken a) c.args.partial.sum) (sym symbols) c.requires.partial.sum
+
+pub prod_to_rule-requires : goal.prod_to_rule-requires
+prod_to_rule-requires g c = subst (λ n. n < length (g.T.Tables.grammar c.args.grm.now).productions) (sym c.to_storage.ensures) c.requires.partial.index

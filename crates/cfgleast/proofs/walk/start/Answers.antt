@@ -11,8 +11,9 @@ loop-number-preserved g c =
     let settled = rule_cost c.args.least.now in
     let within : c.loop-number.number < length grammar.productions = omega (arith, c.loop-number-test.true, c.requires.prods) in
     record {
-      state = start_more cost settled grammar c.loop-number.number _ _ _ _ _ within refl c.loop-number.invariant.state c.in_ok-advance.ensures;
-      lists = lists_moved cost settled grammar _ _ _ _ _ c.in_ok-advance.ensures ∙ c.loop-number.invariant.lists;
+      state = start_more cost settled grammar c.loop-number.number _ _ _ _ _ within refl c.loop-number.invariant.state c.in_ok-advance.ensures.moves;
+      bests = c.in_ok-advance.ensures.bests;
+      lists = lists_moved cost settled grammar _ _ _ _ _ c.in_ok-advance.ensures.moves ∙ c.loop-number.invariant.lists;
     }
 
 pub returns-clause-state : goal.returns-clause-state

@@ -11,12 +11,13 @@ loop-partial-preserved g c =
     let grammar = g.T.Tables.grammar c.args.grm.now in
     let cost = slice_index c.args.costs.now in
     let settled = rule_cost c.args.least.now in
-    let moves = c.in_ok-advance.ensures in
+    let moves = c.in_ok-advance.ensures.moves in
     let none : Partial = record { production = 0; taken = 0; sum = 0 } in
     let entry = get_or c.args.woken.now c.loop-partial.partial-index none in
     record {
       waking = wake_more cost settled grammar c.loop-partial.partial-index entry c.args.woken.now _ _ _ _ c.loop-partial-test.true
           (get_or_default c.args.woken.now c.loop-partial.partial-index none entry c.loop-partial-test.true) c.loop-partial.invariant.waking moves;
+      bests = c.in_ok-advance.ensures.bests;
       lists = lists_moved cost settled grammar _ _ _ _ _ moves ∙ c.loop-partial.invariant.lists;
       count = omega (arith, count_moved cost settled grammar _ _ _ _ _ moves, c.loop-partial.invariant.count);
     }
