@@ -8,8 +8,8 @@ no tool can set back, all 0 if there is no such file; the length of the entry; w
 folder, and so are shorter; the path, and zeros. The first path is that of the command rt. If PATH leads to a command
 rt, that has to be the same file.
 
-Each call of a built program looks at its 2,600 sources by this. A look takes a microsecond or less, so the 200 with
-which a C library begins would count. So there is none; what is needed of Linux on x86-64 is declared here. */
+Each call of a built program looks at its 2,600 sources by this. A look takes a microsecond or so, and a C library would
+begin with 200. So there is none; what is needed of Linux on x86-64 is declared here. */
 
 typedef unsigned long long number;
 struct moment { long long seconds, nanoseconds; };

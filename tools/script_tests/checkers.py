@@ -323,7 +323,8 @@ def test_help(room):
 
     with ThreadPoolExecutor(4) as lanes:
         for argument in ("-h", "--help"):
-            for found in lanes.map(lambda it: ends(it, argument), [*tools, ".ci/run", "bin/cfgtool", "bin/install", "bin/try"]):
+            scripts = [".ci/run", "bin/cfgtool", "bin/install", "bin/try"]
+            for found in lanes.map(lambda it: ends(it, argument), [*tools, *scripts]):
                 assert found[1:] == (0, True, False), f"{argument}: {found}"
         for found in lanes.map(lambda it: ends(it, "--nosuch"), tools):
             assert found[1:] == (2, False, True), f"--nosuch: {found}"
