@@ -1,0 +1,194 @@
+"""The pages of definitions: one for each file, the types that no path of users leads to, and what is built in."""
+import glob
+import re
+
+from . import code
+from .antt import Definition
+from .item_pages import rendered_line
+from .markdown import escape, first_sentence
+from .rust import Scope
+from .site import Page, in_repository
+from .sources import KIT, shown
+
+BUILT_IN = {
+    "ℕ": "The natural numbers, of any size.", "zero": "0.", "suc": "One more than a number.", "pred": "One less than a number; 0 of 0.",
+    "◌+◌": "The sum of two natural numbers.", "◌-◌": "The difference of two natural numbers; 0 if the second is larger.",
+    "◌*◌": "The product of two natural numbers.", "◌/◌": "The quotient of two natural numbers, rounded down.",
+    "◌%◌": "The remainder of a division of natural numbers.", "◌^◌": "The power of a natural number.",
+    "◌<◌": "The first number is less than the second.", "◌≤◌": "The first number is at most the second.",
+    "min": "The lesser of two numbers.", "max": "The greater of two numbers.",
+}
+
+
+class DefinitionPages:
+    """Makes the pages of all definitions that are reached."""
+
+    def __init__(self, site, items):
+        self.site, self.items, self.reference = site, items, site.reference
+        self.by_module, self.cited_by = {}, {}
+        for it in self.reference.definitions:
+            self.by_module.setdefault(it.module, []).append(it)
+        self.reached = set(self.reference.definitions)
+        self.find_cited()
+
+    def find_cited(self):
+        """Which public items, and which definitions, cite each definition."""
+        for owner, clause in self.reference.clauses:
+            above = self.place(owner)
+            for it in clause.cites.values():
+                if above is not None and isinstance(it, Definition):
+                    self.cited_by.setdefault(it.whole, {})[above] = None
+        for one in self.reference.definitions:
+            for it in one.cites.values():
+                if isinstance(it, Definition) and it.whole is not one:
+                    self.cited_by.setdefault(it.whole, {})[one] = None
+
+    def place(self, owner):
+        """What to show for the owner of a clause: a method or an item that has a page."""
+        if owner in self.site.anchors or owner in self.reference.owners:
+            return self.reference.owners.get(owner, owner)
+        return getattr(owner, "of", None) or getattr(getattr(owner, "owner", None), "of", None)
+
+    def title(self, module):
+        return re.sub(r"^Rattle\.", "", module.path).replace(".specs.", ".")
+
+    def module(self, module, definitions):
+        """Writes the page of a file of definitions."""
+        page = Page(self.site, self.site.definitions_file(module))
+        definitions = sorted(definitions, key=lambda it: it.first)
+        is_ours = in_repository(definitions[0])
+        where = f"<code>{escape(shown(module.file))}</code>" + ("" if is_ours else " of the Rattle kit")
+        head = f"<p>{rendered_line(module.comment)}</p>" if is_ours else ""
+        note = "" if is_ours else '<p class="note">Only what the definitions of this reference use is here.</p>'
+        made = [f'<p class="path">{where}</p><h1>{escape(self.title(module))} <span class="kind">definitions</span></h1>', head, note]
+        made += [self.definition(page, it) for it in definitions]
+        side = "".join(f'<li><a href="{page.local(self.site.address(it))}">{escape(it.name)}</a></li>' for it in definitions)
+        page.write(f"{self.title(module)}: definitions", "\n".join(made), f"<h4>Definitions</h4><ul>{side}</ul>")
+
+    def linker(self, page, definition):
+        def link(at):
+            found = definition.cites.get(at)
+            if isinstance(found, Definition) and found.whole not in self.reached or found is None:
+                return None
+            address = page.href(found)
+            return (address, self.site.says(found)) if address else None
+        return link
+
+    def definition(self, page, definition):
+        """A definition: its comment, its text, and what cites it."""
+        mark = escape(definition.name)
+        address = self.site.address(definition)
+        self.site.enter(definition.name, "definition" if in_repository(definition) else "of the kit", self.title(definition.module), address,
+                        definition.comment)
+        text = code.shown(definition.module.source, definition.first, definition.last, self.linker(page, definition))
+        members = "".join(f'<span id="{mark}.{escape(it.name)}"></span>' for it in definition.members)
+        comment = f"<p>{rendered_line(definition.comment)}</p>" if definition.comment else ""
+        title = f'<h3><a class="self" href="{page.local(address)}">{mark}</a></h3>'
+        laws = self.items.laws_about(page, [definition]) if in_repository(definition) else ""
+        return (f'<section class="definition" id="{mark}">{title}{members}{comment}<pre><code>{text}</code></pre>'
+                f"{laws}{self.users(page, definition)}</section>")
+
+    def users(self, page, definition):
+        """What cites a definition of the repository."""
+        found = [it for it in self.cited_by.get(definition, {}) if not isinstance(it, Definition)] if in_repository(definition) else []
+        found = [it for it in found if not self.items.is_law(it)]
+        above = [it for it in self.cited_by.get(definition, {}) if isinstance(it, Definition)] if in_repository(definition) else []
+        made = ""
+        for title, group in (("Contracts that name it", found), ("Definitions that name it", above)):
+            links = ", ".join(page.link(it, self.full_name(it)) for it in group)
+            made += f"<details><summary>{title} ({len(group)})</summary><p>{links}</p></details>" if group else ""
+        return made
+
+    def full_name(self, it):
+        owner = getattr(it, "owner", None)
+        above = getattr(owner, "of", None) or (owner if getattr(owner, "path", None) else None)
+        return f"{above.path.rpartition('::')[2]}::{it.name}" if above and not isinstance(it, Definition) else it.name
+
+    # ------------------------------------------------------------ types that no path leads to
+
+    def private_types(self):
+        """Writes the pages of types that clauses name, and that users can't."""
+        done = set()
+        while set(self.site.private_types) - done:
+            pending = sorted(set(self.site.private_types) - done, key=lambda it: (it.scope.crate, it.name))
+            done |= set(pending)
+            self.type_bodies = {**getattr(self, "type_bodies", {}), **{it: None for it in pending}}
+            for it in pending:
+                page = Page(self.site, self.site.private_types[it])
+                self.type_bodies[it] = self.private_type(page, it)
+        by_file = {}
+        for it, body in getattr(self, "type_bodies", {}).items():
+            by_file.setdefault(self.site.private_types[it], []).append((it, body))
+        for file, found in by_file.items():
+            page, crate = Page(self.site, file), found[0][0].scope.crate
+            head = f'<h1>Types of {escape(crate)} <span class="kind">definitions</span></h1><p class="note">Clauses name these types of the crate; users can\'t.</p>'
+            side = "".join(f'<li><a href="#{escape(it.name)}">{escape(it.name)}</a></li>' for it, _ in found)
+            page.write(f"Types of {crate}", head + "\n".join(body for _, body in found), f"<h4>Types</h4><ul>{side}</ul>")
+
+    def private_type(self, page, item):
+        text = code.shown(item.source, item.first, item.last, self.items.linker(page, item))
+        self.site.enter(item.name, "definition", f"types of {item.scope.crate}", self.site.address(item), item.doc)
+        return (f'<section class="definition" id="{escape(item.name)}"><h3>{escape(item.name)}</h3><p>{rendered_line(item.doc)}</p>'
+                f"<pre><code>{text}</code></pre></section>")
+
+    # ------------------------------------------------------------ types of std, and what is built in
+
+    def kit_types(self):
+        """Writes the page of the kit's types, as its sources declare them."""
+        page = Page(self.site, "definitions/types-of-std.html")
+        made, names = [], sorted(self.site.kit_types)
+        for name in names:
+            made.append(self.kit_type(self.site.kit_types[name]))
+        side = "".join(f'<li><a href="#{escape(it)}">{escape(it)}</a></li>' for it in names)
+        head = '<h1>Types of std <span class="kind">definitions</span></h1><p class="note">As the sources of the Rattle kit declare them.</p>'
+        page.write("Types of std", head + "\n".join(made), f"<h4>Types</h4><ul>{side}</ul>")
+
+    def kit_type(self, it):
+        found = self.declaration(it)
+        if not found:
+            raise SystemExit(f"reference: the kit's sources don't declare {it}")
+        file, item = found
+        self.site.enter(it.type_name, "of the kit", "types of std", f"definitions/types-of-std.html#{it.type_name}", item.doc)
+        last = item.head[1] if item.kind == "trait" else item.last
+        text = code.shown(item.source, item.first, last, lambda at: None)
+        return (f'<section class="definition" id="{escape(it.type_name)}"><h3>{escape(it.type_name)}</h3>'
+                f'<p class="path">{escape(shown(file))}</p><p>{rendered_line(first_sentence(item.doc))}</p><pre><code>{text}</code></pre></section>')
+
+    def declaration(self, it):
+        """The file and the item that declare a type of the kit."""
+        crates = dict.fromkeys([it.crate, "core", "std_alloc", "std_collections", "std_heap", "std_io", "std"])
+        wanted = re.compile(rf"^\s*pub (?:\w+ )*(?:struct|enum|trait|type|union) {it.type_name}\b", re.M)
+        files = [file for crate in crates for file in sorted(glob.glob(f"{KIT}/rattle/{crate}/src/**/*.rt", recursive=True))]
+        near = [file for file in files if it.folders and re.search(rf"/{it.folders[0]}(/|\.rt)", file)]
+        for file in dict.fromkeys(near + files):
+            with open(file, encoding="utf-8") as text:
+                if wanted.search(text.read()):
+                    items = Scope("", (), file).items.get(it.type_name)
+                    if items:
+                        return file, items[0]
+        return None
+
+    def built_in(self):
+        """Writes the page of the names that are part of the logic."""
+        page = Page(self.site, "definitions/built-in.html")
+        rows = []
+        for name in sorted(self.site.builtins):
+            self.site.enter(name, "of the kit", "built in", self.site.address(self.site.builtins[name]), BUILT_IN.get(name, ""))
+            rows.append(f'<dt id="{escape(name)}">{escape(name)}</dt><dd>{BUILT_IN.get(name, "A name of the logic.")}</dd>')
+        page.write("Built in", f'<h1>Built in <span class="kind">definitions</span></h1><p class="note">Names of the logic itself.</p>'
+                   f'<dl class="list">{"".join(rows)}</dl>', "")
+
+    def write(self):
+        """Writes all pages of definitions."""
+        for module, found in self.by_module.items():
+            self.module(module, found)
+        self.private_types()
+        self.built_in()
+        self.kit_types()
+
+    def listed(self, page):
+        """The files of definitions, for the index."""
+        ours = sorted((it for it in self.by_module if in_repository(self.by_module[it][0])), key=self.title)
+        rows = "".join(f'<dt><a href="{page.root}{self.site.definitions_file(it)}">{escape(self.title(it))}</a></dt>'
+                       f"<dd>{rendered_line(first_sentence(it.comment))}</dd>" for it in ours)
+        return f'<dl class="list">{rows}</dl>'

@@ -1,0 +1,373 @@
+"""The pages of modules and of items: their signatures, doc comments, clauses, laws and examples."""
+from . import code
+from .antt import Definition
+from .markdown import escape, first_sentence, inline, rendered
+from .rust import Item, surface
+from .site import Page, in_repository
+
+KIND_NAMES = {"fn": "function", "type": "type", "struct": "struct", "enum": "enum", "trait": "trait", "const": "constant"}
+GROUPS = [("struct", "Structs"), ("enum", "Enums"), ("trait", "Traits"), ("type", "Types"), ("const", "Constants"), ("fn", "Functions")]
+# a definition that more laws cite than this is about all of them
+MANY_LAWS = 9
+
+
+class ItemPages:
+    """Makes the pages of all public modules and items."""
+
+    def __init__(self, site, examples):
+        self.site, self.reference, self.examples = site, site.reference, examples
+        self.variants = self.unique_variants()
+        self.laws = [it for it in self.reference.items if self.is_law(it)]
+        self.laws_of = self.laws_by_cited()
+
+    def is_law(self, item):
+        return item.kind == "fn" and any("laws" in path.split("::") for path in (item.path or "", *item.other_paths))
+
+    def unique_variants(self):
+        """The variants whose names no other variant has."""
+        found = {}
+        for item in self.reference.items:
+            for it in self.reference.parts(item):
+                if it.kind == "variant":
+                    found.setdefault(it.name, []).append(it)
+        return {name: it[0] for name, it in found.items() if len(it) == 1}
+
+    def laws_by_cited(self):
+        """The laws that cite each definition or type."""
+        found = {}
+        for law in self.laws:
+            for clause in law.clauses:
+                for it in self.cited(law, clause):
+                    laws = found.setdefault(it, [])
+                    if law not in laws:
+                        laws.append(law)
+        return found
+
+    def cited(self, owner, clause):
+        """The definitions and the public types that a clause names."""
+        for it in clause.cites.values():
+            if isinstance(it, Definition):
+                yield it.whole
+            elif isinstance(it, Item) and self.reference.page_of(it):
+                yield self.reference.page_of(it)
+        for at in range(clause.first, clause.last):
+            token = owner.source.tokens[at]
+            found = self.rust_name(owner, at) if token.kind == "Code" else None
+            if found:
+                yield found
+
+    # ------------------------------------------------------------ names
+
+    def rust_name(self, owner, at):
+        """The public type that a name in Rust's code means, or None."""
+        token = owner.source.tokens[at]
+        if token.kind not in ("Code", "Head") or not token.text[:1].isupper() or token.text in owner.parameters:
+            return None
+        if owner.owner is not None and token.text in owner.owner.parameters:
+            return None
+        before = owner.source.tokens[at - 2].text if owner.source.tokens[at - 1].text == "::" else None
+        words = [before, token.text] if before and before[0].islower() else [token.text]
+        for it in self.reference.crates.resolve(owner.scope, words):
+            found = self.reference.page_of(it) if isinstance(it, Item) else None
+            if found:
+                return found
+        return None
+
+    def linker(self, page, owner, cites=()):
+        """What a token of code leads to: its address and a title."""
+        def link(at):
+            found = cites[at] if at in cites else self.rust_name(owner, at)
+            address = page.href(found) if found is not None else None
+            return (address, self.site.says(found)) if address else None
+        return link
+
+    def words(self, page, item):
+        """What a name or a path in a doc comment leads to."""
+        def link(name, is_link):
+            if name.startswith(("http:", "https:", "#")):
+                return name
+            found = self.named(item, name.replace("()", ""), is_link)
+            address = page.href(found) if found is not None else None
+            is_known = address or not is_link or self.reference.crates.resolve(item.scope, name.split("::"))
+            if not is_known and name.replace("::", "").isidentifier():
+                self.site.broken.append(f"{page.file}: the doc comment's link {name} leads nowhere")
+            return address
+        return link
+
+    def named(self, item, name, is_link):
+        """What a name or a path in the doc comment of something means."""
+        parts = name.split("::")
+        if not is_link and (len(parts) == 1 and not name[:1].isupper() or not all(it.isidentifier() for it in parts)):
+            return None
+        owner = self.reference.page_of(item) or (self.reference.page_of(item.owner) if getattr(item, "owner", None) else None)
+        above = getattr(getattr(item, "owner", None), "of", None)
+        if parts[0] == "Self" and (above or owner):
+            return self.part_of(above or owner, parts[1:])
+        for count in range(len(parts), 0, -1):
+            for it in self.reference.crates.resolve(item.scope, parts[:count]):
+                found = self.reference.page_of(it) if isinstance(it, Item) else None
+                if found:
+                    return it if count == len(parts) and it.kind == "variant" else self.part_of(found, parts[count:])
+        return self.variants.get(name)
+
+    def part_of(self, item, names):
+        """A method, a variant or a field of an item, or itself."""
+        if not names:
+            return item
+        parts = self.reference.methods(item) + self.reference.parts(item)
+        if item.target in self.reference.owners:
+            parts += self.reference.methods(item.target) + self.reference.parts(item.target)
+        return next((it for it in parts if it.name == names[0]), None)
+
+    # ------------------------------------------------------------ parts of pages
+
+    def doc(self, page, item, level=4):
+        shown = self.reference.shown(item) if item.kind == "type" and not item.doc else item
+        return rendered(shown.doc, self.words(page, item), level)
+
+    def head(self, page, item):
+        first, last = item.head
+        return f'<pre><code>{code.shown(item.source, first, last, self.linker(page, item))}</code></pre>'
+
+    def clauses(self, page, owner, clauses, place):
+        """Clauses as code, each with its name, and what the definitions that they name say."""
+        made = []
+        for keyword, title in (("requires", "Requires"), ("ensures", "Ensures")):
+            group = [it for it in clauses if it.keyword == keyword]
+            if group:
+                made.append(f"<h4>{title}</h4>" + "".join(self.clause(page, owner, it, place) for it in group))
+        return "".join(made) + self.terms(page, owner, clauses)
+
+    def clause(self, page, owner, clause, place):
+        text = code.shown(owner.source, clause.first, clause.last, self.linker(page, owner, clause.cites), self.indent(owner, clause))
+        mark = f' id="{escape(place)}.{escape(clause.name)}"' if clause.name else ""
+        name = f'<span class="name">{escape(clause.name)}</span>' if clause.name else ""
+        return f'<div class="clause"{mark}>{name}<pre><code>{text}</code></pre></div>'
+
+    def indent(self, owner, clause):
+        """The indentation of a clause's first line."""
+        at = owner.source.data.rfind(b"\n", 0, owner.source.tokens[clause.first].start) + 1
+        line = owner.source.text(at, owner.source.tokens[clause.first].start)
+        return len(line) - len(line.lstrip()) + 4
+
+    def terms(self, page, owner, clauses):
+        """The definitions of the repository that clauses name, with what is said of each."""
+        found = dict.fromkeys(it for clause in clauses for it in clause.cites.values() if isinstance(it, Definition))
+        rows = [it for it in found if in_repository(it) and it.comment]
+        made = "".join(f"<div>{page.link(it)} {rendered_line(it.comment)}</div>" for it in rows)
+        return f'<div class="terms">{made}</div>' if made else ""
+
+    def errors(self, page, item):
+        """The variants of the error that a call returns, if it is an enum of this reference."""
+        words = item.words()
+        words = words[words.index("->") + 1:] if "->" in words else []
+        for name in reversed([it for it in words if it[:1].isupper()]):
+            for it in self.reference.crates.resolve(item.scope, [name]):
+                found = self.error_type(it) if isinstance(it, Item) else None
+                if found:
+                    return self.error_line(page, found)
+        return ""
+
+    def error_type(self, item):
+        """The enum of errors that a type means: itself, or what is in an alias of `Result`."""
+        if item.kind == "type" and "Result" in item.words():
+            for name in reversed(surface.split(item.words(), "=")[-1]):
+                for it in self.reference.crates.resolve(item.scope, [name]) if name[:1].isupper() else []:
+                    if isinstance(it, Item) and it.kind == "enum":
+                        return it
+        is_error = item.kind == "enum" and item.name.endswith(("Fault", "Error"))
+        return item if is_error else None
+
+    def error_line(self, page, item):
+        variants = ", ".join(self.variant_of_error(page, it) for it in item.members if it.kind == "variant")
+        return f'<p class="note">The error is a {page.link(item)}: {variants}.</p>'
+
+    def variant_of_error(self, page, variant):
+        """A variant of an error, and the types that it holds."""
+        held = [self.rust_name(variant, at) for at in range(variant.first + 1, variant.last)]
+        held = [page.link(it) for it in dict.fromkeys(held) if it]
+        kinds = [f", whose kinds are {page.link(it)}" for it in self.kinds_in(variant)]
+        return page.link(variant) + (f" (of {', '.join(held)}{''.join(kinds)})" if held else "")
+
+    def kinds_in(self, variant):
+        """The enums of kinds beside the errors that a variant holds."""
+        for at in range(variant.first + 1, variant.last):
+            found = self.rust_name(variant, at)
+            if found:
+                yield from (it for it in self.reference.items if it.name == f"{found.name}Kind" and it.kind == "enum")
+
+    def laws_about(self, page, cited):
+        """The laws that cite one of these, if not many do."""
+        laws = [law for it in cited if len(self.laws_of.get(it, [])) <= MANY_LAWS for law in self.laws_of.get(it, [])]
+        rows = [f"<li>{page.link(it)} {escape(first_sentence(it.doc))}</li>" for it in dict.fromkeys(laws)]
+        return f"<details><summary>Laws ({len(rows)})</summary><ul>{''.join(rows)}</ul></details>" if rows else ""
+
+    def around(self, owner, clauses):
+        """What clauses cite, and what these definitions are made of."""
+        near = [it for clause in clauses for it in self.cited(owner, clause)]
+        below = [it.whole for one in near if isinstance(one, Definition) and in_repository(one)
+                 for it in one.cites.values() if isinstance(it, Definition)]
+        return [it for it in dict.fromkeys(near + below) if not isinstance(it, Definition) or in_repository(it)]
+
+    def examples_of(self, item):
+        """The guide's examples that use this."""
+        made = []
+        for it in self.examples:
+            if item in it.calls:
+                result = f"<pre><code>{escape(it.result)}</code></pre>" if it.result else ""
+                title = f"Example of the guide: {escape(it.heading)}"
+                made.append(f"<details><summary>{title}</summary><pre><code>{escape(it.code)}</code></pre>{result}</details>")
+        return "".join(made)
+
+    # ------------------------------------------------------------ a call
+
+    def call(self, page, method, place):
+        """A method or a function: its signature, and all that is said of it."""
+        laws = self.laws_about(page, self.around(method, method.clauses)) if not self.is_law(method) else ""
+        parts = [self.head(page, method), self.doc(page, method), self.errors(page, method),
+                 self.clauses(page, method, method.clauses, place), self.examples_of(method), laws]
+        return "\n".join(it for it in parts if it)
+
+    def method(self, page, item, method):
+        place = self.site.anchors[method].partition("#")[2]
+        self.site.enter(method.name, "method" if method.kind == "fn" else method.kind, item.path, self.site.anchors[method], method.doc)
+        title = f'<h3><a class="self" href="#{escape(place)}">{escape(method.name)}</a></h3>'
+        return f'<section class="call" id="{escape(place)}">{title}{self.call(page, method, place)}</section>'
+
+    # ------------------------------------------------------------ a type
+
+    def parts(self, page, item):
+        """The fields or the variants of a type."""
+        found, made = self.reference.parts(item), []
+        for it in found:
+            place = self.site.anchors[it].partition("#")[2]
+            self.site.enter(it.name, f"{it.kind} of", item.path, self.site.anchors[it], it.doc) if not it.name.isdigit() else None
+            head = code.shown(it.source, it.first, it.last, self.linker(page, it)) if it.kind == "field" or it.members else escape(it.name)
+            docs = self.doc(page, it) + "".join(f"<p><code>{escape(part.name)}</code>: {escape(part.doc)}</p>" for part in it.members if part.doc)
+            made.append(f'<dt id="{escape(place)}">{head}</dt><dd>{docs}</dd>')
+        title = "Variants" if found and found[0].kind == "variant" else "Fields"
+        return f'<h2 id="parts">{title}</h2><dl class="list">{"".join(made)}</dl>' if made else ""
+
+    def ghosts(self, page, owner, clauses):
+        """Ghost items as code."""
+        made = []
+        for it in clauses:
+            text = code.shown(owner.source, it.first, it.last, self.linker(page, owner, it.cites), self.indent(owner, it))
+            says = f"<p>{rendered_line(it.doc)}</p>" if getattr(it, "doc", "") else ""
+            made.append(f'<div class="clause"><span class="name">{escape(it.name)}</span><pre><code>{text}</code></pre>{says}</div>')
+        return "".join(made) + self.terms(page, owner, clauses)
+
+    def seen(self, page, item):
+        """How clauses see a value of a type."""
+        shown = self.reference.shown(item)
+        models = [it for it in self.reference.trait_impls(item) if "Model" in it.trait]
+        groups = [(it, it.ghosts) for it in models if it.ghosts] + ([(shown, shown.ghosts)] if shown.ghosts else [])
+        made = "".join(self.ghosts(page, owner, clauses) for owner, clauses in groups)
+        says = "What clauses name of this." if item.kind == "trait" else \
+            "A clause names a value <code>x</code> of this type as <code>x.now</code>, which is what <code>view</code> gives."
+        says = says if models or item.kind == "trait" else "What clauses name of a value of this type."
+        return f'<h2 id="clauses">In clauses</h2><p class="note">{says}</p>{made}' if made else ""
+
+    def traits(self, page, item):
+        """The traits of a type, derived and written; or the types of a trait."""
+        shown = self.reference.shown(item)
+        made = []
+        if shown.derives:
+            made.append(f"<p>Derived: {', '.join(f'<code>{escape(it)}</code>' for it in shown.derives)}</p>")
+        impls = [it for it in self.reference.trait_impls(item) if "Model" not in it.trait] + getattr(item, "implemented", [])
+        for it in impls:
+            head = code.shown(it.source, it.first, it.head[1], self.linker(page, it))
+            inside = self.ghosts(page, it, it.ghosts) if it.ghosts else ""
+            for method in it.members:
+                if method.clauses:
+                    inside += self.head(page, method) + self.clauses(page, method, method.clauses, f"{it.self_type[0]}.{method.name}")
+            made.append(f"<details><summary><code>{head}</code></summary>{inside}</details>" if inside else f"<p><code>{head}</code></p>")
+        return f'<h2 id="traits">Traits</h2>{"".join(made)}' if made else ""
+
+    # ------------------------------------------------------------ pages
+
+    def crumbs(self, page, path):
+        """The modules above, as links."""
+        made = []
+        for count in range(1, len(path)):
+            found = self.reference.by_path.get(tuple(path[:count]))
+            made.append(f'<a href="{page.href(found)}">{escape(path[count - 1])}</a>::')
+        return f'<p class="path">{"".join(made)}</p>' if made else ""
+
+    def item(self, item):
+        """Writes the page of an item."""
+        page = Page(self.site, self.site.file_of(item))
+        path = item.path.split("::")
+        kind = "law" if self.is_law(item) else KIND_NAMES[item.kind]
+        self.site.enter(item.name, kind if kind != "function" else "fn", "::".join(path[:-1]), page.file, item.doc or self.reference.shown(item).doc)
+        also = f'<p class="also">Also {", ".join(f"<code>{escape(it)}</code>" for it in item.other_paths)}</p>' if item.other_paths else ""
+        body = [self.crumbs(page, path), f'<h1>{escape(path[-1])} <span class="kind">{kind}</span></h1>', also]
+        if item.kind == "fn":
+            body.append(f'<div id="{escape(item.name)}">{self.call(page, item, item.name)}</div>')
+        else:
+            body += self.type_parts(page, item)
+        page.write(f"{path[-1]} in {'::'.join(path[:-1])}", "\n".join(it for it in body if it), self.side(page, item))
+
+    def type_parts(self, page, item):
+        shown, methods = self.reference.shown(item), self.reference.methods(item)
+        calls = "\n".join(self.method(page, item, it) for it in methods)
+        title = "Required and provided" if item.kind == "trait" else "Calls"
+        laws = self.laws_about(page, [item, *self.around_type(item)])
+        return [self.head(page, item), self.doc(page, item), self.target(page, item), self.examples_of(item),
+                self.parts(page, item), f'<h2 id="calls">{title}</h2>{calls}' if calls else "",
+                self.seen(page, item), self.traits(page, item), f'<h2 id="laws">Laws</h2>{laws}' if laws else ""]
+
+    def target(self, page, item):
+        """What an alias means, if that has a page of its own."""
+        owner = self.reference.owners.get(item.target)
+        return f'<p>Its calls are those of {page.link(owner)}.</p>' if owner and owner is not item else ""
+
+    def around_type(self, item):
+        """The definitions of which a type's values are, as clauses see them."""
+        for impl in self.reference.trait_impls(item):
+            for clause in impl.ghosts if "Model" in impl.trait else []:
+                if clause.name == "Value":
+                    yield from (it for it in self.cited(impl, clause) if isinstance(it, Definition) and in_repository(it))
+
+    def side(self, page, item):
+        """The list beside a page: what is on it, and what is beside it in its module."""
+        module = self.reference.by_path[tuple(item.path.split("::")[:-1])]
+        calls = [f'<li><a href="{page.local(self.site.anchors[it])}">{escape(it.name)}</a></li>' for it in self.reference.methods(item)]
+        beside = [f'<li><a href="{page.href(it)}">{escape(name)}</a></li>' for name, it in module.items]
+        made = f"<h4>Calls</h4><ul>{''.join(calls)}</ul>" if calls else ""
+        return f"{made}<h4>{escape('::'.join(module.path))}</h4><ul>{''.join(beside)}</ul>"
+
+    def module(self, module):
+        """Writes the page of a module."""
+        page = Page(self.site, self.site.file_of(module))
+        self.site.enter(module.path[-1], "module", "::".join(module.path[:-1]), page.file, module.doc)
+        body = [self.crumbs(page, module.path), f'<h1>{escape(module.path[-1])} <span class="kind">module</span></h1>',
+                rendered(module.doc, self.words(page, _Place(module.scope)), 3), self.listed(page, module)]
+        side = "".join(f'<li><a href="{page.href(it)}">{escape("::".join(it.path))}</a></li>' for it in self.reference.modules)
+        page.write("::".join(module.path), "\n".join(body), f"<h4>Modules</h4><ul>{side}</ul>")
+
+    def listed(self, page, module, level=2):
+        """What is in a module."""
+        made = []
+        if module.modules:
+            rows = "".join(f"<dt>{page.link(it, it.path[-1])}</dt><dd>{rendered_line(first_sentence(it.doc))}</dd>" for it in module.modules)
+            made.append(f"<h{level}>Modules</h{level}><dl class=\"list\">{rows}</dl>")
+        for kind, title in GROUPS:
+            found = sorted(((name, it) for name, it in module.items if it.kind == kind), key=lambda it: it[0])
+            rows = "".join(f"<dt>{page.link(it, name)}</dt><dd>{rendered_line(self.site.says(it))}</dd>" for name, it in found)
+            if rows:
+                title = "Laws" if "laws" in module.path else title
+                made.append(f"<h{level}>{title}</h{level}><dl class=\"list\">{rows}</dl>")
+        return "".join(made)
+
+
+class _Place:
+    """Where a module's doc comment is."""
+
+    def __init__(self, scope):
+        self.scope, self.owner, self.kind = scope, None, "mod"
+
+
+def rendered_line(text):
+    """A line of a comment."""
+    return inline(text, lambda *_: None)

@@ -1,0 +1,52 @@
+"""The whole reference: each page, the first one among them."""
+from .definition_pages import DefinitionPages
+from .guide import GUIDE, examples
+from .item_pages import ItemPages
+from .items import ROOTS
+from .markdown import escape, inline, rendered
+from .site import Page, Site
+
+WELCOME = """Each public item of the library `cfgrammar`, of `cfglint` and of `lexcheck` has a page, by the path that users write. A call's
+page has its signature, its comment, its errors, and its clauses: what a caller has to show (*requires*) and what is proved of the
+result (*ensures*). Each name in a clause leads to its definition, and so on down to those of std. Press `/` to search."""
+
+
+def write(reference, folder):
+    """Writes all pages to a folder; returns how many there are."""
+    site = Site(reference, folder)
+    items = ItemPages(site, examples(reference))
+    definitions = DefinitionPages(site, items)
+    for module in reference.modules:
+        items.module(module)
+    for item in reference.items:
+        items.item(item)
+    definitions.write()
+    write_index(site, items, definitions)
+    site.finish()
+    return sum(it.endswith(".html") for it in site.files)
+
+
+def write_index(site, items, definitions):
+    """Writes the first page: the crates with what is in them, the guide's examples, and the files of definitions."""
+    page = Page(site, "index.html")
+    body = ["<h1>Reference of cfgrammar</h1>", rendered(WELCOME, lambda *_: None).replace("*requires*", "<em>requires</em>").replace(
+        "*ensures*", "<em>ensures</em>"), tasks(page, items)]
+    for module in site.reference.modules:
+        path = "::".join(module.path)
+        level = 2 if module.path in {(it,) for it in ROOTS} else 3
+        body.append(f'<h{level} id="{escape(path)}"><a class="self" href="{page.href(module)}">{escape(path)}</a></h{level}>')
+        body.append(f"<p>{inline(module.doc.split(chr(10) * 2)[0], lambda *_: None)}</p>" + items.listed(page, module, 4))
+    body.append(f'<h2 id="definitions">Definitions</h2><p>What clauses name, by file.</p>{definitions.listed(page)}')
+    side = "".join(f'<li><a href="#{escape("::".join(it.path))}">{escape("::".join(it.path))}</a></li>' for it in site.reference.modules)
+    page.write("Reference of cfgrammar", "\n".join(body), f'<h4>Modules</h4><ul>{side}<li><a href="#definitions">Definitions</a></li></ul>')
+
+
+def tasks(page, items):
+    """What the guide shows how to do, and the calls that it uses for it."""
+    rows = {}
+    for it in items.examples:
+        for call in it.calls:
+            if call.kind == "fn" and not (call.kind == "fn" and call.name in ("push", "get", "len")):
+                rows.setdefault(it.heading, {})[call] = None
+    made = "".join(f"<tr><td>{escape(heading)}</td><td>{', '.join(page.link(it) for it in calls)}</td></tr>" for heading, calls in rows.items())
+    return f'<h2 id="tasks">By task</h2><p>The examples of <code>{GUIDE}</code> are on the pages of these calls.</p><div class="wide"><table>{made}</table></div>'
