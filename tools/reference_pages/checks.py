@@ -9,7 +9,8 @@ UNLISTED_MODULES = ("laws",)
 
 
 def without_doc(reference):
-    """The public items, methods, fields with names and variants that have no doc comment."""
+    """The public modules, items, methods, fields with names and variants that have no doc comment."""
+    yield from (f"{'::'.join(it.path)} has no doc comment" for it in reference.modules if not it.doc)
     for item in reference.items:
         shown = [item, *reference.methods(item), *reference.parts(item)]
         shown += [it for part in reference.parts(item) for it in part.members]

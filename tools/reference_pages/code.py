@@ -24,7 +24,8 @@ def shown(source, first, last, link, base=None):
         if found:
             address, title = found
             title = f' title="{escape(title)}"' if title else ""
-            made.append(f'<a href="{escape(address)}"{title}>{escape(text)}</a>')
+            mark = ' class="o"' if not re.search(r"\w", text) else ""
+            made.append(f'<a{mark} href="{escape(address)}"{title}>{escape(text)}</a>')
         elif text in KEYWORDS:
             made.append(f'<span class="k">{escape(text)}</span>')
         else:

@@ -95,14 +95,9 @@ class DefinitionPages:
         above = [it for it in self.cited_by.get(definition, {}) if isinstance(it, Definition)] if in_repository(definition) else []
         made = ""
         for title, group in (("Contracts that name it", found), ("Definitions that name it", above)):
-            links = ", ".join(page.link(it, self.full_name(it)) for it in group)
+            links = ", ".join(page.link(it, self.items.full_name(it)) for it in group)
             made += f"<details><summary>{title} ({len(group)})</summary><p>{links}</p></details>" if group else ""
         return made
-
-    def full_name(self, it):
-        owner = getattr(it, "owner", None)
-        above = getattr(owner, "of", None) or (owner if getattr(owner, "path", None) else None)
-        return f"{above.path.rpartition('::')[2]}::{it.name}" if above and not isinstance(it, Definition) else it.name
 
     # ------------------------------------------------------------ types that no path leads to
 

@@ -6,11 +6,15 @@ from .rust import Item, expected, surface
 GUIDE = "docs/GUIDE.md"
 
 
+# the types of the variables that the guide uses without a 'let'
+VARIABLES = {"grammar": "YaccGrammar", "generator": "SentenceGenerator", "ast()": "GrammarAST", "parsed": "ASTWithValidityInfo"}
+
+
 class Example:
-    """A part of the guide with code: its heading, its code, the result below it, and what it calls."""
+    """A part of the guide with code: its heading, its code, the result below it, and what it and its section call."""
 
     def __init__(self, heading, code, result):
-        self.heading, self.code, self.result, self.calls = heading, code, result, []
+        self.heading, self.code, self.result, self.calls, self.named = heading, code, result, [], []
 
 
 def examples(reference):
@@ -23,7 +27,10 @@ def examples(reference):
             heading = re.findall(r"^## (.*)$", text[:it.start()], re.M)[-1]
             parts = re.findall(r"```(\w+)\n(.*?)```", it[3], re.S)
             example = Example(heading, parts[0][1].rstrip(), "\n".join(body.rstrip() for _, body in parts[1:]))
+            section = text[text.rindex("\n## ", 0, it.start()):].split("\n## ")[1]
             example.calls = calls(reference, example.code)
+            prose = pages.PART.sub("", section)
+            example.named = calls(reference, example.code + "\n" + "\n".join(re.findall(r"`([^`]*)`", prose)))
             found.append(example)
     if not found:
         raise SystemExit(f"reference: {GUIDE} has no example")
@@ -32,8 +39,10 @@ def examples(reference):
 
 def calls(reference, code):
     """The items and methods that code uses: by name, and methods by the types that are named or returned."""
-    words = set(re.findall(r"\w+", re.sub(r"//.*", "", code)))
-    called = set(re.findall(r"(?:\.|::)(\w+)(?:::<[^>]*>)?\(", code))
+    code = re.sub(r"//.*", "", code)
+    words = set(re.findall(r"\w+", code)) | {name for it, name in VARIABLES.items() if f"{it}." in code}
+    called = set(re.findall(r"\.(\w+)\(", code))
+    made = set(re.findall(r"(\w+)(?:::<[^>]*>)?::(\w+)\(", code))
     types = [it for it in reference.items if it.path.rpartition("::")[2] in words and it.kind != "fn"]
     used = [it for it in reference.items if it.kind == "fn" and re.search(rf"(?<![.\w]){it.name}\(", code)]
     pending, known = [*types], []
@@ -43,7 +52,8 @@ def calls(reference, code):
             continue
         known.append(it)
         for method in reference.methods(it):
-            if method.name in called and method not in used:
+            is_used = method.name in called if "self" in method.parameters else (it.path.rpartition("::")[2], method.name) in made
+            if is_used and method not in used:
                 used.append(method)
                 pending += returned(reference, method)
     return types + used

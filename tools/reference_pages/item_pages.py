@@ -77,6 +77,9 @@ class ItemPages:
         """What a token of code leads to: its address and a title."""
         def link(at):
             found = cites[at] if at in cites else self.rust_name(owner, at)
+            if found is None and owner.source.tokens[at].kind == "Antt":
+                address = self.ghost(page, owner, owner.source.tokens[at].text)
+                return (address, "") if address else None
             address = page.href(found) if found is not None else None
             return (address, self.site.says(found)) if address else None
         return link
@@ -118,6 +121,32 @@ class ItemPages:
         if item.target in self.reference.owners:
             parts += self.reference.methods(item.target) + self.reference.parts(item.target)
         return next((it for it in parts if it.name == names[0]), None)
+
+    def full_name(self, it):
+        """The name of something, after its type's if it is a method."""
+        owner = getattr(it, "owner", None)
+        above = getattr(owner, "of", None) or (owner if getattr(owner, "path", None) else None)
+        return f"{above.path.rpartition('::')[2]}::{it.name}" if above and not isinstance(it, Definition) else it.name
+
+    def ghost(self, page, owner, word):
+        """The address of a trait's ghost item that a name in a clause means: its own, as `number`, or as `S.number`."""
+        head, _, name = word.partition(".")
+        above = owner.owner or owner
+        traits = [above] if not name and above.kind == "trait" else self.bounds(owner, head)
+        for it in traits:
+            if any(ghost.name == (name or head) for ghost in it.ghosts):
+                return page.local(f"{self.site.file_of(it)}#in-clauses.{name or head}")
+        return None
+
+    def bounds(self, owner, parameter):
+        """The public traits that bound a type parameter of a function, or of the block that it is in."""
+        for it in (owner, owner.owner):
+            words = it.words() if it is not None else []
+            for at, word in enumerate(words[:-1]):
+                if word == parameter and words[at + 1] == ":" and words[at - 1] in ("<", ",") and parameter in it.parameters:
+                    end = next((place for place in range(at, len(words)) if words[place] in (",", ">", "<")), at)
+                    found = [one for name in words[at + 2:end] if name[:1].isupper() for one in self.reference.crates.resolve(it.scope, [name])]
+                    yield from (one for one in found if one in self.reference.owners and one.kind == "trait")
 
     # ------------------------------------------------------------ parts of pages
 
@@ -248,13 +277,14 @@ class ItemPages:
         title = "Variants" if found and found[0].kind == "variant" else "Fields"
         return f'<h2 id="parts">{title}</h2><dl class="list">{"".join(made)}</dl>' if made else ""
 
-    def ghosts(self, page, owner, clauses):
-        """Ghost items as code."""
+    def ghosts(self, page, owner, clauses, is_marked=False):
+        """Ghost items as code; those of the page's own item can be linked to."""
         made = []
         for it in clauses:
             text = code.shown(owner.source, it.first, it.last, self.linker(page, owner, it.cites), self.indent(owner, it))
             says = f"<p>{rendered_line(it.doc)}</p>" if getattr(it, "doc", "") else ""
-            made.append(f'<div class="clause"><span class="name">{escape(it.name)}</span><pre><code>{text}</code></pre>{says}</div>')
+            mark = f' id="in-clauses.{escape(it.name)}"' if is_marked else ""
+            made.append(f'<div class="clause"{mark}><span class="name">{escape(it.name)}</span><pre><code>{text}</code></pre>{says}</div>')
         return "".join(made) + self.terms(page, owner, clauses)
 
     def seen(self, page, item):
@@ -262,7 +292,7 @@ class ItemPages:
         shown = self.reference.shown(item)
         models = [it for it in self.reference.trait_impls(item) if "Model" in it.trait]
         groups = [(it, it.ghosts) for it in models if it.ghosts] + ([(shown, shown.ghosts)] if shown.ghosts else [])
-        made = "".join(self.ghosts(page, owner, clauses) for owner, clauses in groups)
+        made = "".join(self.ghosts(page, owner, clauses, True) for owner, clauses in groups)
         says = "What clauses name of this." if item.kind == "trait" else \
             "A clause names a value <code>x</code> of this type as <code>x.now</code>, which is what <code>view</code> gives."
         says = says if models or item.kind == "trait" else "What clauses name of a value of this type."
@@ -333,7 +363,7 @@ class ItemPages:
         """The list beside a page: what is on it, and what is beside it in its module."""
         module = self.reference.by_path[tuple(item.path.split("::")[:-1])]
         calls = [f'<li><a href="{page.local(self.site.anchors[it])}">{escape(it.name)}</a></li>' for it in self.reference.methods(item)]
-        beside = [f'<li><a href="{page.href(it)}">{escape(name)}</a></li>' for name, it in module.items]
+        beside = [f'<li><a href="{page.href(it)}">{escape(name)}</a></li>' for name, it in sorted(module.items, key=lambda it: it[0])]
         made = f"<h4>Calls</h4><ul>{''.join(calls)}</ul>" if calls else ""
         return f"{made}<h4>{escape('::'.join(module.path))}</h4><ul>{''.join(beside)}</ul>"
 

@@ -136,11 +136,11 @@ class Reference:
         return item.target if item.target and self.owners.get(item.target) is item else item
 
     def methods(self, item):
-        """The public methods of a type or a trait, in the order of the sources."""
+        """The public methods of a type, those first that make one; or of a trait, in the order of the sources."""
         if item.kind == "trait":
             return item.members
         own = [it for impl in item.impls if not impl.trait for it in impl.members if it.is_public]
-        return own
+        return sorted(own, key=lambda it: "self" in it.parameters)
 
     def parts(self, item):
         """The public fields, or the variants, of a type."""

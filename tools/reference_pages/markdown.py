@@ -78,7 +78,7 @@ def table(lines, link):
 def first_sentence(text):
     """The first sentence of a text."""
     paragraph = re.split(r"\n\s*\n", text.strip())[0].replace("\n", " ")
-    return re.match(r".*?[.:](?=\s|$)|.*", paragraph)[0].strip()
+    return re.match(r".*?\.(?=\s|$)|.*", paragraph)[0].strip()
 
 
 def plain(text):

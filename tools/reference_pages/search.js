@@ -32,6 +32,7 @@
     made.textContent = text;
     return made;
   };
+  if (matchMedia("(max-width: 52rem)").matches) document.querySelector(".side details").open = false;
   let chosen = -1;
   const choose = (at) => {
     const links = results.querySelectorAll("a");

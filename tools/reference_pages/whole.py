@@ -45,8 +45,7 @@ def tasks(page, items):
     """What the guide shows how to do, and the calls that it uses for it."""
     rows = {}
     for it in items.examples:
-        for call in it.calls:
-            if call.kind == "fn" and not (call.kind == "fn" and call.name in ("push", "get", "len")):
-                rows.setdefault(it.heading, {})[call] = None
-    made = "".join(f"<tr><td>{escape(heading)}</td><td>{', '.join(page.link(it) for it in calls)}</td></tr>" for heading, calls in rows.items())
+        rows.setdefault(it.heading, {}).update({call: None for call in it.named if call.kind == "fn"})
+    links = {heading: ", ".join(page.link(it, items.full_name(it)) for it in calls) for heading, calls in rows.items()}
+    made = "".join(f"<tr><td>{escape(heading)}</td><td>{it}</td></tr>" for heading, it in links.items())
     return f'<h2 id="tasks">By task</h2><p>The examples of <code>{GUIDE}</code> are on the pages of these calls.</p><div class="wide"><table>{made}</table></div>'
