@@ -103,22 +103,16 @@ class DefinitionPages:
 
     def private_types(self):
         """Writes the pages of types that clauses name, and that users can't."""
-        done = set()
-        while set(self.site.private_types) - done:
-            pending = sorted(set(self.site.private_types) - done, key=lambda it: (it.scope.crate, it.name))
-            done |= set(pending)
-            self.type_bodies = {**getattr(self, "type_bodies", {}), **{it: None for it in pending}}
-            for it in pending:
-                page = Page(self.site, self.site.private_types[it])
-                self.type_bodies[it] = self.private_type(page, it)
         by_file = {}
-        for it, body in getattr(self, "type_bodies", {}).items():
-            by_file.setdefault(self.site.private_types[it], []).append((it, body))
+        for it, file in sorted(self.site.private_types.items(), key=lambda it: (it[1], it[0].name)):
+            by_file.setdefault(file, []).append(it)
         for file, found in by_file.items():
-            page, crate = Page(self.site, file), found[0][0].scope.crate
-            head = f'<h1>Types of {escape(crate)} <span class="kind">definitions</span></h1><p class="note">Clauses name these types of the crate; users can\'t.</p>'
-            side = "".join(f'<li><a href="#{escape(it.name)}">{escape(it.name)}</a></li>' for it, _ in found)
-            page.write(f"Types of {crate}", head + "\n".join(body for _, body in found), f"<h4>Types</h4><ul>{side}</ul>")
+            page, crate = Page(self.site, file), found[0].scope.crate
+            head = (f'<h1>Types of {escape(crate)} <span class="kind">definitions</span></h1>'
+                    '<p class="note">Clauses name these types of the crate; users can\'t.</p>')
+            side = "".join(f'<li><a href="#{escape(it.name)}">{escape(it.name)}</a></li>' for it in found)
+            body = head + "\n".join(self.private_type(page, it) for it in found)
+            page.write(f"Types of {crate}", body, f"<h4>Types</h4><ul>{side}</ul>")
 
     def private_type(self, page, item):
         text = code.shown(item.source, item.first, item.last, self.items.linker(page, item))

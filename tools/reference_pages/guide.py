@@ -7,7 +7,8 @@ GUIDE = "docs/GUIDE.md"
 
 
 # the types of the variables that the guide uses without a 'let'
-VARIABLES = {"grammar": "YaccGrammar", "generator": "SentenceGenerator", "ast()": "GrammarAST", "parsed": "ASTWithValidityInfo"}
+VARIABLES = {"grammar": "YaccGrammar", "generator": "SentenceGenerator", "parsed": "ASTWithValidityInfo",
+             "ast": "GrammarAST", "copy": "GrammarAST"}
 
 
 class Example:
@@ -40,8 +41,8 @@ def examples(reference):
 def calls(reference, code):
     """The items and methods that code uses: by name, and methods by the types that are named or returned."""
     code = re.sub(r"//.*", "", code)
-    words = set(re.findall(r"\w+", code)) | {name for it, name in VARIABLES.items() if f"{it}." in code}
-    called = set(re.findall(r"\.(\w+)\(", code))
+    words = set(re.findall(r"\w+", code)) | {name for it, name in VARIABLES.items() if re.search(rf"\b{it}(\(\))?\.", code)}
+    called = set(re.findall(r"(?:\b(\w+)(?:\(\))?|\))\s*\.(\w+)\(", code))
     made = set(re.findall(r"(\w+)(?:::<[^>]*>)?::(\w+)\(", code))
     types = [it for it in reference.items if it.path.rpartition("::")[2] in words and it.kind != "fn"]
     used = [it for it in reference.items if it.kind == "fn" and re.search(rf"(?<![.\w]){it.name}\(", code)]
@@ -51,8 +52,10 @@ def calls(reference, code):
         if it in known:
             continue
         known.append(it)
+        name = it.path.rpartition("::")[2]
+        mine = {call for variable, call in called if VARIABLES.get(variable, name if name not in VARIABLES.values() else "") == name}
         for method in reference.methods(it):
-            is_used = method.name in called if "self" in method.parameters else (it.path.rpartition("::")[2], method.name) in made
+            is_used = method.name in mine if "self" in method.parameters else (name, method.name) in made
             if is_used and method not in used:
                 used.append(method)
                 pending += returned(reference, method)

@@ -177,7 +177,7 @@ class ItemPages:
         """The indentation of a clause's first line."""
         at = owner.source.data.rfind(b"\n", 0, owner.source.tokens[clause.first].start) + 1
         line = owner.source.text(at, owner.source.tokens[clause.first].start)
-        return len(line) - len(line.lstrip()) + 4
+        return len(line) - len(line.lstrip()) + 2
 
     def terms(self, page, owner, clauses):
         """The definitions of the repository that clauses name, with what is said of each."""
@@ -365,7 +365,7 @@ class ItemPages:
         calls = [f'<li><a href="{page.local(self.site.anchors[it])}">{escape(it.name)}</a></li>' for it in self.reference.methods(item)]
         beside = [f'<li><a href="{page.href(it)}">{escape(name)}</a></li>' for name, it in sorted(module.items, key=lambda it: it[0])]
         made = f"<h4>Calls</h4><ul>{''.join(calls)}</ul>" if calls else ""
-        return f"{made}<h4>{escape('::'.join(module.path))}</h4><ul>{''.join(beside)}</ul>"
+        return f"{made}<h4>In {escape(module.path[-1])}</h4><ul>{''.join(beside)}</ul>"
 
     def module(self, module):
         """Writes the page of a module."""

@@ -83,4 +83,4 @@ def first_sentence(text):
 
 def plain(text):
     """A text's words, for the search."""
-    return re.sub(r"\s+", " ", re.sub(r"\[([^\]]*)\]\([^)]*\)|[`*#]", lambda it: it[1] or "", text)).strip()
+    return re.sub(r"\s+", " ", re.sub(r"\[([^\]]*)\](?:\([^)]*\))?|[`*#]", lambda it: it[1] or "", text)).strip()

@@ -65,7 +65,7 @@ class Scope:
         self.crate, self.path, self.source = crate, path, source(file)
         self.uses, self.passed, self.items, self.children, self.impls = {}, {}, {}, {}, []
         self.ghosts, self.doc = Imports(), self.source.head_comment("//!")
-        self.public_children = set()
+        self.public_children = []
         Reader(self).read_items(0, len(self.source.tokens))
 
     def inside(self, ghosts):
@@ -180,7 +180,7 @@ class Reader:
             return self.closing(at + 2) + 1
         self.scope.children[name] = doc
         if is_public:
-            self.scope.public_children.add(name)
+            self.scope.public_children.append(name)
         return at + 3
 
     # ------------------------------------------------------------ types, traits and functions
