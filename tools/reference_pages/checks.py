@@ -31,8 +31,8 @@ def without_definition(reference):
 
 
 def place(reference, item):
-    above = reference.page_of(item.owner) if item.owner else None
-    return f"{above.path}: {item.name}" if above else item.path or item.name
+    above = getattr(item.owner, "of", item.owner)
+    return f"{above.path}: {item.name}" if above is not None else item.path or " ".join(item.words())
 
 
 class Listed:

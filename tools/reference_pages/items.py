@@ -108,9 +108,9 @@ class Reference:
                 self.read_alias(it)
         self.owners = {it: it for it in self.items}
         self.owners.update({it.target: it for it in self.items if it.target and it.target not in self.owners})
-        homes = dict.fromkeys([it.scope.crate for it in self.owners] + ["cfgrammar", "cfglint", "lexcheck"])
-        for crate in homes:
-            for scope in self.crates.every(crate):
+        names = {it.name for it in self.owners}
+        for crate in dict.fromkeys([it.scope.crate for it in self.owners] + list(ROOTS)):
+            for scope in self.crates.with_impls(crate, names):
                 for impl in scope.impls:
                     self.attach_impl(scope, impl)
 

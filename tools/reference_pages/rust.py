@@ -1,5 +1,7 @@
 """The items of Rattle's files: types, traits, functions and what they are made of, each with its doc comment and its clauses."""
+import glob
 import os
+import re
 import sys
 
 from programs import ROOT
@@ -396,16 +398,15 @@ class Crates:
         base = "/".join([folder, *path])
         return next((it for it in (f"{base}.rt", f"{base}/mod.rt") if is_file(it)), None)
 
-    def every(self, crate):
-        """All modules of a crate."""
-        found, pending = [], [()]
-        while pending:
-            path = pending.pop(0)
-            scope = self.scope(crate, path)
-            if scope:
-                found.append(scope)
-                pending += [(*path, name) for name in scope.children]
-        return found
+    def with_impls(self, crate, names):
+        """The modules of a crate that may have an impl for a type, or of a trait, with one of these names."""
+        wanted = re.compile(rf"^\s*(?:unsafe )?impl\b[^{{]*\b(?:{'|'.join(sorted(names))})\b", re.M)
+        folder = f"{ROOT}/crates/{crate}/src"
+        for file in sorted(glob.glob(f"{folder}/**/*.rt", recursive=True)):
+            with open(file, encoding="utf-8") as it:
+                if wanted.search(it.read()):
+                    path = re.sub(r"(^|/)(lib|main|mod)$", "", os.path.relpath(file, folder)[:-3])
+                    yield self.scope(crate, tuple(it for it in path.split("/") if it))
 
     def is_crate(self, name):
         return os.path.isdir(f"{ROOT}/crates/{name}")
