@@ -16,14 +16,14 @@ NAME = re.compile(r"^[^\s(){}.;,@\"|=:→×↦\d][^\s(){}.;,@\"]*$")
 
 
 class Definition:
-    """A definition, a constructor or a field: where it is, its tokens from `first` up to `last`, and what it is part of."""
+    """A definition, a constructor or a field: its tokens from `first` up to `last`, and what it is part of."""
 
     def __init__(self, module, name, kind, span, comment, owner=None):
         self.module, self.name, self.kind, self.comment, self.owner = module, name, kind, comment, owner
         self.first, self.last = span
         is_open = kind != "definition" or module.source.tokens[span[0]].text in ("abbrev", "unfoldable")
-        # the bodies of proofs, and of what the kit keeps shut, are no part of what a definition says; neither is what the
-        # program logic is made of
+        # the bodies of proofs, and of what the kit keeps shut, are no part of what a definition says; neither is what
+        # the program logic is made of
         is_ours = module.file.startswith(f"{ROOT}/") and "/specs/" in module.file
         self.is_open = (is_open or is_ours) and module.path.startswith(FOLLOWED)
         self.parameters, self.members, self.cites, self.unknown = [], [], {}, []
@@ -111,8 +111,8 @@ class Module:
                     at = begin + words.index("use") + 1
                     self.imports.add([it.text for it in tokens[at:end]], words[0] in MARKS)
             elif rest[0] in ("module", "mutual"):
-                at = next((it for it in range(begin, end) if tokens[it].text == "where"), begin) if rest[0] == "module" else begin
-                self.read_block(at + 1, end, [*parameters, (begin + 2, at)] if rest[0] == "module" else parameters)
+                where = [it for it in range(begin, end) if tokens[it].text == "where" and rest[0] == "module"]
+                self.read_block((where or [begin])[0] + 1, end, parameters + [(begin + 2, it) for it in where[:1]])
             elif rest[0] in NO_DECLARATION:
                 if current and rest[0] == "unfolding":
                     current.last = end
@@ -158,7 +158,8 @@ class Module:
                 continue
             kind = "constructor" if made.kind == "data" else "field"
             while place < last and tokens[place].text != ":":
-                member = Definition(self, tokens[place].text, kind, (begin, last), self.source.comment(begin, "--"), made)
+                comment = self.source.comment(begin, "--")
+                member = Definition(self, tokens[place].text, kind, (begin, last), comment, made)
                 made.members.append(member)
                 place += 1
                 if kind == "constructor":
@@ -168,12 +169,16 @@ class Module:
         """The modules from which the words of this one come."""
         words = {it.text for it in self.source.tokens}
         words |= {it.split(".")[0] for it in words if "." in it}
-        names = self.imports.names
-        return {path for name, (path, _) in names.items() if name in words or "◌" in name and words & set(name.split("◌"))}
+        return {path for name, (path, _) in self.imports.names.items() if is_among(name, words)}
 
     def find(self, name):
         """What a name of this module means to others: its definition, or the path and the name that it passes on."""
         return self.named.get(name) or self.imports.passed.get(name)
+
+
+def is_among(name, words):
+    """Whether one of these words is a name, or a part of an operator."""
+    return name in words or "◌" in name and bool(words & set(name.split("◌")))
 
 
 class Builtin:

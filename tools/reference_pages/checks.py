@@ -1,11 +1,8 @@
-"""What a reference has to have: a page and a doc comment for each public item, and a definition for each name in a clause."""
+"""What a reference has to have: a page and a comment for each public item, a definition for each name in a clause."""
 import re
 
 from .items import DERIVED
 from .rust import Item, surface
-
-# what docs/SURFACE.txt leaves out: laws, and what is public only for other crates
-UNLISTED_MODULES = ("laws",)
 
 
 def without_doc(reference):
@@ -65,7 +62,7 @@ class Listed:
         shown = self.reference.shown(item)
         target = item.target or item
         found = {*shown.derives, *target.derives}
-        for it in [*self.reference.trait_impls(item), *(self.reference.trait_impls(target) if target is not item else [])]:
+        for it in [impl for one in dict.fromkeys([item, target]) for impl in self.reference.trait_impls(one)]:
             found.add([word for word in without_arguments(it.trait) if re.match(r"\w", word)][-1])
         return found
 
@@ -107,8 +104,8 @@ class Listed:
                 continue
             yield paths
             for it in self.reference.methods(item) + self.reference.parts(item):
-                mark = "::" if it.kind in ("variant", "const") or it.kind == "fn" and "self" not in it.parameters else "."
-                end = "()" if mark == "." and it.kind == "fn" else ""
+                is_method = it.kind == "fn" and "self" in it.parameters
+                mark, end = "." if is_method or it.kind == "field" else "::", "()" if is_method else ""
                 yield [f"{path}{mark}{it.name}{end}" for path in paths]
 
     def differing(self):

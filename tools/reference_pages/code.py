@@ -3,16 +3,16 @@ import re
 
 from .markdown import escape
 
-KEYWORDS = set("pub fn struct enum trait type const impl for where mut dyn as abbrev record data let in λ elim unfolding unfoldable".split())
+KEYWORDS = set("""pub fn struct enum trait type const impl for where mut dyn as
+abbrev record data let in λ elim unfolding unfoldable""".split())
 
 
-def shown(source, first, last, link, base=None):
-    """The text of these tokens. `link` returns a token's address and title, or None."""
+def shown(source, first, last, link, hanging=0):
+    """The text of these tokens; lines after the first hang by so much. `link` returns a token's address and title."""
     tokens, made = source.tokens, []
     start = tokens[first].start
-    line = source.data.rfind(b"\n", 0, start) + 1
-    before = source.text(line, start)
-    indent = len(before) - len(before.lstrip()) if base is None else base
+    before = source.text(source.data.rfind(b"\n", 0, start) + 1, start)
+    indent = len(before) - len(before.lstrip()) + hanging
     end = start
     for at in range(first, last):
         token = tokens[at]

@@ -1,22 +1,30 @@
-"""The pages of definitions: one for each file, the types that no path of users leads to, and what is built in."""
+"""The pages of definitions: one for each file, the types that users can't name, and what is built in."""
 import glob
 import re
 
 from . import code
 from .antt import Definition
-from .item_pages import rendered_line
-from .markdown import escape, first_sentence
+from .markdown import code as html_code
+from .markdown import details, escape, first_sentence, heading, items, line, rows
 from .rust import Scope
 from .site import Page, in_repository
 from .sources import KIT, shown
 
 BUILT_IN = {
-    "ℕ": "The natural numbers, of any size.", "zero": "0.", "suc": "One more than a number.", "pred": "One less than a number; 0 of 0.",
-    "◌+◌": "The sum of two natural numbers.", "◌-◌": "The difference of two natural numbers; 0 if the second is larger.",
-    "◌*◌": "The product of two natural numbers.", "◌/◌": "The quotient of two natural numbers, rounded down.",
-    "◌%◌": "The remainder of a division of natural numbers.", "◌^◌": "The power of a natural number.",
-    "◌<◌": "The first number is less than the second.", "◌≤◌": "The first number is at most the second.",
-    "min": "The lesser of two numbers.", "max": "The greater of two numbers.",
+    "ℕ": "The natural numbers, of any size.",
+    "zero": "0.",
+    "suc": "One more than a number.",
+    "pred": "One less than a number; 0 of 0.",
+    "◌+◌": "The sum of two natural numbers.",
+    "◌-◌": "The difference of two natural numbers; 0 if the second is larger.",
+    "◌*◌": "The product of two natural numbers.",
+    "◌/◌": "The quotient of two natural numbers, rounded down.",
+    "◌%◌": "The remainder of a division of natural numbers.",
+    "◌^◌": "The power of a natural number.",
+    "◌<◌": "The first number is less than the second.",
+    "◌≤◌": "The first number is at most the second.",
+    "min": "The lesser of two numbers.",
+    "max": "The greater of two numbers.",
 }
 
 
@@ -58,12 +66,12 @@ class DefinitionPages:
         definitions = sorted(definitions, key=lambda it: it.first)
         is_ours = in_repository(definitions[0])
         where = f"<code>{escape(shown(module.file))}</code>" + ("" if is_ours else " of the Rattle kit")
-        head = f"<p>{rendered_line(module.comment)}</p>" if is_ours else ""
-        note = "" if is_ours else '<p class="note">Only what the definitions of this reference use is here.</p>'
-        made = [f'<p class="path">{where}</p><h1>{escape(self.title(module))} <span class="kind">definitions</span></h1>', head, note]
+        note = '<p class="note">Only what the definitions of this reference use is here.</p>'
+        head = f"<p>{line(module.comment)}</p>" if is_ours else note
+        made = [f'<p class="path">{where}</p>', heading(self.title(module), "definitions"), head]
         made += [self.definition(page, it) for it in definitions]
-        side = "".join(f'<li><a href="{page.local(self.site.address(it))}">{escape(it.name)}</a></li>' for it in definitions)
-        page.write(f"{self.title(module)}: definitions", "\n".join(made), f"<h4>Definitions</h4><ul>{side}</ul>")
+        side = items("Definitions", [(page.local(self.site.address(it)), it.name) for it in definitions])
+        page.write(f"{self.title(module)}: definitions", "\n".join(made), side)
 
     def linker(self, page, definition):
         def link(at):
@@ -76,27 +84,26 @@ class DefinitionPages:
 
     def definition(self, page, definition):
         """A definition: its comment, its text, and what cites it."""
-        mark = escape(definition.name)
-        address = self.site.address(definition)
-        self.site.enter(definition.name, "definition" if in_repository(definition) else "of the kit", self.title(definition.module), address,
-                        definition.comment)
+        mark, address = escape(definition.name), self.site.address(definition)
+        is_ours = in_repository(definition)
+        kind = "definition" if is_ours else "of the kit"
+        self.site.enter(definition.name, kind, self.title(definition.module), address, definition.comment)
         text = code.shown(definition.module.source, definition.first, definition.last, self.linker(page, definition))
         members = "".join(f'<span id="{mark}.{escape(it.name)}"></span>' for it in definition.members)
-        comment = f"<p>{rendered_line(definition.comment)}</p>" if definition.comment else ""
+        comment = f"<p>{line(definition.comment)}</p>" if definition.comment else ""
         title = f'<h3><a class="self" href="{page.local(address)}">{mark}</a></h3>'
-        laws = self.items.laws_about(page, [definition]) if in_repository(definition) else ""
-        return (f'<section class="definition" id="{mark}">{title}{members}{comment}<pre><code>{text}</code></pre>'
-                f"{laws}{self.users(page, definition)}</section>")
+        about = self.items.laws_about(page, [definition]) + self.users(page, definition) if is_ours else ""
+        return f'<section class="definition" id="{mark}">{title}{members}{comment}{html_code(text)}{about}</section>'
 
     def users(self, page, definition):
         """What cites a definition of the repository."""
-        found = [it for it in self.cited_by.get(definition, {}) if not isinstance(it, Definition)] if in_repository(definition) else []
-        found = [it for it in found if not self.items.is_law(it)]
-        above = [it for it in self.cited_by.get(definition, {}) if isinstance(it, Definition)] if in_repository(definition) else []
+        found = self.cited_by.get(definition, {})
+        calls = [it for it in found if not isinstance(it, Definition) and not self.items.is_law(it)]
+        above = [it for it in found if isinstance(it, Definition)]
         made = ""
-        for title, group in (("Contracts that name it", found), ("Definitions that name it", above)):
+        for title, group in (("Contracts that name it", calls), ("Definitions that name it", above)):
             links = ", ".join(page.link(it, self.items.full_name(it)) for it in group)
-            made += f"<details><summary>{title} ({len(group)})</summary><p>{links}</p></details>" if group else ""
+            made += details(f"{title} ({len(group)})", f"<p>{links}</p>") if group else ""
         return made
 
     # ------------------------------------------------------------ types that no path leads to
@@ -108,46 +115,42 @@ class DefinitionPages:
             by_file.setdefault(file, []).append(it)
         for file, found in by_file.items():
             page, crate = Page(self.site, file), found[0].scope.crate
-            head = (f'<h1>Types of {escape(crate)} <span class="kind">definitions</span></h1>'
-                    '<p class="note">Clauses name these types of the crate; users can\'t.</p>')
-            side = "".join(f'<li><a href="#{escape(it.name)}">{escape(it.name)}</a></li>' for it in found)
-            body = head + "\n".join(self.private_type(page, it) for it in found)
-            page.write(f"Types of {crate}", body, f"<h4>Types</h4><ul>{side}</ul>")
+            note = '<p class="note">Clauses name these types of the crate; users can\'t.</p>'
+            body = [heading(f"Types of {crate}", "definitions"), note, *(self.private_type(page, it) for it in found)]
+            page.write(f"Types of {crate}", "\n".join(body), items("Types", [(f"#{it.name}", it.name) for it in found]))
 
     def private_type(self, page, item):
         text = code.shown(item.source, item.first, item.last, self.items.linker(page, item))
         self.site.enter(item.name, "definition", f"types of {item.scope.crate}", self.site.address(item), item.doc)
-        return (f'<section class="definition" id="{escape(item.name)}"><h3>{escape(item.name)}</h3><p>{rendered_line(item.doc)}</p>'
-                f"<pre><code>{text}</code></pre></section>")
+        return declared(item.name, f"<p>{line(item.doc)}</p>{html_code(text)}")
 
     # ------------------------------------------------------------ types of std, and what is built in
 
     def kit_types(self):
         """Writes the page of the kit's types, as its sources declare them."""
         page = Page(self.site, "definitions/types-of-std.html")
-        made, names = [], sorted(self.site.kit_types)
-        for name in names:
-            made.append(self.kit_type(self.site.kit_types[name]))
-        side = "".join(f'<li><a href="#{escape(it)}">{escape(it)}</a></li>' for it in names)
-        head = '<h1>Types of std <span class="kind">definitions</span></h1><p class="note">As the sources of the Rattle kit declare them.</p>'
-        page.write("Types of std", head + "\n".join(made), f"<h4>Types</h4><ul>{side}</ul>")
+        names = sorted(self.site.kit_types)
+        note = '<p class="note">As the sources of the Rattle kit declare them.</p>'
+        body = [heading("Types of std", "definitions"), note, *(self.kit_type(self.site.kit_types[it]) for it in names)]
+        page.write("Types of std", "\n".join(body), items("Types", [(f"#{it}", it) for it in names]))
 
     def kit_type(self, it):
         found = self.declaration(it)
         if not found:
             raise SystemExit(f"reference: the kit's sources don't declare {it}")
         file, item = found
-        self.site.enter(it.type_name, "of the kit", "types of std", f"definitions/types-of-std.html#{it.type_name}", item.doc)
+        self.site.enter(it.type_name, "of the kit", "types of std", self.site.address(it), item.doc)
         last = item.head[1] if item.kind == "trait" else item.last
         text = code.shown(item.source, item.first, last, lambda at: None)
-        return (f'<section class="definition" id="{escape(it.type_name)}"><h3>{escape(it.type_name)}</h3>'
-                f'<p class="path">{escape(shown(file))}</p><p>{rendered_line(first_sentence(item.doc))}</p><pre><code>{text}</code></pre></section>')
+        head = f'<p class="path">{escape(shown(file))}</p><p>{line(first_sentence(item.doc))}</p>'
+        return declared(it.type_name, head + html_code(text))
 
     def declaration(self, it):
         """The file and the item that declare a type of the kit."""
         crates = dict.fromkeys([it.crate, "core", "std_alloc", "std_collections", "std_heap", "std_io", "std"])
         wanted = re.compile(rf"^\s*pub (?:\w+ )*(?:struct|enum|trait|type|union) {it.type_name}\b", re.M)
-        files = [file for crate in crates for file in sorted(glob.glob(f"{KIT}/rattle/{crate}/src/**/*.rt", recursive=True))]
+        folders = [f"{KIT}/rattle/{crate}/src" for crate in crates]
+        files = [file for it in folders for file in sorted(glob.glob(f"{it}/**/*.rt", recursive=True))]
         near = [file for file in files if it.folders and re.search(rf"/{it.folders[0]}(/|\.rt)", file)]
         for file in dict.fromkeys(near + files):
             with open(file, encoding="utf-8") as text:
@@ -160,12 +163,13 @@ class DefinitionPages:
     def built_in(self):
         """Writes the page of the names that are part of the logic."""
         page = Page(self.site, "definitions/built-in.html")
-        rows = []
-        for name in sorted(self.site.builtins):
-            self.site.enter(name, "of the kit", "built in", self.site.address(self.site.builtins[name]), BUILT_IN.get(name, ""))
-            rows.append(f'<dt id="{escape(name)}">{escape(name)}</dt><dd>{BUILT_IN.get(name, "A name of the logic.")}</dd>')
-        page.write("Built in", f'<h1>Built in <span class="kind">definitions</span></h1><p class="note">Names of the logic itself.</p>'
-                   f'<dl class="list">{"".join(rows)}</dl>', "")
+        made = []
+        for name, it in sorted(self.site.builtins.items()):
+            says = BUILT_IN.get(name, "A name of the logic.")
+            self.site.enter(name, "of the kit", "built in", self.site.address(it), says)
+            made.append((f'<span id="{escape(name)}">{escape(name)}</span>', says))
+        note = '<p class="note">Names of the logic itself.</p>'
+        page.write("Built in", heading("Built in", "definitions") + note + rows(made), "")
 
     def write(self):
         """Writes all pages of definitions."""
@@ -178,6 +182,10 @@ class DefinitionPages:
     def listed(self, page):
         """The files of definitions, for the index."""
         ours = sorted((it for it in self.by_module if in_repository(self.by_module[it][0])), key=self.title)
-        rows = "".join(f'<dt><a href="{page.root}{self.site.definitions_file(it)}">{escape(self.title(it))}</a></dt>'
-                       f"<dd>{rendered_line(first_sentence(it.comment))}</dd>" for it in ours)
-        return f'<dl class="list">{rows}</dl>'
+        links = [f'<a href="{page.root}{self.site.definitions_file(it)}">{escape(self.title(it))}</a>' for it in ours]
+        return rows((link, line(first_sentence(it.comment))) for link, it in zip(links, ours))
+
+
+def declared(name, body):
+    """The declaration of a type."""
+    return f'<section class="definition" id="{escape(name)}"><h3>{escape(name)}</h3>{body}</section>'

@@ -41,7 +41,8 @@ def examples(reference):
 def calls(reference, code):
     """The items and methods that code uses: by name, and methods by the types that are named or returned."""
     code = re.sub(r"//.*", "", code)
-    words = set(re.findall(r"\w+", code)) | {name for it, name in VARIABLES.items() if re.search(rf"\b{it}(\(\))?\.", code)}
+    words = set(re.findall(r"\w+", code))
+    words |= {name for it, name in VARIABLES.items() if re.search(rf"\b{it}(\(\))?\.", code)}
     called = set(re.findall(r"(?:\b(\w+)(?:\(\))?|\))\s*\.(\w+)\(", code))
     made = set(re.findall(r"(\w+)(?:::<[^>]*>)?::(\w+)\(", code))
     types = [it for it in reference.items if it.path.rpartition("::")[2] in words and it.kind != "fn"]
@@ -53,7 +54,8 @@ def calls(reference, code):
             continue
         known.append(it)
         name = it.path.rpartition("::")[2]
-        mine = {call for variable, call in called if VARIABLES.get(variable, name if name not in VARIABLES.values() else "") == name}
+        other = "" if name in VARIABLES.values() else name
+        mine = {call for variable, call in called if VARIABLES.get(variable, other) == name}
         for method in reference.methods(it):
             is_used = method.name in mine if "self" in method.parameters else (name, method.name) in made
             if is_used and method not in used:

@@ -1,12 +1,15 @@
 """The pages of modules and of items: their signatures, doc comments, clauses, laws and examples."""
 from . import code
 from .antt import Definition
-from .markdown import escape, first_sentence, inline, rendered
+from .markdown import code as html_code
+from .markdown import details, escape, first_sentence, heading, items, line, rendered, rows
 from .rust import Item, surface
 from .site import Page, in_repository
 
-KIND_NAMES = {"fn": "function", "type": "type", "struct": "struct", "enum": "enum", "trait": "trait", "const": "constant"}
-GROUPS = [("struct", "Structs"), ("enum", "Enums"), ("trait", "Traits"), ("type", "Types"), ("const", "Constants"), ("fn", "Functions")]
+KIND_NAMES = {"fn": "function", "const": "constant"}
+GROUPS = {"struct": "Structs", "enum": "Enums", "trait": "Traits", "type": "Types", "fn": "Functions",
+          "const": "Constants"}
+NOW = "A clause names a value <code>x</code> of this type as <code>x.now</code>, which is what <code>view</code> gives."
 # a definition that more laws cite than this is about all of them
 MANY_LAWS = 9
 
@@ -102,10 +105,9 @@ class ItemPages:
         parts = name.split("::")
         if not is_link and (len(parts) == 1 and not name[:1].isupper() or not all(it.isidentifier() for it in parts)):
             return None
-        owner = self.reference.page_of(item) or (self.reference.page_of(item.owner) if getattr(item, "owner", None) else None)
-        above = getattr(getattr(item, "owner", None), "of", None)
-        if parts[0] == "Self" and (above or owner):
-            return self.part_of(above or owner, parts[1:])
+        above = getattr(item.owner, "of", item.owner)
+        if parts[0] == "Self":
+            return self.part_of(self.reference.page_of(above or item), parts[1:])
         for count in range(len(parts), 0, -1):
             for it in self.reference.crates.resolve(item.scope, parts[:count]):
                 found = self.reference.page_of(it) if isinstance(it, Item) else None
@@ -131,6 +133,8 @@ class ItemPages:
     def ghost(self, page, owner, word):
         """The address of a trait's ghost item that a name in a clause means: its own, as `number`, or as `S.number`."""
         head, _, name = word.partition(".")
+        if not head:
+            return None
         above = owner.owner or owner
         traits = [above] if not name and above.kind == "trait" else self.bounds(owner, head)
         for it in traits:
@@ -143,9 +147,10 @@ class ItemPages:
         for it in (owner, owner.owner):
             words = it.words() if it is not None else []
             for at, word in enumerate(words[:-1]):
-                if word == parameter and words[at + 1] == ":" and words[at - 1] in ("<", ",") and parameter in it.parameters:
+                if word == parameter and words[at + 1] == ":" and words[at - 1] in ("<", ","):
                     end = next((place for place in range(at, len(words)) if words[place] in (",", ">", "<")), at)
-                    found = [one for name in words[at + 2:end] if name[:1].isupper() for one in self.reference.crates.resolve(it.scope, [name])]
+                    names = [name for name in words[at + 2:end] if name[:1].isupper()]
+                    found = [one for name in names for one in self.reference.crates.resolve(it.scope, [name])]
                     yield from (one for one in found if one in self.reference.owners and one.kind == "trait")
 
     # ------------------------------------------------------------ parts of pages
@@ -156,7 +161,7 @@ class ItemPages:
 
     def head(self, page, item):
         first, last = item.head
-        return f'<pre><code>{code.shown(item.source, first, last, self.linker(page, item))}</code></pre>'
+        return html_code(code.shown(item.source, first, last, self.linker(page, item)))
 
     def clauses(self, page, owner, clauses, place):
         """Clauses as code, each with its name, and what the definitions that they name say."""
@@ -168,22 +173,17 @@ class ItemPages:
         return "".join(made) + self.terms(page, owner, clauses)
 
     def clause(self, page, owner, clause, place):
-        text = code.shown(owner.source, clause.first, clause.last, self.linker(page, owner, clause.cites), self.indent(owner, clause))
-        mark = f' id="{escape(place)}.{escape(clause.name)}"' if clause.name else ""
+        """A clause or a ghost item, which can be linked to if it has a place and a name."""
+        text = code.shown(owner.source, clause.first, clause.last, self.linker(page, owner, clause.cites), hanging=2)
+        mark = f' id="{escape(place)}.{escape(clause.name)}"' if clause.name and place else ""
         name = f'<span class="name">{escape(clause.name)}</span>' if clause.name else ""
-        return f'<div class="clause"{mark}>{name}<pre><code>{text}</code></pre></div>'
-
-    def indent(self, owner, clause):
-        """The indentation of a clause's first line."""
-        at = owner.source.data.rfind(b"\n", 0, owner.source.tokens[clause.first].start) + 1
-        line = owner.source.text(at, owner.source.tokens[clause.first].start)
-        return len(line) - len(line.lstrip()) + 2
+        return f'<div class="clause"{mark}>{name}{html_code(text)}</div>'
 
     def terms(self, page, owner, clauses):
         """The definitions of the repository that clauses name, with what is said of each."""
         found = dict.fromkeys(it for clause in clauses for it in clause.cites.values() if isinstance(it, Definition))
-        rows = [it for it in found if in_repository(it) and it.comment]
-        made = "".join(f"<div>{page.link(it)} {rendered_line(it.comment)}</div>" for it in rows)
+        found = [it for it in found if in_repository(it) and it.comment]
+        made = "".join(f"<div>{page.link(it)} {line(it.comment)}</div>" for it in found)
         return f'<div class="terms">{made}</div>' if made else ""
 
     def errors(self, page, item):
@@ -228,8 +228,8 @@ class ItemPages:
     def laws_about(self, page, cited):
         """The laws that cite one of these, if not many do."""
         laws = [law for it in cited if len(self.laws_of.get(it, [])) <= MANY_LAWS for law in self.laws_of.get(it, [])]
-        rows = [f"<li>{page.link(it)} {escape(first_sentence(it.doc))}</li>" for it in dict.fromkeys(laws)]
-        return f"<details><summary>Laws ({len(rows)})</summary><ul>{''.join(rows)}</ul></details>" if rows else ""
+        found = [f"<li>{page.link(it)} {line(first_sentence(it.doc))}</li>" for it in dict.fromkeys(laws)]
+        return details(f"Laws ({len(found)})", f"<ul>{''.join(found)}</ul>") if found else ""
 
     def around(self, owner, clauses):
         """What clauses cite, and what these definitions are made of."""
@@ -243,9 +243,8 @@ class ItemPages:
         made = []
         for it in self.examples:
             if item in it.calls:
-                result = f"<pre><code>{escape(it.result)}</code></pre>" if it.result else ""
-                title = f"Example of the guide: {escape(it.heading)}"
-                made.append(f"<details><summary>{title}</summary><pre><code>{escape(it.code)}</code></pre>{result}</details>")
+                result = html_code(escape(it.result)) if it.result else ""
+                made.append(details(f"Example of the guide: {escape(it.heading)}", html_code(escape(it.code)) + result))
         return "".join(made)
 
     # ------------------------------------------------------------ a call
@@ -259,7 +258,8 @@ class ItemPages:
 
     def method(self, page, item, method):
         place = self.site.anchors[method].partition("#")[2]
-        self.site.enter(method.name, "method" if method.kind == "fn" else method.kind, item.path, self.site.anchors[method], method.doc)
+        kind = "method" if method.kind == "fn" else method.kind
+        self.site.enter(method.name, kind, item.path, self.site.anchors[method], method.doc)
         title = f'<h3><a class="self" href="#{escape(place)}">{escape(method.name)}</a></h3>'
         return f'<section class="call" id="{escape(place)}">{title}{self.call(page, method, place)}</section>'
 
@@ -270,21 +270,17 @@ class ItemPages:
         found, made = self.reference.parts(item), []
         for it in found:
             place = self.site.anchors[it].partition("#")[2]
-            self.site.enter(it.name, f"{it.kind} of", item.path, self.site.anchors[it], it.doc) if not it.name.isdigit() else None
-            head = code.shown(it.source, it.first, it.last, self.linker(page, it)) if it.kind == "field" or it.members else escape(it.name)
-            docs = self.doc(page, it) + "".join(f"<p><code>{escape(part.name)}</code>: {escape(part.doc)}</p>" for part in it.members if part.doc)
-            made.append(f'<dt id="{escape(place)}">{head}</dt><dd>{docs}</dd>')
+            if not it.name.isdigit():
+                self.site.enter(it.name, f"{it.kind} of", item.path, self.site.anchors[it], it.doc)
+            head = code.shown(it.source, it.first, it.last, self.linker(page, it))
+            inside = [f"<p><code>{escape(part.name)}</code>: {line(part.doc)}</p>" for part in it.members if part.doc]
+            made.append((f'<span id="{escape(place)}">{head}</span>', self.doc(page, it) + "".join(inside)))
         title = "Variants" if found and found[0].kind == "variant" else "Fields"
-        return f'<h2 id="parts">{title}</h2><dl class="list">{"".join(made)}</dl>' if made else ""
+        return f'<h2 id="parts">{title}</h2>{rows(made)}' if made else ""
 
-    def ghosts(self, page, owner, clauses, is_marked=False):
-        """Ghost items as code; those of the page's own item can be linked to."""
-        made = []
-        for it in clauses:
-            text = code.shown(owner.source, it.first, it.last, self.linker(page, owner, it.cites), self.indent(owner, it))
-            says = f"<p>{rendered_line(it.doc)}</p>" if getattr(it, "doc", "") else ""
-            mark = f' id="in-clauses.{escape(it.name)}"' if is_marked else ""
-            made.append(f'<div class="clause"{mark}><span class="name">{escape(it.name)}</span><pre><code>{text}</code></pre>{says}</div>')
+    def ghosts(self, page, owner, clauses, place=""):
+        """Ghost items as code."""
+        made = [self.clause(page, owner, it, place) + (f"<p>{line(it.doc)}</p>" if it.doc else "") for it in clauses]
         return "".join(made) + self.terms(page, owner, clauses)
 
     def seen(self, page, item):
@@ -292,10 +288,8 @@ class ItemPages:
         shown = self.reference.shown(item)
         models = [it for it in self.reference.trait_impls(item) if "Model" in it.trait]
         groups = [(it, it.ghosts) for it in models if it.ghosts] + ([(shown, shown.ghosts)] if shown.ghosts else [])
-        made = "".join(self.ghosts(page, owner, clauses, True) for owner, clauses in groups)
-        says = "What clauses name of this." if item.kind == "trait" else \
-            "A clause names a value <code>x</code> of this type as <code>x.now</code>, which is what <code>view</code> gives."
-        says = says if models or item.kind == "trait" else "What clauses name of a value of this type."
+        made = "".join(self.ghosts(page, owner, clauses, "in-clauses") for owner, clauses in groups)
+        says = NOW if models else "What clauses name of this."
         return f'<h2 id="clauses">In clauses</h2><p class="note">{says}</p>{made}' if made else ""
 
     def traits(self, page, item):
@@ -304,14 +298,14 @@ class ItemPages:
         made = []
         if shown.derives:
             made.append(f"<p>Derived: {', '.join(f'<code>{escape(it)}</code>' for it in shown.derives)}</p>")
-        impls = [it for it in self.reference.trait_impls(item) if "Model" not in it.trait] + getattr(item, "implemented", [])
+        impls = [it for it in self.reference.trait_impls(item) if "Model" not in it.trait] + item.implemented
         for it in impls:
-            head = code.shown(it.source, it.first, it.head[1], self.linker(page, it))
-            inside = self.ghosts(page, it, it.ghosts) if it.ghosts else ""
+            head = f"<code>{code.shown(it.source, it.first, it.head[1], self.linker(page, it))}</code>"
+            inside = self.ghosts(page, it, it.ghosts)
             for method in it.members:
                 if method.clauses:
-                    inside += self.head(page, method) + self.clauses(page, method, method.clauses, f"{it.self_type[0]}.{method.name}")
-            made.append(f"<details><summary><code>{head}</code></summary>{inside}</details>" if inside else f"<p><code>{head}</code></p>")
+                    inside += self.head(page, method) + self.clauses(page, method, method.clauses, "")
+            made.append(details(head, inside) if inside else f"<p>{head}</p>")
         return f'<h2 id="traits">Traits</h2>{"".join(made)}' if made else ""
 
     # ------------------------------------------------------------ pages
@@ -328,10 +322,11 @@ class ItemPages:
         """Writes the page of an item."""
         page = Page(self.site, self.site.file_of(item))
         path = item.path.split("::")
-        kind = "law" if self.is_law(item) else KIND_NAMES[item.kind]
-        self.site.enter(item.name, kind if kind != "function" else "fn", "::".join(path[:-1]), page.file, item.doc or self.reference.shown(item).doc)
-        also = f'<p class="also">Also {", ".join(f"<code>{escape(it)}</code>" for it in item.other_paths)}</p>' if item.other_paths else ""
-        body = [self.crumbs(page, path), f'<h1>{escape(path[-1])} <span class="kind">{kind}</span></h1>', also]
+        kind = "law" if self.is_law(item) else item.kind
+        self.site.enter(item.name, kind, "::".join(path[:-1]), page.file, item.doc or self.reference.shown(item).doc)
+        others = ", ".join(f"<code>{escape(it)}</code>" for it in item.other_paths)
+        also = f'<p class="also">Also {others}</p>' if others else ""
+        body = [self.crumbs(page, path), heading(path[-1], KIND_NAMES.get(kind, kind)), also]
         if item.kind == "fn":
             body.append(f'<div id="{escape(item.name)}">{self.call(page, item, item.name)}</div>')
         else:
@@ -356,38 +351,36 @@ class ItemPages:
         """The definitions of which a type's values are, as clauses see them."""
         for impl in self.reference.trait_impls(item):
             for clause in impl.ghosts if "Model" in impl.trait else []:
-                if clause.name == "Value":
-                    yield from (it for it in self.cited(impl, clause) if isinstance(it, Definition) and in_repository(it))
+                found = self.cited(impl, clause) if clause.name == "Value" else ()
+                yield from (it for it in found if isinstance(it, Definition) and in_repository(it))
 
     def side(self, page, item):
         """The list beside a page: what is on it, and what is beside it in its module."""
         module = self.reference.by_path[tuple(item.path.split("::")[:-1])]
-        calls = [f'<li><a href="{page.local(self.site.anchors[it])}">{escape(it.name)}</a></li>' for it in self.reference.methods(item)]
-        beside = [f'<li><a href="{page.href(it)}">{escape(name)}</a></li>' for name, it in sorted(module.items, key=lambda it: it[0])]
-        made = f"<h4>Calls</h4><ul>{''.join(calls)}</ul>" if calls else ""
-        return f"{made}<h4>In {escape(module.path[-1])}</h4><ul>{''.join(beside)}</ul>"
+        calls = [(page.local(self.site.anchors[it]), it.name) for it in self.reference.methods(item)]
+        beside = sorted((name, page.href(it)) for name, it in module.items)
+        return items("Calls", calls) + items(f"In {module.path[-1]}", [it[::-1] for it in beside])
 
     def module(self, module):
         """Writes the page of a module."""
         page = Page(self.site, self.site.file_of(module))
         self.site.enter(module.path[-1], "module", "::".join(module.path[:-1]), page.file, module.doc)
-        body = [self.crumbs(page, module.path), f'<h1>{escape(module.path[-1])} <span class="kind">module</span></h1>',
+        body = [self.crumbs(page, module.path), heading(module.path[-1], "module"),
                 rendered(module.doc, self.words(page, _Place(module.scope)), 3), self.listed(page, module)]
-        side = "".join(f'<li><a href="{page.href(it)}">{escape("::".join(it.path))}</a></li>' for it in self.reference.modules)
-        page.write("::".join(module.path), "\n".join(body), f"<h4>Modules</h4><ul>{side}</ul>")
+        side = items("Modules", [(page.href(it), "::".join(it.path)) for it in self.reference.modules])
+        page.write("::".join(module.path), "\n".join(body), side)
 
     def listed(self, page, module, level=2):
         """What is in a module."""
         made = []
-        if module.modules:
-            rows = "".join(f"<dt>{page.link(it, it.path[-1])}</dt><dd>{rendered_line(first_sentence(it.doc))}</dd>" for it in module.modules)
-            made.append(f"<h{level}>Modules</h{level}><dl class=\"list\">{rows}</dl>")
-        for kind, title in GROUPS:
-            found = sorted(((name, it) for name, it in module.items if it.kind == kind), key=lambda it: it[0])
-            rows = "".join(f"<dt>{page.link(it, name)}</dt><dd>{rendered_line(self.site.says(it))}</dd>" for name, it in found)
-            if rows:
-                title = "Laws" if "laws" in module.path else title
-                made.append(f"<h{level}>{title}</h{level}><dl class=\"list\">{rows}</dl>")
+        groups = {"Modules": [(it.path[-1], it, first_sentence(it.doc)) for it in module.modules]}
+        for name, it in sorted(module.items, key=lambda it: it[0]):
+            title = "Laws" if self.is_law(it) else GROUPS[it.kind]
+            groups.setdefault(title, []).append((name, it, self.site.says(it)))
+        for title in ("Modules", *GROUPS.values(), "Laws"):
+            if groups.get(title):
+                made.append(f"<h{level}>{title}</h{level}>")
+                made.append(rows((page.link(it, name), line(says)) for name, it, says in groups[title]))
         return "".join(made)
 
 
@@ -396,8 +389,3 @@ class _Place:
 
     def __init__(self, scope):
         self.scope, self.owner, self.kind = scope, None, "mod"
-
-
-def rendered_line(text):
-    """A line of a comment."""
-    return inline(text, lambda *_: None)

@@ -4,7 +4,7 @@ import re
 
 from programs import ROOT
 
-from .antt import Library
+from .antt import Library, is_among
 from .names import Walk, closure, names_of
 from .rust import Crates, Item, Scope, surface
 from .sources import read
@@ -51,7 +51,8 @@ class Reference:
         self.library = Library(self.declared, with_kit)
         self.modules, self.items, self.by_path, self.homes = [], [], {}, {}
         self.kit_types = {}
-        read([it for folder in ("src", "specs") for it in sorted(glob.glob(f"{ROOT}/crates/*/{folder}/**/*.*t", recursive=True))])
+        for folder in ("src", "specs"):
+            read(sorted(glob.glob(f"{ROOT}/crates/*/{folder}/**/*.*t", recursive=True)))
         for name in ROOTS:
             self.visit((name,), self.crates.scope(name), "")
         self.attach()
@@ -129,10 +130,10 @@ class Reference:
                 impl.of = owner
         for it in self.crates.resolve(scope, path_in(impl.trait)) if impl.trait else []:
             if it in self.owners:
-                it.implemented = [*getattr(it, "implemented", []), impl]
+                it.implemented.append(impl)
 
     def shown(self, item):
-        """The item whose fields, variants and doc comment a page shows: an alias of what isn't public has its target's."""
+        """The item whose parts and doc comment a page shows: of an alias of what isn't public, the target."""
         return item.target if item.target and self.owners.get(item.target) is item else item
 
     def methods(self, item):
@@ -154,7 +155,7 @@ class Reference:
         shown = self.shown(item)
         groups = [(shown, shown.clauses + shown.ghosts)]
         groups += [(it, it.clauses) for it in self.methods(item)]
-        for impl in self.trait_impls(item) + getattr(item, "implemented", []):
+        for impl in self.trait_impls(item) + item.implemented:
             groups.append((impl, impl.ghosts))
             groups += [(it, it.clauses) for it in impl.members]
         return [(owner, it) for owner, clauses in groups for it in clauses]
@@ -193,9 +194,10 @@ class Reference:
 
     def sought(self, owner, clause):
         """The modules from which a clause's words come."""
-        words = {word for it in owner.source.tokens[clause.first:clause.last] for word in (it.text, it.text.split(".")[0])}
+        words = {it.text for it in owner.source.tokens[clause.first:clause.last]}
+        words |= {it.split(".")[0] for it in words}
         for name, (path, _) in owner.scope.ghosts.names.items():
-            if name in words or "◌" in name and words & set(name.split("◌")):
+            if is_among(name, words):
                 yield path
 
     def read_clause(self, owner, clause, names):

@@ -1,4 +1,4 @@
-"""The Markdown of doc comments and of the guide: headings, paragraphs, lists, tables, fenced code, links and code in a line."""
+"""The Markdown of doc comments and of definitions' comments, as HTML; and the parts that all pages are made of."""
 import html
 import re
 
@@ -57,7 +57,7 @@ def rendered(text, link, level=3):
 def block(lines, link, level):
     first = lines[0]
     if first.startswith("```"):
-        return f"<pre><code>{escape(chr(10).join(lines[1:-1]))}</code></pre>"
+        return code(escape("\n".join(lines[1:-1])))
     if first.startswith("#"):
         return f"<h{level}>{inline(first.lstrip('# '), link)}</h{level}>"
     if re.match(r"[-*] ", first):
@@ -73,6 +73,35 @@ def table(lines, link):
     head = "".join(f"<th>{inline(it, link)}</th>" for it in rows[0])
     body = "".join("<tr>" + "".join(f"<td>{inline(it, link)}</td>" for it in row) + "</tr>" for row in rows[2:])
     return f'<div class="wide"><table><tr>{head}</tr>{body}</table></div>'
+
+
+def line(text):
+    """A line of a comment."""
+    return inline(text, lambda *_: None)
+
+
+def rows(found):
+    """A list of names, each with what is said of it."""
+    return f'<dl class="list">{"".join(f"<dt>{name}</dt><dd>{says}</dd>" for name, says in found)}</dl>'
+
+
+def items(title, found):
+    """A short list of links, beside a page."""
+    made = "".join(f'<li><a href="{escape(address)}">{escape(name)}</a></li>' for address, name in found)
+    return f"<h4>{escape(title)}</h4><ul>{made}</ul>" if made else ""
+
+
+def details(title, body):
+    """What is shown if a reader opens it."""
+    return f"<details><summary>{title}</summary>{body}</details>"
+
+
+def code(text):
+    return f"<pre><code>{text}</code></pre>"
+
+
+def heading(name, kind):
+    return f'<h1>{escape(name)} <span class="kind">{kind}</span></h1>'
 
 
 def first_sentence(text):

@@ -78,7 +78,7 @@ class Walk:
             if word in RESERVED or not NAME.match(word):
                 continue
             meaning, _ = self.names.meaning(word)
-            is_constructor = meaning is not None and getattr(meaning, "kind", "") in ("constructor", "variant", "built in")
+            is_constructor = getattr(meaning, "kind", "") in ("constructor", "variant", "built in")
             if at + 1 < last and self.tokens[at + 1].text == "=":
                 continue
             if is_constructor or meaning is not None and (word in self.names.parts or "." in word):
@@ -261,7 +261,8 @@ def where_at(walk, first, last):
 def local_names(walk, first, last):
     """The names of the definitions in a `where` block."""
     tokens = walk.tokens
-    return {tokens[it].text for it in range(first, last - 1) if tokens[it + 1].text == ":" and NAME.match(tokens[it].text)}
+    named = [it for it in range(first, last - 1) if tokens[it + 1].text == ":"]
+    return {tokens[it].text for it in named if NAME.match(tokens[it].text)}
 
 
 def read_where(walk, first, last, local, module):

@@ -1,4 +1,4 @@
-"""The items of Rattle's files: types, traits, functions and what they are made of, each with its doc comment and its clauses."""
+"""The items of Rattle's files: types, traits, functions and their parts, with doc comments and clauses."""
 import glob
 import os
 import re
@@ -21,7 +21,7 @@ class Clause:
     """A clause, or a ghost item: its words before the brace, and its tokens' places."""
 
     def __init__(self, words, span):
-        self.words, (self.first, self.last) = words, span
+        self.words, (self.first, self.last), self.doc = words, span, ""
         self.cites, self.unknown = {}, []
 
     @property
@@ -41,7 +41,7 @@ class Item:
         self.first, self.last = span
         self.head = span
         self.clauses, self.members, self.ghosts, self.derives, self.impls = [], [], [], [], []
-        self.owner, self.parameters, self.target = None, set(), None
+        self.owner, self.parameters, self.target, self.implemented = None, set(), None, []
         self.path, self.other_paths, self.page = None, [], None
 
     @property

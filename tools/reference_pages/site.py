@@ -25,7 +25,8 @@ FRAME = """<!DOCTYPE html>
 <body>
 <header class="top">
 <a class="brand" href="{root}index.html">cfgrammar</a>
-<div class="search"><input type="search" placeholder="Search names and comments ( / )" aria-label="Search" autocomplete="off" spellcheck="false">
+<div class="search">
+<input type="search" placeholder="Search names and comments ( / )" aria-label="Search" autocomplete="off">
 <ul class="results" hidden></ul></div>
 </header>
 <div class="layout">
@@ -169,7 +170,7 @@ class Site:
 
     def broken_links(self):
         """The links that lead nowhere, and those that lead out of the pages and ask for something."""
-        marks = {file: {html.unescape(it) for it in re.findall(r' id="([^"]*)"', text)} for file, text in self.files.items()}
+        marks = {file: set(re.findall(r' id="([^"]*)"', html.unescape(text))) for file, text in self.files.items()}
         for file, text in self.files.items():
             for address in set(re.findall(r' (?:href|src)="([^"]*)"', text)) if file.endswith(".html") else ():
                 address = html.unescape(address)

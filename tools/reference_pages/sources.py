@@ -13,7 +13,7 @@ JOINED = {"::", "->", "=>"}
 
 
 class Token(NamedTuple):
-    """A token: its first byte and the byte after it, what it is part of (Code, Literal, Head, End, Antt, Text), and its text."""
+    """A token: its first byte and the byte after it, what it is part of (Code, Head, End, Antt, ..), and its text."""
     start: int
     end: int
     kind: str
@@ -55,7 +55,8 @@ class Source:
 
     def before(self, at):
         """What is between the token at this place and the one before it: comments and spaces."""
-        return self.text(self.tokens[at - 1].end if at else 0, self.tokens[at].start if at < len(self.tokens) else len(self.data))
+        end = self.tokens[at].start if at < len(self.tokens) else len(self.data)
+        return self.text(self.tokens[at - 1].end if at else 0, end)
 
     def comment(self, at, mark):
         """The comment whose lines begin with this mark and end right above the token at this place."""

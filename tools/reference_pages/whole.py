@@ -2,13 +2,17 @@
 from .definition_pages import DefinitionPages
 from .guide import GUIDE, examples
 from .item_pages import ItemPages
-from .items import ROOTS
-from .markdown import escape, inline, rendered
+from .markdown import escape, heading
+from .markdown import items as beside
+from .markdown import line, rendered
 from .site import Page, Site
 
-WELCOME = """Each public item of the library `cfgrammar`, of `cfglint` and of `lexcheck` has a page, by the path that users write. A call's
-page has its signature, its comment, its errors, and its clauses: what a caller has to show (*requires*) and what is proved of the
-result (*ensures*). Each name in a clause leads to its definition, and so on down to those of std. Press `/` to search."""
+EMPTY_LINE = "\n\n"
+WELCOME = """
+Each public item of the library `cfgrammar`, of `cfglint` and of `lexcheck` has a page, by the path that users write. A
+call's page has its signature, its comment, its errors, and its clauses: what a caller has to show (**requires**) and
+what is proved of the result (**ensures**). Each name in a clause leads to its definition, and so on down to those of
+std. Press `/` to search."""
 
 
 def write(reference, folder):
@@ -29,16 +33,18 @@ def write(reference, folder):
 def write_index(site, items, definitions):
     """Writes the first page: the crates with what is in them, the guide's examples, and the files of definitions."""
     page = Page(site, "index.html")
-    body = ["<h1>Reference of cfgrammar</h1>", rendered(WELCOME, lambda *_: None).replace("*requires*", "<em>requires</em>").replace(
-        "*ensures*", "<em>ensures</em>"), tasks(page, items)]
+    body = [heading("Reference of cfgrammar", ""), rendered(WELCOME, lambda *_: None), tasks(page, items)]
+    marks = []
     for module in site.reference.modules:
-        path = "::".join(module.path)
-        level = 2 if module.path in {(it,) for it in ROOTS} else 3
-        body.append(f'<h{level} id="{escape(path)}"><a class="self" href="{page.href(module)}">{escape(path)}</a></h{level}>')
-        body.append(f"<p>{inline(module.doc.split(chr(10) * 2)[0], lambda *_: None)}</p>" + items.listed(page, module, 4))
+        path = escape("::".join(module.path))
+        level = 2 if len(module.path) == 1 else 3
+        link = f'<a class="self" href="{page.href(module)}">{path}</a>'
+        body.append(f'<h{level} id="{path}">{link}</h{level}>')
+        body.append(f"<p>{line(module.doc.split(EMPTY_LINE)[0])}</p>" + items.listed(page, module, 4))
+        marks.append((f"#{path}", path))
     body.append(f'<h2 id="definitions">Definitions</h2><p>What clauses name, by file.</p>{definitions.listed(page)}')
-    side = "".join(f'<li><a href="#{escape("::".join(it.path))}">{escape("::".join(it.path))}</a></li>' for it in site.reference.modules)
-    page.write("Reference of cfgrammar", "\n".join(body), f'<h4>Modules</h4><ul>{side}<li><a href="#definitions">Definitions</a></li></ul>')
+    side = beside("Contents", [("#tasks", "By task"), *marks, ("#definitions", "Definitions")])
+    page.write("Reference of cfgrammar", "\n".join(body), side)
 
 
 def tasks(page, items):
@@ -48,4 +54,5 @@ def tasks(page, items):
         rows.setdefault(it.heading, {}).update({call: None for call in it.named if call.kind == "fn"})
     links = {heading: ", ".join(page.link(it, items.full_name(it)) for it in calls) for heading, calls in rows.items()}
     made = "".join(f"<tr><td>{escape(heading)}</td><td>{it}</td></tr>" for heading, it in links.items())
-    return f'<h2 id="tasks">By task</h2><p>The examples of <code>{GUIDE}</code> are on the pages of these calls.</p><div class="wide"><table>{made}</table></div>'
+    says = f"<p>The examples of <code>{GUIDE}</code> are on the pages of these calls.</p>"
+    return f'<h2 id="tasks">By task</h2>{says}<div class="wide"><table>{made}</table></div>'
