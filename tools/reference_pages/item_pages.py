@@ -337,7 +337,7 @@ class ItemPages:
         shown, methods = self.reference.shown(item), self.reference.methods(item)
         calls = "\n".join(self.method(page, item, it) for it in methods)
         title = "Required and provided" if item.kind == "trait" else "Calls"
-        laws = self.laws_about(page, [item, *self.around_type(item)])
+        laws = self.laws_about(page, [item, *self.around_type(item)]).replace("<details>", "<details open>")
         return [self.head(page, item), self.doc(page, item), self.target(page, item), self.examples_of(item),
                 self.parts(page, item), f'<h2 id="calls">{title}</h2>{calls}' if calls else "",
                 self.seen(page, item), self.traits(page, item), f'<h2 id="laws">Laws</h2>{laws}' if laws else ""]

@@ -20,7 +20,8 @@ def inline(text, link):
         elif it[3]:
             name = it[3].strip("`")
             address = link(it[4] or name, True)
-            made.append(anchor(inline(it[3], lambda *_: None), address) if address or it[4] else escape(it[0]))
+            is_name = address or it[4] or it[3].startswith("`")
+            made.append(anchor(inline(it[3], lambda *_: None), address) if is_name else escape(it[0]))
         else:
             made.append(f"<strong>{inline(it[5], link)}</strong>")
     return "".join(made) + escape(text[at:])

@@ -35,7 +35,7 @@ FRAME = """<!DOCTYPE html>
 </details></nav>
 <main>
 {body}
-<footer>Made from the sources by tools/reference. Every clause on these pages is proved.</footer>
+<footer>Made from the sources by tools/reference. The merge gate proves every clause on these pages.</footer>
 </main>
 </div>
 <script src="{root}entries.js"></script>

@@ -38,7 +38,7 @@ def write_index(site, items, definitions):
     for module in site.reference.modules:
         path = escape("::".join(module.path))
         level = 2 if len(module.path) == 1 else 3
-        link = f'<a class="self" href="{page.href(module)}">{path}</a>'
+        link = f'<a href="{page.href(module)}">{path}</a>'
         body.append(f'<h{level} id="{path}">{link}</h{level}>')
         body.append(f"<p>{line(module.doc.split(EMPTY_LINE)[0])}</p>" + items.listed(page, module, 4))
         marks.append((f"#{path}", path))
