@@ -142,8 +142,17 @@ class DefinitionPages:
         self.site.enter(it.type_name, "of the kit", "types of std", self.site.address(it), item.doc)
         last = item.head[1] if item.kind == "trait" else item.last
         text = code.shown(item.source, item.first, last, lambda at: None)
+        ghosts = item.ghosts if item.kind == "trait" else []
+        inside = "".join(self.ghost(item, ghost) for ghost in ghosts)
         head = f'<p class="path">{escape(shown(file))}</p><p>{line(first_sentence(item.doc))}</p>'
-        return declared(it.type_name, head + html_code(text))
+        return declared(it.type_name, head + html_code(text) + inside)
+
+    def ghost(self, item, ghost):
+        """A ghost item of a trait of the kit."""
+        text = code.shown(item.source, ghost.first, ghost.last, lambda at: None, hanging=2)
+        says = f"<p>{line(ghost.doc)}</p>" if ghost.doc else ""
+        name = f'<span class="name">{escape(ghost.name)}</span>'
+        return f'<div class="clause" id="{escape(item.name)}.{escape(ghost.name)}">{name}{html_code(text)}{says}</div>'
 
     def declaration(self, it):
         """The file and the item that declare a type of the kit."""

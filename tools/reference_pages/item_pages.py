@@ -140,7 +140,9 @@ class ItemPages:
         for it in traits:
             if any(ghost.name == (name or head) for ghost in it.ghosts):
                 return page.local(f"{self.site.file_of(it)}#in-clauses.{name or head}")
-        return None
+        is_parameter = head[0].isupper() and head in owner.parameters | above.parameters
+        address = self.site.ghost_of_std(name) if is_parameter and name else None
+        return address and page.local(address)
 
     def bounds(self, owner, parameter):
         """The public traits that bound a type parameter of a function, or of the block that it is in."""
@@ -151,7 +153,17 @@ class ItemPages:
                     end = next((place for place in range(at, len(words)) if words[place] in (",", ">", "<")), at)
                     names = [name for name in words[at + 2:end] if name[:1].isupper()]
                     found = [one for name in names for one in self.reference.crates.resolve(it.scope, [name])]
-                    yield from (one for one in found if one in self.reference.owners and one.kind == "trait")
+                    yield from self.with_traits_above(found)
+
+    def with_traits_above(self, found):
+        """The public traits among these, each with those that it is bounded by."""
+        for it in found:
+            if it in self.reference.owners and it.kind == "trait":
+                yield it
+                words = it.words()
+                above = words[words.index(":"):] if ":" in words else []
+                meanings = [self.reference.crates.resolve(it.scope, [one]) for one in above if one[:1].isupper()]
+                yield from self.with_traits_above(one for found in meanings for one in found)
 
     # ------------------------------------------------------------ parts of pages
 

@@ -1,4 +1,5 @@
 """The pages as a whole: their addresses, their frame, and whether each link leads somewhere."""
+import glob
 import html
 import json
 import os
@@ -11,6 +12,7 @@ from .antt import Builtin, Definition
 from .items import KitType, PublicModule
 from .markdown import escape, first_sentence, plain
 from .rust import Item
+from .sources import KIT
 
 HERE = os.path.dirname(os.path.realpath(__file__))
 FRAME = """<!DOCTYPE html>
@@ -80,7 +82,7 @@ class Site:
         self.reference, self.folder = reference, folder
         self.files, self.entries, self.broken = {}, [], []
         self.private_types, self.kit_types, self.builtins = {}, {}, {}
-        self.anchors = {}
+        self.anchors, self.ghosts_of_std = {}, {}
         for item in reference.items:
             self.name_parts(item)
 
@@ -132,6 +134,20 @@ class Site:
             return None
         self.private_types[whole] = f"definitions/types-of-{whole.scope.crate}.html"
         return f"{self.private_types[whole]}#{whole.name}"
+
+    def ghost_of_std(self, name):
+        """The address of a ghost item, if just one trait of the kit's core has one of this name."""
+        if not self.ghosts_of_std:
+            for file in sorted(glob.glob(f"{KIT}/rattle/core/src/**/*.rt", recursive=True)):
+                with open(file, encoding="utf-8") as it:
+                    for trait, body in re.findall(r"^pub trait (\w+)(.*?)^}", it.read(), re.M | re.S):
+                        for ghost in re.findall(r"^    ghost (\w+): ", body, re.M):
+                            self.ghosts_of_std.setdefault(ghost, set()).add(trait)
+        traits = [*self.ghosts_of_std.get(name, ())]
+        if len(traits) != 1:
+            return None
+        self.kit_types.setdefault(traits[0], KitType(f"Rattle.core.specs.declared.{traits[0]}", traits[0]))
+        return f"definitions/types-of-std.html#{traits[0]}.{name}"
 
     def says(self, what):
         """The first sentence of what is said of something."""

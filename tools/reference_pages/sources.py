@@ -6,9 +6,12 @@ import subprocess
 from bisect import bisect_left
 from typing import NamedTuple
 
-from programs import ROOT, Kit
+from programs import ROOT, Kit, Stopped
 
-KIT = Kit().folder
+try:
+    KIT = Kit().folder
+except Stopped as why:
+    raise SystemExit(f"reference: {why}") from None
 JOINED = {"::", "->", "=>"}
 
 
