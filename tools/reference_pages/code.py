@@ -26,6 +26,8 @@ def shown(source, first, last, link, hanging=0):
             title = f' title="{escape(title)}"' if title else ""
             mark = ' class="o"' if not re.search(r"\w", text) else ""
             made.append(f'<a{mark} href="{escape(address)}"{title}>{escape(text)}</a>')
+        elif text == "->":
+            made.append('<span class="n">-&gt;</span>')
         elif text in KEYWORDS:
             made.append(f'<span class="k">{escape(text)}</span>')
         else:

@@ -131,7 +131,7 @@ class DefinitionPages:
         page = Page(self.site, "definitions/types-of-std.html")
         names = sorted(self.site.kit_types)
         note = '<p class="note">As the sources of the Rattle kit declare them.</p>'
-        body = [heading("Types of std", "definitions"), note, *(self.kit_type(self.site.kit_types[it]) for it in names)]
+        body = [heading("Types and traits of std", "definitions"), note, *(self.kit_type(self.site.kit_types[it]) for it in names)]
         page.write("Types of std", "\n".join(body), items("Types", [(f"#{it}", it) for it in names]))
 
     def kit_type(self, it):
@@ -152,7 +152,8 @@ class DefinitionPages:
         text = code.shown(item.source, ghost.first, ghost.last, lambda at: None, hanging=2)
         says = f"<p>{line(ghost.doc)}</p>" if ghost.doc else ""
         name = f'<span class="name">{escape(ghost.name)}</span>'
-        return f'<div class="clause" id="{escape(item.name)}.{escape(ghost.name)}">{name}{html_code(text)}{says}</div>'
+        mark = f' id="{escape(item.name)}.{escape(ghost.name)}"' if ghost.name.isidentifier() else ""
+        return f'<div class="clause"{mark}>{name}{html_code(text)}{says}</div>'
 
     def declaration(self, it):
         """The file and the item that declare a type of the kit."""

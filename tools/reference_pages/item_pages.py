@@ -187,7 +187,7 @@ class ItemPages:
     def clause(self, page, owner, clause, place):
         """A clause or a ghost item, which can be linked to if it has a place and a name."""
         text = code.shown(owner.source, clause.first, clause.last, self.linker(page, owner, clause.cites), hanging=2)
-        mark = f' id="{escape(place)}.{escape(clause.name)}"' if clause.name and place else ""
+        mark = f' id="{escape(place)}.{escape(clause.name)}"' if place and clause.name.isidentifier() else ""
         name = f'<span class="name">{escape(clause.name)}</span>' if clause.name else ""
         return f'<div class="clause"{mark}>{name}{html_code(text)}</div>'
 

@@ -30,6 +30,8 @@ class Clause:
 
     @property
     def name(self):
+        if self.keyword == "=":
+            return "by default"
         return next((it for it in self.words[1:] if it not in ("*", ":", "=")), "")
 
 
