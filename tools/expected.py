@@ -21,8 +21,8 @@ from modules.usage import usage
 HERE = os.path.dirname(os.path.realpath(__file__))
 LIST, RUNS = f"{HERE}/expected.txt", f"{HERE}/last_runs.txt"
 DATA = f"{os.path.dirname(HERE)}/crates/vectors"
-CHECKERS = ("pages", "samples", "picture", "wrong_bodies", "surface", "words", "long_rows", "original_rows", "fuzz",
-            "refuse", "real_runs", "large")
+CHECKERS = ("pages", "samples", "picture", "wrong_bodies", "surface", "reference", "words", "long_rows", "original_rows",
+            "fuzz", "refuse", "real_runs", "large")
 HEAD = "# How many things each checker has to find, by 'tools/expected.py write'.\n"
 
 

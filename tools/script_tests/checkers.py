@@ -290,6 +290,30 @@ def test_surface(room):
             fails(copy, "surface files: ", "tools/surface", "check")
 
 
+def test_reference(room):
+    """A comment, a definition, a line or an item is gone, or something is public that no line names."""
+    copy = copied(room)
+    passes(copy, "tools/reference", "--check")
+    signature = "    pub fn is_epsilon_set("
+    for file, change, words in [
+        ("crates/cfganalysis/src/firsts.rt", without(r"^    /// [^\n]*\n(?=    pub fn is_set)"), "is_set has no doc comment"),
+        ("crates/cfganalysis/src/lib.rt", without(r"firsts_over"), "reference items: "),
+        ("crates/cfganalysis/src/firsts.rt", emptied, "reference items: "),
+        ("crates/cfganalysis/src/firsts.rt", replaced(signature, signature.replace("pub ", "")), "reference calls: "),
+        ("crates/cfganalysis/src/firsts.rt", replaced("{AreFirsts", "{WereFirsts"), "names AreFirsts, which nothing defines"),
+        ("crates/cfganalysis/specs/Firsts.antt", emptied, "names AreFirsts, which nothing defines"),
+        ("crates/cfganalysis/src/firsts.rt", without(r"^        ensures { IsTrue .*?$"), "reference clauses: "),
+        ("crates/cfganalysis/specs/Firsts.antt", replaced("First, Nullable}", "First}"), "names Nullable, which nothing defines"),
+        ("docs/SURFACE.txt", replaced("cfgrammar::Vob.get()", "cfgrammar::Vob.gets()"), "cfgrammar::Vob.gets() has no page"),
+        ("docs/SURFACE.txt", without(r"^cfgrammar::Vob.get\(\)\n"), "no line names cfgrammar::Vob.get()"),
+        ("docs/SURFACE.txt", replaced("#   cfgrammar::Vob.words()", "#   cfgrammar::Vob.word()"), "no line names cfgrammar::Vob.words()"),
+        ("docs/SURFACE.txt", emptied, "has no line"),
+        ("tools/expected.txt", without(r"^reference clauses: .*?\n"), "reference clauses: "),
+    ]:
+        with changed(copy, file, change):
+            fails(copy, words, "tools/reference", "--check")
+
+
 def test_wrong_bodies(room):
     copy = copied(room)
     passes(copy, "tools/wrong_bodies", "--check")

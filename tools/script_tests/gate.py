@@ -5,7 +5,8 @@ import subprocess
 
 from toy import ROOT, Toy, path_without, read, write, write_script
 
-CHECKS = ["pages check", "picture check", "wrong_bodies --check", "surface check", "expected.py check"]
+CHECKS = ["pages check", "picture check", "wrong_bodies --check", "surface check", "reference --check",
+          "expected.py check"]
 RUNS = ["scripts_tests", "refuse", "long_rows", "original_rows", "fuzz 60", "real_runs", "samples"]
 
 

@@ -1,3 +1,5 @@
+//! Spans of a text, and where a value was given.
+
 ghost use Rattle.std.specs.Prelude.{◌≡◌, ◌-◌, ◌≤◌, ◌↔◌, IsTrue, List};
 ghost use Rattle.cfgbase.specs.declared.span.Location.TheVariants.{Span as at_span};
 ghost use Rattle.cfgbase.specs.declared.span.Span.{Span};

@@ -1,3 +1,5 @@
+//! Indices of rules, productions, symbols and tokens.
+
 ghost use Rattle.std.specs.Prelude.{◌≡◌};
 
 use crate::storage::Storage;

@@ -1,3 +1,5 @@
+//! The types of numbers that indices are stored as.
+
 ghost use Rattle.std.specs.Prelude.{◌≡◌, ◌^◌, ◌<◌, ◌≤◌, ◌↔◌, ℕ, IsSome, IfSome, refl};
 ghost use Rattle.std.specs.Ordering.{nat_cmp};
 

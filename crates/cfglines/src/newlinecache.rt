@@ -1,3 +1,5 @@
+//! Where the lines of a text begin.
+
 ghost use Rattle.std.specs.Prelude.{◌≡◌, ◌+◌, ◌^◌, ◌<◌, ◌≤◌, ◌↔◌, ℕ, List, []};
 ghost use Rattle.std.specs.Prelude.{◌++◌, map, length, take, Some, IfOk, OnOk, OnErr, IsErrOf, IsOkUnless, SomeIff};
 ghost use Rattle.std.specs.Iterator.{Drains, IsFinite};
