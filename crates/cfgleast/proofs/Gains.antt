@@ -38,18 +38,6 @@ module _ (f g : Sym → Option ℕ) where
   sum_kept kept (x ∷ a) n e = let p = plus_parts (f x) (sum_of f a) n e in
       plus_both (g x) (sum_of g a) p.first p.second (kept x p.first p.first_is) (sum_kept kept a p.second p.second_is) ∙ ap Some (sym p.whole)
 
-  pub sum_gained : (c : ℕ) → ((s : Sym) (d : ℕ) → g s ≡ Some d → (f s ≡ Some d) ⊎ (c ≤ d)) → (a : List Sym) (n : ℕ) → sum_of g a ≡ Some n
-      → (sum_of f a ≡ Some n) ⊎ (c ≤ n)
-  sum_gained c one [] n e = inl e
-  sum_gained c one (x ∷ a) n e = let p = plus_parts (g x) (sum_of g a) n e in
-      elim (one x p.first p.first_is) [
-        | inr h ↦ inr (omega (arith, p.whole, h))
-        | inl h ↦ elim (sum_gained c one a p.second p.second_is) [
-          | inr k ↦ inr (omega (arith, p.whole, k))
-          | inl k ↦ inl (plus_both (f x) (sum_of f a) p.first p.second h k ∙ ap Some (sym p.whole))
-        ]
-      ]
-
 -- rule r, which wasn't settled, is settled at c
 pub record Gains (old new : ℕ → Option ℕ) (r c : ℕ) : Type 0 where
   pub before : old r ≡ None
@@ -73,15 +61,5 @@ module _ (cost : ℕ → ℕ) (old new : ℕ → Option ℕ) (r c : ℕ) (gains 
   symbol_kept (Token t) d e = e
   symbol_kept (Rule q) d e = rule_kept q d e
 
-  symbol_gained : (s : Sym) (d : ℕ) → symbol_cost cost new s ≡ Some d → (symbol_cost cost old s ≡ Some d) ⊎ (c ≤ d)
-  symbol_gained (Token t) d e = inl e
-  symbol_gained (Rule q) d e = elim (rule_gained q d e) [
-    | inl k ↦ inl k
-    | inr k ↦ inr (omega (arith, k.1))
-  ]
-
   pub sequence_kept : (a : List Sym) (n : ℕ) → sum_of (symbol_cost cost old) a ≡ Some n → sum_of (symbol_cost cost new) a ≡ Some n
   sequence_kept a n e = sum_kept (symbol_cost cost old) (symbol_cost cost new) symbol_kept a n e
-
-  pub sequence_gained : (a : List Sym) (n : ℕ) → sum_of (symbol_cost cost new) a ≡ Some n → (sum_of (symbol_cost cost old) a ≡ Some n) ⊎ (c ≤ n)
-  sequence_gained a n e = sum_gained (symbol_cost cost old) (symbol_cost cost new) c symbol_gained a n e

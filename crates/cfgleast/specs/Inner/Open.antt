@@ -1,11 +1,11 @@
--- Productions on the way to their sums: each waits for one of its rules until these are all settled, and is then queued, unless its rule was
--- settled, or has a production in the queue, that costs at most as much. `settled` says which rules are settled, and at which cost.
+-- Productions on the way to their sums: each waits for one of its rules until these are all settled, and is then queued, unless its rule is
+-- settled at most at its sum, or has a production in the queue whose sum is at most that. `settled` says which rules are settled, and at
+-- which cost.
 use Rattle.std.specs.Prelude.{◌≡◌, ℕ, ◌+◌, ◌<◌, ◌≤◌, ◌++◌, List, [], ◌∷◌, Option, Some, None, All, Contains, length, take, drop, sum_by, slice_index, slice_index_or, slice_set}
 use Rattle.std.specs.List.Sorted.{IsPermutation}
 use Rattle.derivation.specs.Grammar.{Rule, Grammar, IsGrammar}
 use Rattle.cfgtables.specs.Openings.{nth_production}
 use Rattle.cfgleast.specs.declared.partial.Partial.{Partial}
-use Rattle.derivation.specs.Sums.{sum_of, symbol_cost}
 use Rattle.derivation.specs.CostLists.{rule_cost}
 use Rattle.cfgleast.specs.CutSums.{IsCutSum}
 
