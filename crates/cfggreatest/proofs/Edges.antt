@@ -1,5 +1,5 @@
 -- The rules that a search reaches from a rule; a rule is above those that it leads to.
-use Rattle.std.proofs.Common.{◌≡◌, ℕ, List, [], ◌∷◌, Bool, Contains, sym, subst}
+use Rattle.std.proofs.Common.{ℕ, List, [], ◌∷◌, Bool, Contains, sym, subst}
 use Rattle.derivation.specs.Grammar.{Sym, Rule, Grammar, HasProduction}
 use Rattle.search.specs.Components.{ReachableFrom}
 use Rattle.search.specs.Reachable.{Reaches, SearchState, led, seed}

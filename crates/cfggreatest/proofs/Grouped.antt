@@ -15,7 +15,7 @@ use Rattle.derivation.specs.declared.errors.CostError.TheVariants.{NoSentence, C
 use Rattle.search.proofs.Members.{contains_or_not}
 use Rattle.cfgtables.specs.Openings.{nth_production}
 use Rattle.cfggreatest.specs.GreatestCosts.{Means}
-use Rattle.cfggreatest.specs.Inner.AtLeast.{HasWord, IsUnproductive, weigh}
+use Rattle.cfggreatest.specs.Inner.AtLeast.{IsUnproductive, weigh}
 use Rattle.cfggreatest.specs.Inner.Known.{group_result, known_cost, read_known}
 use Rattle.cfggreatest.specs.Inner.Sums.{AreReached, AreUnder, CostAtLeast, HaveWords, IsGroup, IsRead, sequence_cost}
 use Rattle.cfggreatest.specs.declared.sums.Sums.{Sums}
@@ -78,8 +78,11 @@ module _ (g : Grammar) (cost : ℕ → ℕ) (productive : List Bool) (known : �
         let sequence : (most : ℕ) → b.rest ≤ most → AreKept most p = λ most few _. inr (record {
           inner = u.inner;
           rest = b.rest;
-          inside = λ k d lt'. (u.is.read k d lt', λ r e none. group.closed p.rule r among
-              (p.symbols, has, record { all = u.all; holds = (k, lt', get_or_default p.symbols k (Rule r) d lt' ∙ e) }) none);
+          inside = λ k d lt'. (
+            u.is.read k d lt',
+            λ r e none. group.closed p.rule r among
+                (p.symbols, has, record { all = u.all; holds = (k, lt', get_or_default p.symbols k (Rule r) d lt' ∙ e) }) none,
+          );
           whole = b.whole;
           little = few;
           few = elim u.few [ inl none ↦ inl none | inr k ↦ inr (let free = k.0 in omega (arith, cut, free), k.1) ];

@@ -1,5 +1,5 @@
 -- What rules of a group cost at least, from the sums of their productions.
-use Rattle.std.proofs.Common.{◌≡◌, ℕ, zero, suc, ◌+◌, ◌*◌, ◌<◌, ◌≤◌, ◌⊎◌, inl, inr, ltb, ◌||◌, Bool, true, false, List, [], ◌∷◌, All, Contains, IsTrue, Option, Some, None, Result, Ok, Err, get_or, append-nil, ltb-true, refl, sym, ap, subst, ◌∙◌, arith, true≢false}
+use Rattle.std.proofs.Common.{◌≡◌, ℕ, zero, suc, ◌+◌, ◌*◌, ◌<◌, ◌≤◌, ◌⊎◌, inl, inr, ltb, ◌||◌, Bool, true, false, List, [], ◌∷◌, Contains, IsTrue, Option, Some, None, Result, Ok, Err, get_or, append-nil, ltb-true, refl, sym, ap, subst, ◌∙◌, arith, true≢false}
 use Rattle.std.proofs.Math.Nat.{mul-le-mul_left}
 use Rattle.std.proofs.lemmas.Bool.{cases_Bool, cases_eq, cases_lt, lt-ltb}
 use Rattle.std.proofs.lemmas.List.Elements.{All-cons, All-nil}

@@ -65,7 +65,8 @@ fn set_results(
 )
     requires { (r : ℕ) → Contains rules.now r → r < length results.old.items }
     ensures len { length results.new.items ≡ length results.old.items }
-    ensures set { (r : ℕ) → Contains rules.now r → slice_index_or results.new.items r (Err CostError.NoSentence) ≡ value }
+    ensures set { (r : ℕ) → Contains rules.now r
+        → slice_index_or results.new.items r (Err CostError.NoSentence) ≡ value }
     ensures rest { (r : ℕ) → (Contains rules.now r → ⊥) → slice_index_or results.new.items r (Err CostError.NoSentence)
         ≡ slice_index_or results.old.items r (Err CostError.NoSentence) }
 {

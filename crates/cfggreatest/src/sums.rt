@@ -93,7 +93,7 @@ pub(crate) struct Group<'a> {
     pub(crate) productive: &'a Vob,
     /// What tokens cost.
     pub(crate) costs: &'a [u8],
-    /// For each rule the number of its group. Rules lead only to rules of the same group, and of those with lower numbers.
+    /// For each rule the number of its group. Rules lead to those of the same group, and of ones with lower numbers.
     pub(crate) numbers: &'a [usize],
     /// The number of this group.
     pub(crate) number: usize,

@@ -7,7 +7,6 @@ use Rattle.cfggreatest.specs.Inner.AtLeast.{AtLeast, HasWord, IsAbove, IsUnprodu
 use Rattle.cfggreatest.specs.Inner.Edges.{IsEdge}
 use Rattle.cfggreatest.specs.Inner.Known.{AreTrue, known_below, known_cost, read_symbol}
 use Rattle.cfggreatest.specs.declared.sums.Group.{Group}
-use Rattle.cfggreatest.specs.declared.sums.Grows.{Grows}
 use Rattle.cfggreatest.specs.declared.sums.Sums.{Sums}
 
 module _ (cost : ℕ → ℕ) (known : ℕ → Option (Result (Option ℕ) CostError)) where

@@ -1,4 +1,4 @@
-use Rattle.std.proofs.Common.{◌≡◌, ◌<◌, ◌∙◌, ℕ, length, ap, arith, subst, sym}
+use Rattle.std.proofs.Common.{◌≡◌, ◌<◌, ◌∙◌, length, ap, arith, subst, sym}
 use Rattle.std.specs.List.{slice_index}
 use Rattle.search.specs.Components.{AreComponents}
 use Rattle.cfggreatest.specs.Inner.Edges.{IsEdge}
@@ -15,7 +15,7 @@ rules g c = c.to_usize-rules_len.ensures.value ∙ c.rules_len.ensures.value
 
 components : (g : Over) (c : In_ok-groups g)
     → AreComponents (IsEdge (g.T.Tables.grammar c.args.grm.now) c.in_ok-productive.productive) (g.T.Tables.grammar c.args.grm.now).rules
-        c.in_ok-groups.groups.numbers.items c.in_ok-groups.groups.members
+    c.in_ok-groups.groups.numbers.items c.in_ok-groups.groups.members
 components g c = subst (λ n. AreComponents (IsEdge (g.T.Tables.grammar c.args.grm.now) c.in_ok-productive.productive) n c.in_ok-groups.groups.numbers.items c.in_ok-groups.groups.members)
     (rules g c) c.in_ok-groups.ensures
 

@@ -1,6 +1,6 @@
 use Rattle.std.proofs.Common.{◌<◌, ◌∙◌, arith, length, map, sym, subst, Contains}
 use Rattle.derivation.specs.Grammar.{Rule}
-use Rattle.search.specs.Reachable.{FoundBy, Reaches, SearchState}
+use Rattle.search.specs.Reachable.{Reaches, SearchState}
 use Rattle.search.proofs.Each.{each_all, each_more, each_none, found_mapped}
 use Rattle.cfgtables.specs.Openings.{ArePositionsOf, nth_production}
 use Rattle.cfgtables.proofs.Slices.{mapped_all}

@@ -1,4 +1,4 @@
-use Rattle.std.proofs.Common.{◌≡◌, ◌<◌, ℕ, inl, inr, Contains, get_or, length, take, subst, sym, arith, ◌∙◌}
+use Rattle.std.proofs.Common.{inl, inr, Contains, get_or, subst, sym, arith}
 use Rattle.std.specs.List.{slice_index}
 use Rattle.std.proofs.lemmas.List.{get_or_default, take_all}
 use Rattle.std.proofs.lemmas.List.Elements.{Contains-get_or}

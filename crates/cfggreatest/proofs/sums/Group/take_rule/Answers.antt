@@ -1,8 +1,8 @@
-use Rattle.std.proofs.Common.{◌≡◌, ◌<◌, ◌⊎◌, ◌∙◌, ℕ, All, List, map, length, sym, subst, arith}
+use Rattle.std.proofs.Common.{◌<◌, ◌⊎◌, ◌∙◌, All, map, length, sym, subst, arith}
 use Rattle.std.specs.List.{slice_index}
 use Rattle.std.proofs.lemmas.List.{length-map}
 use Rattle.std.proofs.lemmas.Result.{err_from_is_err_and}
-use Rattle.derivation.specs.Grammar.{Grammar, HasProduction}
+use Rattle.derivation.specs.Grammar.{HasProduction}
 use Rattle.cfgtables.specs.NumberedSymbols.{sym_of}
 use Rattle.cfgtables.specs.Openings.{ArePositionsOf}
 use Rattle.cfgtables.proofs.Slices.{mapped_all, mapped_at, mapped_within}
