@@ -1,10 +1,12 @@
 -- A stack that contains each number at most once: one number more, and one less.
-use Rattle.std.proofs.Common.{◌≡◌, ℕ, ◌+◌, ◌<◌, Bool, true, false, cond, eqb, List, [], ◌∷◌, ◌++◌, length, get_or, slice_set, slice_get, Some, count_by, arith, refl, sym, ap, ◌∙◌, subst, true≢false, length-set, replicate, zero, suc, eq-eqb, get_or-set_same, get_or-set_other, inl, inr}
+use Rattle.std.proofs.Common.{◌≡◌, ℕ, ◌+◌, ◌<◌, ◌==◌, Bool, true, false, cond, eqb, List, [], ◌∷◌, ◌++◌, length, get_or, slice_set, slice_get, Some, count_by, arith, refl, sym, ap, ◌∙◌, subst, true≢false, length-set, replicate, zero, suc, eq-eqb, get_or-set_same, get_or-set_other, inl, inr}
 use Rattle.std.proofs.lemmas.Bool.{cases_eq, ne_eqb}
 use Rattle.std.proofs.lemmas.List.{length_push, set-get_or, set-set}
+use Rattle.std.proofs.lemmas.List.Sorted.{length_permutation, sum_by-IsPermutation}
 use Rattle.std.proofs.lemmas.List.Sums.{sum_by-cons, sum_by_push, sum_by-set, count_by-le-length}
 use Rattle.std.proofs.lemmas.Option.{get_or_from_slice_get}
 use Rattle.lemmas.proofs.Elements.{get_or-replicate_default, within_from_get_or, set-slice_get}
+use Rattle.std.specs.List.Sorted.{IsPermutation}
 use Rattle.cfganalysis.specs.Table.{bits_on}
 use Rattle.cfganalysis.specs.Inner.Waiting.{waits, Waits, NoneWaits, IsStack}
 use Rattle.search.proofs.Bits.{bits_on-set}
@@ -104,3 +106,10 @@ module _ (x : List Bool) (stack : List ℕ) (is : IsStack x stack) where
 
         back : slice_set (slice_set x n false) n true ≡ x
         back = set-set x n false true ∙ ap (slice_set x n) (sym last_waits) ∙ set-get_or x n false
+
+-- the same numbers in another order
+pub stack_permuted : (x : List Bool) (stack stack' : List ℕ) → IsStack x stack → IsPermutation stack stack' → IsStack x stack'
+stack_permuted x stack stack' w permuted = record {
+  once = λ n. sum_by-IsPermutation (λ m. cond (m == n) 1 0) stack stack' permuted ∙ w.once n;
+  together = length_permutation stack stack' permuted ∙ w.together;
+}

@@ -68,17 +68,19 @@ impl Dependents {
         Ok(())
     }
 
-    /// Queues the productions that depend on the rule.
+    /// Queues the productions that depend on the rule, those that were noted first before others.
     pub(crate) fn queue(&self, rule: usize, waiting: &mut Waiting)
         requires rule { rule < length self.now }
         requires within { (p : ℕ) → Contains (dependents_of self.now rule) p → p < length waiting.old }
         ensures { Queues self.now (λ r. r ≡ rule) waiting.old waiting.new }
     {
+        let before = waiting.len();
         let mut number = self.heads[rule];
         while number > 0 {
             let link = self.links[number - 1];
             waiting.put(link.production);
             number = link.next;
         }
+        waiting.reverse_from(before);
     }
 }

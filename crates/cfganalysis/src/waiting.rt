@@ -1,7 +1,9 @@
 //! A stack that contains each number at most once.
 
-ghost use Rattle.std.specs.Prelude.{◌≡◌, ◌<◌, true, false, length, replicate, slice_set, IfOk, MatchOption};
+ghost use Rattle.std.specs.Prelude.{◌≡◌, ◌<◌, ◌≤◌, true, false, length, replicate, slice_set, IfOk, MatchOption};
 ghost use Rattle.cfganalysis.specs.Inner.Waiting.{NoneWaits, WaitsNoMore};
+ghost use Rattle.std.specs.List.Sorted.{IsPermutation};
+ghost use Rattle.cfganalysis.specs.Table.{bits_on};
 
 use cfgindex::Vob;
 use std::alloc::{AllocError, Global};
@@ -59,4 +61,27 @@ impl Waiting {
         self.bits.set(number, false);
         Some(number)
     }
+    /// How many numbers wait.
+    pub(crate) fn len(&self) -> usize
+        ensures { result ≡ bits_on self.now }
+    {
+        self.stack.len()
+    }
+
+    /// Reverses the order of all but the first `from` numbers.
+    pub(crate) fn reverse_from(&mut self, from: usize)
+        ensures { self.new ≡ self.old }
+    {
+        if from < self.stack.len() {
+            reverse_part(self.stack.as_mut_slice(), from);
+        }
+    }
+}
+
+/// Reverses the numbers from an index on.
+fn reverse_part(numbers: &mut [usize], from: usize)
+    requires { from ≤ length numbers.old }
+    ensures { IsPermutation numbers.old numbers.new }
+{
+    numbers[from..].reverse();
 }

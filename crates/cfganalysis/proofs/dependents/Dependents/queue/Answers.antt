@@ -1,5 +1,5 @@
-use Rattle.std.proofs.Common.{subst, refl, arith}
-use Rattle.cfganalysis.specs.Inner.Work.{dependents_of}
+use Rattle.std.proofs.Common.{◌≡◌, subst, sym, refl, arith}
+use Rattle.cfganalysis.specs.Inner.Work.{Queues, dependents_of}
 use Rattle.cfganalysis.proofs.Linking.{QueuesBut, head_list, head_within, heads_long, link_less, link_queued, link_within, queues_last, queues_none}
 use Rattle.cfganalysis.proofs.dependents.Dependents.queue.Goals as goal
 
@@ -33,4 +33,5 @@ loop-number-preserved c =
     }
 
 pub returns : goal.returns
-returns c = queues_last _ _ _ _ _ _ _ refl (omega (arith, c.loop-number-test.false)) c.loop-number.invariant.queues
+returns c = subst (λ w. Queues c.args.self.now (λ r. r ≡ c.args.rule) c.args.waiting.now w) (sym c.reverse_from.ensures)
+    (queues_last _ _ _ _ _ _ _ refl (omega (arith, c.loop-number-test.false)) c.loop-number.invariant.queues)
