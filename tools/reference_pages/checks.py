@@ -124,6 +124,6 @@ def without_arguments(words):
 
 
 def broken(reference):
-    """All that a reference lacks."""
+    """What a reference is missing."""
     listed = Listed(reference)
     return [*without_doc(reference), *without_definition(reference), *listed.without_page(), *listed.differing()]

@@ -158,13 +158,13 @@ class DefinitionPages:
     def declaration(self, it):
         """The file and the item that declare a type of the kit."""
         crates = dict.fromkeys([it.crate, "core", "std_alloc", "std_collections", "std_heap", "std_io", "std"])
-        wanted = re.compile(rf"^\s*pub (?:\w+ )*(?:struct|enum|trait|type|union) {it.type_name}\b", re.M)
+        pattern = re.compile(rf"^\s*pub (?:\w+ )*(?:struct|enum|trait|type|union) {it.type_name}\b", re.M)
         folders = [f"{KIT}/rattle/{crate}/src" for crate in crates]
         files = [file for it in folders for file in sorted(glob.glob(f"{it}/**/*.rt", recursive=True))]
         near = [file for file in files if it.folders and re.search(rf"/{it.folders[0]}(/|\.rt)", file)]
         for file in dict.fromkeys(near + files):
             with open(file, encoding="utf-8") as text:
-                if wanted.search(text.read()):
+                if pattern.search(text.read()):
                     items = Scope("", (), file).items.get(it.type_name)
                     if items:
                         return file, items[0]

@@ -402,11 +402,11 @@ class Crates:
 
     def with_impls(self, crate, names):
         """The modules of a crate that may have an impl for a type, or of a trait, with one of these names."""
-        wanted = re.compile(rf"^\s*(?:unsafe )?impl\b[^{{]*\b(?:{'|'.join(sorted(names))})\b", re.M)
+        pattern = re.compile(rf"^\s*(?:unsafe )?impl\b[^{{]*\b(?:{'|'.join(sorted(names))})\b", re.M)
         folder = f"{ROOT}/crates/{crate}/src"
         for file in sorted(glob.glob(f"{folder}/**/*.rt", recursive=True)):
             with open(file, encoding="utf-8") as it:
-                if wanted.search(it.read()):
+                if pattern.search(it.read()):
                     path = re.sub(r"(^|/)(lib|main|mod)$", "", os.path.relpath(file, folder)[:-3])
                     yield self.scope(crate, tuple(it for it in path.split("/") if it))
 

@@ -11,7 +11,7 @@ use Rattle.cfgleast.specs.declared.partial.Partial.{Partial}
 use Rattle.derivation.specs.Sums.{sum_of, symbol_cost}
 use Rattle.derivation.specs.CostLists.{IsListed}
 use Rattle.cfgleast.specs.CutSums.{IsCutSum, StopsAt}
-use Rattle.cfgleast.specs.Inner.Open.{IsPartial, WaitsFor, HasAtMost, by_cost, by_sum, AreBests, MovesOn, enters, beaten, waits, Offers, enqueued, declined, Phase, past, held, moved, AreOpen, AreAllOpen, AreWaking, IsAmong, count_open, waiting_for}
+use Rattle.cfgleast.specs.Inner.Open.{IsPartial, WaitsFor, HasAtMost, by_cost, by_sum, AreBests, MovesOn, enters, beaten, waits, Enqueues, enqueued, declined, Phase, past, held, moved, AreOpen, AreAllOpen, AreWaking, IsAmong, count_open, waiting_for}
 use Rattle.derivation.proofs.Sums.{sum_of-append, plus_both, plus_zero}
 use Rattle.lemmas.proofs.Contained.{contains_cases}
 use Rattle.lemmas.proofs.Elements.{get_or-set}
@@ -83,18 +83,18 @@ module _ (cost : ℕ → ℕ) (settled : ℕ → Option ℕ) where
     at_most_weaker queue r b c (by_cost d h low) le = by_cost d h (omega (arith, low, le))
     at_most_weaker queue r b c (by_sum s q h of low) le = by_sum s q h of (omega (arith, low, le))
 
-    -- a production with its sum is offered to its rule
+    -- a production with its sum is queued or dropped
     module _ (p c : ℕ) (sum : IsCutSum cost settled (nth_production g p).symbols c) (queue queue' : List (ℕ × ℕ)) (bests bests' : List ℕ)
         (are : AreBests cost settled g queue bests) where
-      pub offered_moves : (waiting : List (List Partial)) → (nth_production g p).rule < length bests → Offers (nth_production g p).rule c p queue queue' bests bests'
+      pub enqueued_moves : (waiting : List (List Partial)) → (nth_production g p).rule < length bests → Enqueues (nth_production g p).rule c p queue queue' bests bests'
           → MovesOn cost settled g p queue queue' waiting waiting
-      offered_moves waiting within (enqueued less into put) = enters c sum into refl
-      offered_moves waiting within (declined low same kept) =
+      enqueued_moves waiting within (enqueued less into put) = enters c sum into refl
+      enqueued_moves waiting within (declined low same kept) =
           beaten c sum (at_most_weaker queue _ _ c (are.each _ within (omega (arith, low, sum.cut))) low) same refl
 
-      pub offered_bests : (nth_production g p).rule < length bests → Offers (nth_production g p).rule c p queue queue' bests bests' → AreBests cost settled g queue' bests'
-      offered_bests within (declined low same kept) = subst (λ l. AreBests cost settled g l bests') (sym same) (subst (AreBests cost settled g queue) (sym kept) are)
-      offered_bests within (enqueued less into put) = subst (AreBests cost settled g queue') (sym put) (record {
+      pub enqueued_bests : (nth_production g p).rule < length bests → Enqueues (nth_production g p).rule c p queue queue' bests bests' → AreBests cost settled g queue' bests'
+      enqueued_bests within (declined low same kept) = subst (λ l. AreBests cost settled g l bests') (sym same) (subst (AreBests cost settled g queue) (sym kept) are)
+      enqueued_bests within (enqueued less into put) = subst (AreBests cost settled g queue') (sym put) (record {
         rules = length-set bests (nth_production g p).rule c ∙ are.rules;
         each = λ r inside low. elim (get_or-set bests (nth_production g p).rule r c 0) [
           | inl e ↦ subst (HasAtMost cost settled g queue' r) (sym e) (more_at_most g cost settled (c, p) queue queue' into r _

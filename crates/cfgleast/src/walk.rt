@@ -7,7 +7,7 @@ ghost use Rattle.cfgtables.specs.NumberedSymbols.{sym_of};
 ghost use Rattle.derivation.specs.CostLists.{IsListed, rule_cost};
 ghost use Rattle.cfgleast.specs.CutSums.{IsCutSum, StopsAt};
 ghost use Rattle.cfgleast.specs.Inner.Open.{AreAllOpen, AreBests, AreInput, AreWaking, IsPartial};
-ghost use Rattle.cfgleast.specs.Inner.Open.{MovesOn, Offers, count_open};
+ghost use Rattle.cfgleast.specs.Inner.Open.{MovesOn, Enqueues, count_open};
 ghost use Rattle.derivation.specs.Sums.{symbol_cost};
 
 use crate::partial::{Partial, Waitlists};
@@ -84,7 +84,7 @@ pub fn walk<S: Storage>(
 /// # Errors
 ///
 /// Out of memory.
-fn offer(
+fn enqueue(
     rule: usize,
     sum: u32,
     production: u32,
@@ -92,7 +92,7 @@ fn offer(
     bests: &mut [u32],
 ) -> Result<(), AllocError>
     requires { rule < length bests.old }
-    ensures { OnOk result (Offers rule sum production queue.old queue.new bests.old bests.new) }
+    ensures { OnOk result (Enqueues rule sum production queue.old queue.new bests.old bests.new) }
 {
     if bests[rule] <= sum {
         return Ok(());
@@ -101,7 +101,7 @@ fn offer(
     queue.push(sum, production)
 }
 
-/// Advances a production from what was summed: it is offered to its rule, or waits for a rule.
+/// Advances a production from what was summed: it is queued or dropped, or waits for a rule.
 ///
 /// # Errors
 ///
@@ -130,7 +130,7 @@ fn advance<S: Storage, T: Tables<S>>(
     match walk(costs, least, symbols, partial) {
         Ok(sum) => {
             let rule = usize::from(grm.prod_to_rule(p));
-            offer(rule, sum, production, queue, bests)
+            enqueue(rule, sum, production, queue, bests)
         }
         Err((rule, partial)) => waiting.push(rule, partial),
     }

@@ -1,5 +1,5 @@
--- The word of each kind of error: it is in the error's line, and JSON's `kind`. A word is never reused for another kind, since people
--- search for it and scripts go by it.
+-- The word of each kind of error: it is in the error's line, and JSON's `kind`. A word is never used again for another kind, since
+-- people search for it, and scripts depend on it.
 use Rattle.std.specs.Prelude.{ℕ, List, codes}
 use Rattle.cfgrammar.specs.Errors.{ErrorKind, IllegalInteger, IllegalName, IllegalString, IncompleteRule, IncompleteComment, IncompleteAction, MissingColon, MissingRightArrow, MismatchedBrace, NonEmptyProduction, PrematureEnd, ProductionNotTerminated, ProgramsNotSupported, UnknownDeclaration, PrecNotFollowedByToken, DuplicatePrecedence, DuplicateAvoidInsertDeclaration, DuplicateImplicitTokensDeclaration, DuplicateExpectDeclaration, DuplicateExpectRRDeclaration, DuplicateStartDeclaration, DuplicateActiontypeDeclaration, DuplicateEPP, ReachedEOL, InvalidString, NoStartRule, UnknownSymbol, InvalidStartRule, UnknownRuleRef, UnknownToken, NoPrecForToken, UnknownEPP, ExpectedInput, InvalidYaccKind, Header, StorageTooSmall}
 use Rattle.cfgrammar.specs.HeaderErrors.{ShownErrorKind}

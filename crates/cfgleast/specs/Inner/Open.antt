@@ -94,9 +94,9 @@ pub record AreInput (g : Grammar) (most : ℕ) (costs : List ℕ) (least : List 
   pub rules : length least ≡ g.rules
 
 -- production p of rule r is queued with its sum c, which is then the rule's best, if the best was more
-pub data Offers (r c p : ℕ) (queue queue' : List (ℕ × ℕ)) (bests bests' : List ℕ) : Type 0 where
-  enqueued : c < slice_index bests r → IsPermutation ((c, p) ∷ queue) queue' → bests' ≡ slice_set bests r c → Offers r c p queue queue' bests bests'
-  declined : slice_index bests r ≤ c → queue' ≡ queue → bests' ≡ bests → Offers r c p queue queue' bests bests'
+pub data Enqueues (r c p : ℕ) (queue queue' : List (ℕ × ℕ)) (bests bests' : List ℕ) : Type 0 where
+  enqueued : c < slice_index bests r → IsPermutation ((c, p) ∷ queue) queue' → bests' ≡ slice_set bests r c → Enqueues r c p queue queue' bests bests'
+  declined : slice_index bests r ≤ c → queue' ≡ queue → bests' ≡ bests → Enqueues r c p queue queue' bests bests'
 
 -- the least entry has left the queue
 pub record HasPopped (g : Grammar) (cost : ℕ → ℕ) (least : List (Option ℕ)) (top : ℕ × ℕ) (queue : List (ℕ × ℕ)) (bests : List ℕ) (waiting : List (List Partial)) : Type 0 where

@@ -7,10 +7,10 @@ use Rattle.cfgtables.specs.NumberedSymbols.{sym_of}
 use Rattle.cfgtables.specs.Openings.{nth_production}
 use Rattle.derivation.specs.CostLists.{IsListed, rule_cost}
 use Rattle.cfgleast.specs.CutSums.{IsCutSum, StopsAt}
-use Rattle.cfgleast.specs.Inner.Open.{AreBests, MovesOn, Offers, waits}
+use Rattle.cfgleast.specs.Inner.Open.{AreBests, MovesOn, Enqueues, waits}
 use Rattle.derivation.proofs.Listed.{symbols_listed}
 use Rattle.cfgleast.proofs.Settles.{owner_within}
-use Rattle.cfgleast.proofs.Walked.{offered_bests, offered_moves, stop_listed, stop_waits}
+use Rattle.cfgleast.proofs.Walked.{enqueued_bests, enqueued_moves, stop_listed, stop_waits}
 use Rattle.cfgleast.proofs.walk.advance.Given.{Over}
 use Rattle.cfgleast.proofs.walk.advance.Goals.{After-from-rule}
 use Rattle.cfgleast.proofs.walk.advance.Goals as goal
@@ -22,9 +22,9 @@ within : (g : Over) (c : After-from-rule g) → (nth_production (g.T.Tables.gram
 within g c = subst (λ n. (nth_production (g.T.Tables.grammar c.args.grm.now) c.args.partial.production).rule < n) (sym c.requires.bests.rules)
     (owner_within (g.T.Tables.grammar c.args.grm.now) c.args.partial.production c.requires.input.grammar c.requires.partial.index)
 
-pub offer-requires : goal.offer-requires
-offer-requires g c =
-    let at = (goal.at.offer-requires g c).After-from-rule in
+pub enqueue-requires : goal.enqueue-requires
+enqueue-requires g c =
+    let at = (goal.at.enqueue-requires g c).After-from-rule in
     subst (λ n. n < length c.args.bests.now) (sym (owner g at)) (within g at)
 
 whole : (g : Over) (c : After-from-rule g) → IsCutSum (slice_index c.args.costs.now) (rule_cost c.args.least.now)
@@ -37,20 +37,20 @@ returns-in-Ok-clause-moves g c =
     let grammar = g.T.Tables.grammar c.args.grm.now in
     let at = (goal.at.returns-in-Ok-clause-moves g c).After-from-rule in
     let p = c.args.partial.production in
-    on_ok_weaker {Q = MovesOn (slice_index c.args.costs.now) (rule_cost c.args.least.now) grammar p c.args.queue.now c.offer.new.queue c.args.waiting.now c.args.waiting.now}
-    c.offer.result (λ (o : Offers c.from-rule.result c.in-Ok.sum p c.args.queue.now c.offer.new.queue c.args.bests.now c.offer.new.bests).
-    offered_moves (slice_index c.args.costs.now) (rule_cost c.args.least.now) grammar p c.in-Ok.sum (whole g at) _ _ _ _ c.requires.bests c.args.waiting.now (within g at)
-    (subst (λ n. Offers n c.in-Ok.sum p c.args.queue.now c.offer.new.queue c.args.bests.now c.offer.new.bests) (owner g at) o)) c.offer.ensures
+    on_ok_weaker {Q = MovesOn (slice_index c.args.costs.now) (rule_cost c.args.least.now) grammar p c.args.queue.now c.enqueue.new.queue c.args.waiting.now c.args.waiting.now}
+    c.enqueue.result (λ (o : Enqueues c.from-rule.result c.in-Ok.sum p c.args.queue.now c.enqueue.new.queue c.args.bests.now c.enqueue.new.bests).
+    enqueued_moves (slice_index c.args.costs.now) (rule_cost c.args.least.now) grammar p c.in-Ok.sum (whole g at) _ _ _ _ c.requires.bests c.args.waiting.now (within g at)
+    (subst (λ n. Enqueues n c.in-Ok.sum p c.args.queue.now c.enqueue.new.queue c.args.bests.now c.enqueue.new.bests) (owner g at) o)) c.enqueue.ensures
 
 pub returns-in-Ok-clause-bests : goal.returns-in-Ok-clause-bests
 returns-in-Ok-clause-bests g c =
     let grammar = g.T.Tables.grammar c.args.grm.now in
     let at = (goal.at.returns-in-Ok-clause-bests g c).After-from-rule in
     let p = c.args.partial.production in
-    on_ok_weaker {Q = AreBests (slice_index c.args.costs.now) (rule_cost c.args.least.now) grammar c.offer.new.queue c.offer.new.bests}
-    c.offer.result (λ (o : Offers c.from-rule.result c.in-Ok.sum p c.args.queue.now c.offer.new.queue c.args.bests.now c.offer.new.bests).
-    offered_bests (slice_index c.args.costs.now) (rule_cost c.args.least.now) grammar p c.in-Ok.sum (whole g at) _ _ _ _ c.requires.bests (within g at)
-    (subst (λ n. Offers n c.in-Ok.sum p c.args.queue.now c.offer.new.queue c.args.bests.now c.offer.new.bests) (owner g at) o)) c.offer.ensures
+    on_ok_weaker {Q = AreBests (slice_index c.args.costs.now) (rule_cost c.args.least.now) grammar c.enqueue.new.queue c.enqueue.new.bests}
+    c.enqueue.result (λ (o : Enqueues c.from-rule.result c.in-Ok.sum p c.args.queue.now c.enqueue.new.queue c.args.bests.now c.enqueue.new.bests).
+    enqueued_bests (slice_index c.args.costs.now) (rule_cost c.args.least.now) grammar p c.in-Ok.sum (whole g at) _ _ _ _ c.requires.bests (within g at)
+    (subst (λ n. Enqueues n c.in-Ok.sum p c.args.queue.now c.enqueue.new.queue c.args.bests.now c.enqueue.new.bests) (owner g at) o)) c.enqueue.ensures
 
 pub returns-in-Err-clause-moves : goal.returns-in-Err-clause-moves
 returns-in-Err-clause-moves g c =
