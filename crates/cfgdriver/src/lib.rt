@@ -2,7 +2,7 @@
 //! errors, or of its grammar.
 #![tactic(auto)]
 
-ghost use Rattle.std.specs.Prelude.{All, IfOk, IfSome, None, option_map};
+ghost use Rattle.std.specs.Prelude.{◌≡◌, All, IfOk, IfSome, None, option_map};
 ghost use Rattle.std.specs.Fn.{FnOnceReturnsAt, FnOnceTakesAt};
 ghost use Rattle.cfgrammar.specs.Answer.{Found, IsGrammar, WasRead, in_numbers};
 ghost use Rattle.cfgrammar.specs.ErrorSpans.{EachErrorSpan, EachParsedSpan};
