@@ -14,6 +14,11 @@ returns-in-UnknownKind c =
     let said = ap (λ (error : UsageError). usage_error_text (usage_error_view error) ++ usage) c.in-UnknownKind.is in
     rw said (simp append_assoc c.format-in-UnknownKind.ensures.ok)
 
+pub returns-in-UnknownDefaultKind : goal.returns-in-UnknownDefaultKind
+returns-in-UnknownDefaultKind c =
+    let said = ap (λ (error : UsageError). usage_error_text (usage_error_view error) ++ usage) c.in-UnknownDefaultKind.is in
+    rw said (simp append_assoc c.format-in-UnknownDefaultKind.ensures.ok)
+
 pub returns-in-UnknownFormat : goal.returns-in-UnknownFormat
 returns-in-UnknownFormat c =
     let said = ap (λ (error : UsageError). usage_error_text (usage_error_view error) ++ usage) c.in-UnknownFormat.is in
