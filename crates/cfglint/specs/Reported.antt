@@ -53,13 +53,13 @@ pub record NotedError : Type 0 where
   pub hint : Option (List ℕ)
 
 -- the message of an error: with its note, if there is one, since few programs show the line of a note, and with the word of its kind
-abbrev pub said_note : Option (List ℕ) → List ℕ
-said_note None = []
-said_note (Some words) = codes ": " ++ words
+abbrev pub said_note : Option (List ℕ) → List ℕ → List ℕ
+said_note None rest = rest
+said_note (Some words) rest = codes ": " ++ (words ++ rest)
 
 abbrev pub error_message : NotedError → List ℕ
 error_message shown = codes "error: "
-    ++ (error_text shown.error.kind ++ (said_note shown.hint ++ (codes " [" ++ (error_word shown.error.kind ++ codes "]"))))
+    ++ (error_text shown.error.kind ++ said_note shown.hint (codes " [" ++ (error_word shown.error.kind ++ codes "]")))
 
 -- the note on an error, in a text with these names
 abbrev pub note_on : List ℕ → Names → GrammarError → Option (List ℕ)
