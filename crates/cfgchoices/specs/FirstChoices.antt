@@ -27,7 +27,8 @@ pub record IsChoiceOf (x : CostTables) (q d p m : ℕ) : Type 0 where
   pub below : All (IsBelowIfChosen x.choices m) (nth_production x.grammar p).symbols
   pub deep : m < x.grammar.rules
 
--- the least costs are a generator's; rules that cost 1 to 65535 have choices, rules that cost 0 have none
+-- The grammar and the costs are a generator's, whose own choices (`settled`) may be others. Here rules that cost 1 to 65535 have choices,
+-- and rules that cost 0 have none.
 pub record AreChosen (x : CostTables) : Type 0 where
   pub settled : List (Option (ℕ × ℕ))
   pub number : ℕ

@@ -23,8 +23,8 @@ times p positions = count_by (nat_eq p) positions
 abbrev pub IsFree : Grammar → (ℕ → ℕ) → ℕ → List ℕ → Type 0
 IsFree g cost r w = Least (HasProduction g) cost r 0 × (w ≡ [])
 
--- With the productions, each used as often as it was opened, the rule derives a list that consists of the tokens with rules of cost 0
--- between them.
+-- With the productions, each used as often as it was opened, `all` times in total, the rule derives a list of the tokens w, in order,
+-- with any rules of cost 0 before, between and after them.
 pub record IsDerivedBy (g : Grammar) (cost : ℕ → ℕ) (opened : ℕ → ℕ) (all : ℕ) (r : ℕ) (w : List ℕ) : Type 0 where
   pub positions : List ℕ
   pub list : List Sym

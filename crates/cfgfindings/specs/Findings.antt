@@ -73,7 +73,7 @@ module _ (g : Numbered) where
   ReportsUselessRule r (Some finding) = IsUselessRule r × (finding ≡ useless_rule g r)
   ReportsUselessRule r None = IsUselessRule r → ⊥
 
-  -- such a token, other than the end token, which has no name
+  -- a token that is reachable only through unusable productions, and isn't the end token, which has no name
   pub record IsUselessToken (t : ℕ) : Type 0 where
     pub named : t + 1 < length g.tokens
     pub useless : IsUseless (core g) (Token t)
@@ -123,7 +123,7 @@ module _ (s : Syntax) (g : Numbered) where
     pub unproductive : IsUnproductiveRule g r
     pub start : IsStartRule s g r
 
-  -- the first rule of the file in its sink group, which doesn't have the start rule
+  -- of the file's rules in its sink group this is the first, and the file's start rule isn't in that group
   pub record IsFirstOfSinkGroup (r : ℕ) : Type 0 where
     pub ours : rules_added g ≤ r
     pub sink : IsInSinkGroup (HasProduction (core g)) r
@@ -136,7 +136,7 @@ module _ (s : Syntax) (g : Numbered) where
       × ((IsUnproductiveStart r × (finding ≡ start_without_sentence g r others)) ⊎ (IsFirstOfSinkGroup r × (finding ≡ no_sentence g r others)))
   ReportsNoSentence r None = (IsUnproductiveStart r → ⊥) × (IsFirstOfSinkGroup r → ⊥)
 
-  -- any other unproductive rule, unless it is in such a group
+  -- an unproductive rule of the file that is neither its start rule nor in a sink group
   pub record IsUnusableRule (r : ℕ) : Type 0 where
     pub unproductive : IsUnproductiveRule g r
     pub no_sink : IsInSinkGroup (HasProduction (core g)) r → ⊥
@@ -153,8 +153,8 @@ module _ (s : Syntax) where
     pub listed : Contains s.productions production
     pub holds : Contains (map name_of production.symbols) (RuleName name)
 
-  -- A rule's name is that of the token that first occurs at this span, and no production contains the rule: where its name is meant to be
-  -- the rule, it is the token. The start rule is used all the same, unless a `%token` declares the token.
+  -- A rule's name is that of the token that first occurs at this span, and no production contains the rule: its name always
+  -- means the token. The start rule is used even so: it is shadowed only if a `%token` declares the token.
   pub record IsShadowed (name : List ℕ) (span : Span) : Type 0 where
     pub index : ℕ
     pub token : slice_get s.tokens index ≡ Some name

@@ -21,7 +21,7 @@ pub record ShownFinding : Type 0 where
   pub spans : List Span
   pub text : List ℕ
 
--- what the spans mean: for the kinds whose findings may be about several places, all are shown
+-- which spans are shown: all (`DuplicationError`) for the kinds whose findings may be about several places, else the first (`Error`)
 abbrev pub spanskind_of : FindingKind → SpansKind
 spanskind_of ShadowedRule = DuplicationError
 spanskind_of StartWithoutSentence = DuplicationError
@@ -150,7 +150,7 @@ unused_precedence name span = record {
   text = codes "Unused precedence: token " ++ (quoted name ++ codes " is not a symbol of any production, and none takes its precedence from it");
 }
 
--- a finding at a word, which its text has in quotes between these
+-- a finding at a word: its text is `before`, the word's name in quotes, and `after`
 abbrev pub at_word : FindingKind → List ℕ → List ℕ → Word → ShownFinding
 at_word kind before after word = record { kind = kind; spans = word.span ∷ []; text = before ++ (quoted word.name ++ after) }
 

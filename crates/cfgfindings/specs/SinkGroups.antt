@@ -17,8 +17,8 @@ module _ (P : ℕ → List Sym → Type 0) where
   abbrev pub DependsOn : ℕ → ℕ → Type 0
   DependsOn a b = Reachable (λ rule. rule ≡ a) Needs b
 
-  -- The rule is unproductive, and not because of another: each rule that it depends on depends on it. These are its sink group: no rule
-  -- of it needs one outside.
+  -- The rule is unproductive, and each rule that it depends on also depends on it. The rules that it depends on are its sink group: none
+  -- of them needs a rule outside it.
   pub record IsInSinkGroup (r : ℕ) : Type 0 where
     pub unproductive : Unproductive P r
     pub back : (q : ℕ) → DependsOn r q → DependsOn q r

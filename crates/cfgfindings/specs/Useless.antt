@@ -5,7 +5,7 @@ use Rattle.cfgrammar.specs.Grammar.{Grammar, HasProduction, Sym, Rule, Token}
 use Rattle.cfgrammar.specs.Sentence.{Sentence}
 use Rattle.cfgrammar.specs.Uses.{IsUsable}
 
--- By these productions a rule leads to each symbol of its own; a token leads to nothing.
+-- A rule leads to each symbol of its productions, which P has; a token leads to nothing.
 abbrev pub Leads : (ℕ → List Sym → Type 0) → Sym → Sym → Type 0
 Leads P (Rule r) symbol = (symbols : List Sym) × P r symbols × Contains symbols symbol
 Leads P (Token t) symbol = ⊥
