@@ -3,7 +3,7 @@ import json
 import os
 import re
 
-from programs import ROOT
+from modules.programs import ROOT
 from .sources import KIT, is_file, read, source
 
 MARKS = {"pub", "abbrev", "unfoldable", "pattern"}

@@ -2,7 +2,7 @@
 import glob
 import re
 
-from programs import ROOT
+from modules.programs import ROOT
 
 from .antt import Library, is_among
 from .names import Walk, closure, names_of

@@ -4,7 +4,7 @@ import os
 import re
 import sys
 
-from programs import ROOT
+from modules.programs import ROOT
 
 from .antt import Imports
 from .sources import is_file, source

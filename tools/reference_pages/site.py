@@ -6,7 +6,7 @@ import os
 import re
 from urllib.parse import quote, unquote
 
-from programs import ROOT
+from modules.programs import ROOT
 
 from .antt import Builtin, Definition
 from .items import KitType, PublicModule

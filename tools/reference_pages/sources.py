@@ -6,7 +6,7 @@ import subprocess
 from bisect import bisect_left
 from typing import NamedTuple
 
-from programs import ROOT, Kit, Stopped
+from modules.programs import ROOT, Kit, Stopped
 
 try:
     KIT = Kit().folder

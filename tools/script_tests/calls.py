@@ -49,7 +49,7 @@ def test_another_logic(room):
 
 
 def test_the_kit_is_that_of_the_readme(room):
-    page, programs = read(f"{ROOT}/README.md"), read(f"{ROOT}/tools/programs.py")
+    page, programs = read(f"{ROOT}/README.md"), read(f"{ROOT}/tools/modules/programs.py")
     kits, logic = re.search(r'KITS, LOGIC = "the Rattle kit (.*)", "(\w+)"', programs).groups()
     assert f"`{logic}`" in page, f"README doesn't name the logic {logic}"
     for it in kits.split(" or "):

@@ -175,7 +175,7 @@ def test_other_lines_of_crates_txt(room):
 def test_other_tools_that_build(room):
     toy = Toy(room)
     toy.runs("cfglint")
-    for number, name in enumerate(("build_program", "programs.py", "run_unchanged.c"), 2):
+    for number, name in enumerate(("build_program", "modules/programs.py", "modules/run_unchanged.c"), 2):
         tool = f"{toy.top}/tools/{name}"
         write(f"{room}/new", read(tool) + "\n")
         shutil.copymode(tool, f"{room}/new")

@@ -1,6 +1,6 @@
 /* run_unchanged ROOT LIST PROGRAM BUILD KIND NAME ARGUMENT..
 
-Runs PROGRAM with these arguments if every file and folder of LIST is as LIST says (tools/programs.py writes it), and
+Runs PROGRAM with these arguments if every file and folder of LIST is as LIST says (tools/modules/programs.py writes it), and
 otherwise the script BUILD, with KIND, NAME and the arguments. With ROOT and LIST alone the status is 86 if all are.
 
 LIST begins with its own length. An entry has the inode, the size, and the time of the last change of the inode, which

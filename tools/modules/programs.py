@@ -5,7 +5,7 @@ A program is kept in crates/NAME/out/proved/SUM, or in out/tried/SUM if it is un
 that it was made of: the sources of its crate and of those below it, by name and byte, what crates.txt says of these
 crates, HANDLES, the kit, and the tools that build it. It is put there in one step, after every check of it. Beside it
 are its own checksum, and a list of the times, sizes and inodes of all these files and their folders. While that list
-is right, tools/run_unchanged.c runs the program at once. If anything differs, the checksum decides. The file
+is right, tools/modules/run_unchanged.c runs the program at once. If anything differs, the checksum decides. The file
 out/proved/now has the SUM of the program that ran last.
 """
 import fcntl
@@ -19,13 +19,13 @@ import struct
 import subprocess
 import time
 
-ROOT = os.path.dirname(os.path.dirname(os.path.realpath(__file__)))
+ROOT = os.path.dirname(os.path.dirname(os.path.dirname(os.path.realpath(__file__))))
 KITS, LOGIC = "the Rattle kit rattle-kit-13b or rattle-kit-13f", "dac8208d650f15bf"
-TOOLS = [f"tools/{it}" for it in ("build_program", "programs.py", "run_unchanged.c")]
+TOOLS = [f"tools/{it}" for it in ("build_program", "modules/programs.py", "modules/run_unchanged.c")]
 PARTS = ("src", "specs", "proofs")
 # how many programs of a crate are kept, so that going back to an earlier state of the sources needs no proof
 KEPT = 4
-# the status of tools/run_unchanged.c. It isn't 0, with which a damaged program of no bytes ends
+# the status of tools/modules/run_unchanged.c. It isn't 0, with which a damaged program of no bytes ends
 UNCHANGED = 86
 
 
@@ -241,12 +241,12 @@ class Program:
         return self.trying.returncode
 
     def compile_run_unchanged(self, to):
-        """Compiles tools/run_unchanged.c by the kit's clang. Without it each call computes the checksum. It is on the
+        """Compiles tools/modules/run_unchanged.c by the kit's clang. Without it each call computes the checksum. It is on the
         disk before it is in its place, since after a crash a shell would run what has no bytes, with status 0."""
         made = f"{to}.{os.getpid()}"
         how = ["-O2", "-ffreestanding", "-nostdlib", "-static", "-fuse-ld=lld"]
         clang = f"{self.kit.folder}/toolchain/bin/clang"
-        if status_of(clang, *how, f"{ROOT}/tools/run_unchanged.c", "-o", made) == 0:
+        if status_of(clang, *how, f"{ROOT}/tools/modules/run_unchanged.c", "-o", made) == 0:
             with open(made, "rb") as it:
                 os.fsync(it.fileno())
             if os.path.isdir(to):
@@ -264,7 +264,7 @@ def status_of(*words):
 
 
 def list_of(states):
-    """The list of these states, as tools/run_unchanged.c reads it."""
+    """The list of these states, as tools/modules/run_unchanged.c reads it."""
     listed, folder = b"", None
     for path, (inode, size, *changed) in states:
         is_above_next = os.path.basename(path) in PARTS
