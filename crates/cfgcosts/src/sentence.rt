@@ -89,8 +89,8 @@ impl<'a, S: Storage, T: Tables<S>> SentenceGenerator<'a, S, T> {
         Ok(sentence)
     }
 
-    /// The lexicographically first of the rule's cheapest sentences. It has at most as many tokens as it costs, and none
-    /// of them is the end token.
+    /// The lexicographically first of the rule's cheapest sentences. It has at most as many tokens as it costs, and
+    /// none of them is the end token.
     ///
     /// # Errors
     ///

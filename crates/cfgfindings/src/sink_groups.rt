@@ -17,8 +17,8 @@ use cfgrammar::{PIdx, RIdx, Symbol};
 use std::alloc::{AllocError, Global};
 use std::marker::Model;
 
-/// A grammar's unproductive rules; their groups, in each of which the rules depend on each other; and for each rule in a
-/// sink group the first rule of the group.
+/// A grammar's unproductive rules; their groups, in each of which the rules depend on each other; and for each rule in
+/// a sink group the first rule of the group.
 #[derive(Drop)]
 pub(crate) struct SinkGroups<'a> {
     unproductive: &'a Unproductive<'a>,

@@ -1,5 +1,5 @@
-//! Public types and calls of the library and of `cfgtool` that no row needs by their own names, written out as users may
-//! write them. `tools/surface check` sees that each line of docs/SURFACE.txt is here or in the code of rows and
+//! Public types and calls of the library and of `cfgtool` that no row needs by their own names, written out as users
+//! may write them. `tools/surface check` sees that each line of docs/SURFACE.txt is here or in the code of rows and
 //! consumers. Nothing here runs. What calls make is returned, since a function that drops it proves how.
 
 pub mod own;

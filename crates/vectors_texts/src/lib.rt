@@ -1,5 +1,5 @@
-//! Worked rows on what is read from texts: sections on their own, trees of a text and of each of its prefixes, errors and
-//! warnings, and calls that modify a tree.
+//! Worked rows on what is read from texts: sections on their own, trees of a text and of each of its prefixes, errors
+//! and warnings, and calls that modify a tree.
 #![tactic(auto)]
 
 mod copies;

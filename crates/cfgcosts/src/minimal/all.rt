@@ -107,8 +107,8 @@ impl<'a, S: Storage, T: Tables<S>> SentenceGenerator<'a, S, T> {
         Ok(all.unwrap_or(Vec::new(alloc)))
     }
 
-    /// All cheapest sentences of the rule, as lists of token indices, each once, in lexicographic order. None of them is
-    /// a prefix of another. Only rules that they are made of are visited.
+    /// All cheapest sentences of the rule, as lists of token indices, each once, in lexicographic order. None of them
+    /// is a prefix of another. Only rules that they are made of are visited.
     ///
     /// # Errors
     ///
