@@ -3,7 +3,7 @@ use Rattle.std.proofs.Common.{◌≡◌, ℕ, zero, suc, ◌<◌, Bool, true, fa
 use Rattle.constructs.specs.Graph.{IsGraph}
 use Rattle.constructs.specs.WordKind.{IsFinder}
 use Rattle.constructs.specs.Pieces.{strip}
-use Rattle.constructs.specs.Read.{Read, gives, prefixed, Exactly, Then, on, off, Case, begins, other, Choice, where_true, where_false, WordOr, found, missing, follow, follow_outcome, after_word, case_of, choose, found_word, word_or}
+use Rattle.constructs.specs.Read.{Read, gives, prefixed, Exactly, Then, on, off, Recovers, whole, stopped, Case, begins, other, Choice, where_true, where_false, WordOr, found, missing, follow, follow_outcome, recover, recover_outcome, after_word, case_of, choose, found_word, word_or}
 use Rattle.constructs.specs.Turns.{Turn, again, ends, Turns, last, next, after, turns, all_turns, OneOf, one, Many, turn_outcome, turn_of, many}
 use Rattle.constructs.specs.Leaves.{OneOrEnd}
 use Rattle.constructs.proofs.PiecesLemmas.{strip_sound, strip_only, strip_none}
@@ -32,6 +32,24 @@ module _ {I F A B : Type 0} {G : List ℕ → Read I F A → Type 0} {H : A → 
   -- sequence
   pub then_graph : IsGraph G g → ((a : A) → IsGraph (H a) (h a)) → IsGraph (Then G H) (follow g h)
   then_graph p q = record { sound = then_sound p q; only = then_only p q }
+
+-- recovery
+pub recovers_graph : {I F A : Type 0} {G : List ℕ → Read I F A → Type 0} {H : F → List ℕ → Read I F A → Type 0}
+    {g : List ℕ → Read I F A} {h : F → List ℕ → Read I F A} → IsGraph G g → ((fault : F) → IsGraph (H fault) (h fault)) → IsGraph (Recovers G H) (recover g h)
+recovers_graph {I = I} {F = F} {A = A} {G = G} {H = H} {g = g} {h = h} p q = record {
+  sound = λ text. sound text (g text).items (g text).outcome (p.sound text);
+  only = only;
+}
+  where
+    sound : (text : List ℕ) (items : List I) (o : Result (A × List ℕ) F) → G text (record { items = items; outcome = o })
+        → Recovers G H text (recover_outcome items o (λ fault. h fault text))
+    sound text items (Ok (a, rest)) e = whole items a rest e
+    sound text items (Err fault) e = stopped items fault (h fault text) e ((q fault).sound text)
+
+    only : (text : List ℕ) (r : Read I F A) → Recovers G H text r → recover g h text ≡ r
+    only text r (whole items a rest e) = ap (λ x. recover_outcome x.items x.outcome (λ fault. h fault text)) (p.only text _ e)
+    only text r (stopped items fault r' e1 e2) =
+        ap (λ x. recover_outcome x.items x.outcome (λ fault. h fault text)) (p.only text _ e1) ∙ ap (prefixed items) ((q fault).only text r' e2)
 
 module _ {I F A : Type 0} {G H : List ℕ → Read I F A → Type 0} {g h : List ℕ → Read I F A} where
   -- choice by a word

@@ -3,8 +3,8 @@
 use Rattle.std.proofs.Common.{◌≡◌, ℕ, List, ◌++◌, Some, None, Result, Ok, Err, All}
 use Rattle.constructs.specs.Read.{Read}
 use Rattle.constructs.specs.Leaves.{Gives, ValueOf, Leaves}
-use Rattle.constructs.specs.Construct.{Construct, gives, ends, emits, fails, word_or, silently, then, case_of, choice, here, many, Says}
-use Rattle.constructs.proofs.Yields.{EndsIn, Yields, weaker, gives_yields, fails_yields, case_yields, choice_yields, word_yields, silently_yields, emits_yields, then_yields, many_yields}
+use Rattle.constructs.specs.Construct.{Construct, gives, ends, emits, fails, word_or, silently, then, recovers, case_of, choice, here, many, Says}
+use Rattle.constructs.proofs.Yields.{EndsIn, Yields, weaker, gives_yields, fails_yields, case_yields, choice_yields, word_yields, silently_yields, emits_yields, then_yields, recovers_yields, many_yields}
 
 -- c gives a, somewhere after from
 pub record Given {I F : Type 0} {l : Leaves} {G : Gives} (T : List ℕ → List ℕ → Type 0) (c : Construct I F l G) (from : List ℕ) (a : ValueOf G) : Type 0 where
@@ -26,6 +26,7 @@ Keeps T P S (word_or {W = W} kind value c d) from Q =
 Keeps {F = F} T P S (silently {A = A} kind) from Q =
     ((text : List ℕ) (o : Result (A × List ℕ) F) → T from text → kind.Is text o → EndsIn (T from) S (λ _. Unit {0}) o) × ((a : A) → Q a)
 Keeps T P S (then c d) from Q = Keeps T P S c from (λ a. Keeps T P S (d a) from Q)
+Keeps T P S (recovers c d) from Q = Keeps T P S c from Q × ((fault : _) → S fault → Keeps T P S (d fault) from Q)
 Keeps T P S (case_of word c d) from Q =
     ((text rest : List ℕ) → T from text → text ≡ word ++ rest → T from rest) × Keeps T P S c from Q × Keeps T P S d from Q
 Keeps T P S (choice test c d) from Q = Keeps T P S c from Q × Keeps T P S d from Q
@@ -65,6 +66,7 @@ module _ {I F : Type 0} (T : List ℕ → List ℕ → Type 0) (P : I → Type 0
       word_yields (λ text word rest t w. let it = k.0 text word rest t w in (it.0, keeps (c (value text word rest)) from Q it.1)) (keeps d from Q k.1)
   keeps (silently kind) from Q k = yields_on (λ _. Unit {0}) Q (λ a _. k.1 a) (silently_yields k.0)
   keeps (then c d) from Q k = then_yields (keeps c from (λ a. Keeps T P S (d a) from Q) k) (λ a q. keeps (d a) from Q q)
+  keeps (recovers c d) from Q k = recovers_yields (keeps c from Q k.0) (λ fault s. keeps (d fault) from Q (k.1 fault s))
   keeps (case_of word c d) from Q k = case_yields word k.0 (keeps c from Q k.1) (keeps d from Q k.2)
   keeps (choice test c d) from Q k = choice_yields test (keeps c from Q k.0) (keeps d from Q k.1)
   keeps (here c) from Q k = record {

@@ -3,7 +3,7 @@ use Rattle.std.proofs.Common.{◌≡◌, ℕ, zero, suc, ◌+◌, ◌≤◌, Boo
 use Rattle.constructs.specs.WordKind.{IsShorter}
 use Rattle.constructs.specs.Leaves.{Gives, One, OneOrEnd, ValueOf, Leaves, Less, NoMore, either, both, preceded}
 use Rattle.constructs.specs.Pieces.{strip}
-use Rattle.constructs.specs.Read.{Read, gives, fails, follow, follow_outcome, after_word, case_of, choose, found_word, word_or}
+use Rattle.constructs.specs.Read.{Read, gives, fails, follow, follow_outcome, recover, recover_outcome, after_word, case_of, choose, found_word, word_or}
 use Rattle.constructs.specs.Turns.{after, turns, with_value, turn_outcome, turn_of, many}
 use Rattle.constructs.proofs.PiecesLemmas.{strip_length}
 
@@ -68,6 +68,16 @@ follow_shortens {g = g} {h = h} k enough p q = record {
       let parts = follow_parts g h text b rest e in
       omega (arith, enough parts.0 b, p.least text parts.0 parts.1 parts.2, (q parts.0).least parts.1 b rest parts.3);
 }
+
+-- recovery
+pub recover_shortens : {I F A : Type 0} {n m : A → ℕ} {g : List ℕ → Read I F A} {h : F → List ℕ → Read I F A} (k : A → ℕ)
+    → ((a : A) → k a ≤ n a) → ((a : A) → k a ≤ m a) → Shortens n g → ((fault : F) → Shortens m (h fault)) → Shortens k (recover g h)
+recover_shortens {I = I} {F = F} {A = A} {g = g} {h = h} k first second p q = record { least = λ text a rest e. go text a rest (g text).outcome refl e }
+  where
+    go : (text : List ℕ) (a : A) (rest : List ℕ) (o : Result (A × List ℕ) F) → (g text).outcome ≡ o
+        → (recover_outcome (g text).items o (λ fault. h fault text)).outcome ≡ Ok (a, rest) → k a + length rest ≤ length text
+    go text a rest (Ok x) e1 e2 = omega (arith, first a, p.least text a rest (e1 ∙ e2))
+    go text a rest (Err fault) e1 e2 = omega (arith, second a, (q fault).least text a rest e2)
 
 -- choice by a word
 pub case_shortens : {I F A : Type 0} {n m : A → ℕ} {g h : List ℕ → Read I F A} (k : A → ℕ) (word : List ℕ)

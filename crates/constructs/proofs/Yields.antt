@@ -2,7 +2,7 @@
 -- has P, a value Q, and a fault that stops the reading S.
 use Rattle.std.proofs.Common.{◌≡◌, ℕ, Bool, List, [], ◌++◌, Option, Some, None, Result, Ok, Err, All, sym, subst}
 use Rattle.std.proofs.lemmas.List.Elements.{All-nil, All-cons, All-append}
-use Rattle.constructs.specs.Read.{Read, gives, emits, fails, Exactly, Then, on, off, Case, begins, other, Choice, where_true, where_false, WordOr, found, missing}
+use Rattle.constructs.specs.Read.{Read, gives, emits, fails, Exactly, Then, on, off, Recovers, whole, stopped, Case, begins, other, Choice, where_true, where_false, WordOr, found, missing}
 use Rattle.constructs.specs.Silent.{Silently}
 use Rattle.constructs.specs.Turns.{Turn, again, ends, Turns, last, next, with_value, turn_outcome, OneOf, one, Many}
 
@@ -106,6 +106,18 @@ module _ {I F : Type 0} {T : List ℕ → Type 0} {P : I → Type 0} {S : F → 
           let second = (q a first.outcome.1).passes rest r' first.outcome.0 e2 in
           record { items = All-append P items r'.items first.items second.items; outcome = second.outcome }
       go text r t (off items fault e) = let first = p.passes text _ t e in record { items = first.items; outcome = first.outcome }
+
+  -- recovery
+  pub recovers_yields : {A : Type 0} {Q : A → Type 0} {G : List ℕ → Read I F A → Type 0} {H : F → List ℕ → Read I F A → Type 0}
+      → Yields T P S Q G → ((fault : F) → S fault → Yields T P S Q (H fault)) → Yields T P S Q (Recovers G H)
+  recovers_yields {A} {Q} {G} {H} p q = record { passes = go }
+    where
+      go : (text : List ℕ) (r : Read I F A) → T text → Recovers G H text r → Passes T P S Q r
+      go text r t (whole items a rest e) = p.passes text _ t e
+      go text r t (stopped items fault r' e1 e2) =
+          let first = p.passes text _ t e1 in
+          let second = (q fault first.outcome).passes text r' t e2 in
+          record { items = All-append P items r'.items first.items second.items; outcome = second.outcome }
 
   -- repetition
   pub many_yields : {A : Type 0} {Q : Option A → Type 0} {G : List ℕ → Read I F (Option A) → Type 0} → Yields T P S Q G

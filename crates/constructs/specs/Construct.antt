@@ -2,7 +2,7 @@
 -- plain slow program that reads it.
 use Rattle.std.specs.Prelude.{ℕ, Bool, true, false, List, Option, Some, None}
 use Rattle.constructs.specs.Read as read
-use Rattle.constructs.specs.Read.{Read, Then, Case, Choice, WordOr, Exactly, follow}
+use Rattle.constructs.specs.Read.{Read, Then, Recovers, Case, Choice, WordOr, Exactly, follow}
 use Rattle.constructs.specs.Silent as silent
 use Rattle.constructs.specs.Silent.{PieceKind, Silently}
 use Rattle.constructs.specs.Turns as turns
@@ -17,7 +17,7 @@ pub data Construct (I F : Type 0) : Leaves → Gives → Type 1 where
   ends : {A : Type 0} → Construct I F Less (OneOrEnd A)
   -- an item that counts as read from here on
   emits : I → Construct I F NoMore (One (Unit {0}))
-  -- a fault
+  -- a fault, which stops the reading
   fails : {G : Gives} → (List ℕ → F) → Construct I F Less G
   -- a word of this kind and what its value is followed by; the second construct if there is no such word
   word_or : {W A : Type 0} {l m : Leaves} {G : Gives} → WordKind W → (List ℕ → W → List ℕ → A) → (A → Construct I F l G) → Construct I F m G → Construct I F m G
@@ -25,6 +25,8 @@ pub data Construct (I F : Type 0) : Leaves → Gives → Type 1 where
   silently : {A : Type 0} → PieceKind F A → Construct I F NoMore (One A)
   -- sequence
   then : {l m : Leaves} {A : Type 0} {G : Gives} → Construct I F l (One A) → (A → Construct I F m G) → Construct I F (either l m) G
+  -- the first; if a fault stops it, what it read counts, and the second reads the text again from where the first began
+  recovers : {l m : Leaves} {G : Gives} → Construct I F l G → (F → Construct I F m G) → Construct I F (both l m) G
   -- the first after a word, the second if the text doesn't begin with the word
   case_of : {l m : Leaves} {G : Gives} (word : List ℕ) → Construct I F l G → Construct I F m G → Construct I F (both (preceded word l) m) G
   -- the first if the text passes the test, the second if it doesn't
@@ -71,6 +73,7 @@ Says (fails fault) = Exactly (λ text. read.fails (fault text))
 Says (word_or kind value c d) = WordOr kind.Is value (λ a. Says (c a)) (Says d)
 Says (silently kind) = Silently kind.Is
 Says (then c d) = Then (Says c) (λ a. Says (d a))
+Says (recovers c d) = Recovers (Says c) (λ fault. Says (d fault))
 Says (case_of word c d) = Case word (Says c) (Says d)
 Says (choice test c d) = Choice test (Says c) (Says d)
 Says (here c) = λ text. Says (c text) text
@@ -85,6 +88,7 @@ computes (fails fault) = λ text. read.fails (fault text)
 computes (word_or kind value c d) = read.word_or kind.find value (λ a. computes (c a)) (computes d)
 computes (silently kind) = silent.silently kind.reads
 computes (then c d) = follow (computes c) (λ a. computes (d a))
+computes (recovers c d) = read.recover (computes c) (λ fault. computes (d fault))
 computes (case_of word c d) = read.case_of word (computes c) (computes d)
 computes (choice test c d) = read.choose test (computes c) (computes d)
 computes (here c) = λ text. computes (c text) text

@@ -41,6 +41,12 @@ pub data Then {I F A B : Type 0} (G : List ℕ → Read I F A → Type 0) (H : A
   off : (items : List I) (fault : F)
       → G text (record { items = items; outcome = Err fault }) → Then G H text (record { items = items; outcome = Err fault })
 
+-- recovery: G, or if a fault stops it what H makes of the same text, after the items that G read
+pub data Recovers {I F A : Type 0} (G : List ℕ → Read I F A → Type 0) (H : F → List ℕ → Read I F A → Type 0) (text : List ℕ) : Read I F A → Type 0 where
+  whole : (items : List I) (a : A) (rest : List ℕ) → G text (record { items = items; outcome = Ok (a, rest) }) → Recovers G H text (record { items = items; outcome = Ok (a, rest) })
+  stopped : (items : List I) (fault : F) (r : Read I F A)
+      → G text (record { items = items; outcome = Err fault }) → H fault text r → Recovers G H text (prefixed items r)
+
 -- choice by a word: G after it, H if the text doesn't begin with it
 pub data Case {I F A : Type 0} (word : List ℕ) (G H : List ℕ → Read I F A → Type 0) (text : List ℕ) (r : Read I F A) : Type 0 where
   begins : (rest : List ℕ) → text ≡ word ++ rest → G rest r → Case word G H text r
@@ -65,6 +71,13 @@ follow_outcome items (Err fault) h = record { items = items; outcome = Err fault
 
 abbrev pub follow : {I F A B : Type 0} → (List ℕ → Read I F A) → (A → List ℕ → Read I F B) → List ℕ → Read I F B
 follow g h text = follow_outcome (g text).items (g text).outcome h
+
+abbrev pub recover_outcome : {I F A : Type 0} → List I → Result (A × List ℕ) F → (F → Read I F A) → Read I F A
+recover_outcome items (Ok x) h = record { items = items; outcome = Ok x }
+recover_outcome items (Err fault) h = prefixed items (h fault)
+
+abbrev pub recover : {I F A : Type 0} → (List ℕ → Read I F A) → (F → List ℕ → Read I F A) → List ℕ → Read I F A
+recover g h text = recover_outcome (g text).items (g text).outcome (λ fault. h fault text)
 
 abbrev pub after_word : {I F A : Type 0} → (List ℕ → Read I F A) → Read I F A → Option (List ℕ) → Read I F A
 after_word g otherwise (Some rest) = g rest
