@@ -61,7 +61,7 @@ module _ (c : ℕ → Turn Part) (before : Parts) (start now : Reader) (parts : 
       let gave = ap (option_map part_view) is in
       let less = turn_shorter file_reader c (option_map part_view) now next turn (part_view x) builds gave in
       let beyond : offset_of now.len now.rest.now ≤ part_end (part_view x) = subst (λ o. IfSome o (λ x. offset_of now.len now.rest.now ≤ part_end (part_view x))) is after in
-      let further : offset_of start.len start.rest.now ≤ offset_of now.len now.rest.now = omega (arith, so_far.shorter, so_far.gathers.len) in
+      let further : offset_of start.len start.rest.now ≤ offset_of now.len now.rest.now = omega (arith, so_far.shorter, so_far.gathers.fixed) in
       let ended : more.end ≡ Some (part_end (part_view x)) = ap (λ (p : Parts). p.end) added in
       record {
         gathers = gathers_on so_far.gathers next (option_map part_view) turn builds (part_view x) gave;

@@ -10,17 +10,18 @@ use Rattle.constructs.specs.Steps.{ReaderKind, Grows, Stops, Returns, Fails, Bui
 use Rattle.constructs.proofs.Agree.{leaves}
 use Rattle.constructs.proofs.Loops.{Prefix, prefix_start, prefix_one, prefix_done, prefix_stopped}
 
-module _ {Reader Stop Made Item Fault : Type 0} (R : ReaderKind Reader Stop Made Item Fault) where
-  -- the rest after what was passed is no longer, so its offset isn't smaller
-  pub offset_on : {l : Leaves} {G : Gives} {X : Type 0} (c : Construct Item Fault l G) (view : X → ValueOf G) (now next : Reader) (x : X)
-      → Builds R view now next (Ok x) c → R.len now - length (R.rest now) ≤ R.len next - length (R.rest next)
-  offset_on c view now next x builds = omega (arith, (leaves c).least (R.rest now) (view x) (R.rest next) builds.0, builds.1)
+-- the rest after what was passed is no longer, so its offset isn't smaller, if what no step changes is the text's length
+pub offset_on : {Reader Stop Made Item Fault : Type 0} (R : ReaderKind Reader ℕ Stop Made Item Fault) {l : Leaves} {G : Gives} {X : Type 0}
+    (c : Construct Item Fault l G) (view : X → ValueOf G) (now next : Reader) (x : X)
+    → Builds R view now next (Ok x) c → R.fixed now - length (R.rest now) ≤ R.fixed next - length (R.rest next)
+offset_on R c view now next x builds = omega (arith, (leaves c).least (R.rest now) (view x) (R.rest next) builds.0, builds.1)
 
+module _ {Reader Fixed Stop Made Item Fault : Type 0} (R : ReaderKind Reader Fixed Stop Made Item Fault) where
   -- a turn that is not the last leaves a shorter rest
-  pub turn_shorter : {A X : Type 0} (c : ℕ → Construct Item Fault Less (OneOrEnd A)) (view : X → Option A) (now next : Reader) (x : X) (a : A)
-      → Builds R view now next (Ok x) (c (R.len now)) → view x ≡ Some a → length (R.rest next) < length (R.rest now)
+  pub turn_shorter : {A X : Type 0} (c : Fixed → Construct Item Fault Less (OneOrEnd A)) (view : X → Option A) (now next : Reader) (x : X) (a : A)
+      → Builds R view now next (Ok x) (c (R.fixed now)) → view x ≡ Some a → length (R.rest next) < length (R.rest now)
   turn_shorter c view now next x a builds is =
-      omega (arith, (leaves (c (R.len now))).least (R.rest now) (Some a) (R.rest next) (builds.0 ∙ ap (λ a. Ok (a, R.rest next)) is))
+      omega (arith, (leaves (c (R.fixed now))).least (R.rest now) (Some a) (R.rest next) (builds.0 ∙ ap (λ a. Ok (a, R.rest next)) is))
 
   -- if f makes another value of what was read
   module _ {A B : Type 0} (f : A → B) (old new : Reader) (r : Read Item Fault A) where
@@ -38,9 +39,9 @@ module _ {Reader Stop Made Item Fault : Type 0} (R : ReaderKind Reader Stop Made
   -- a construct that no fault stopped
   pub whole_builds : {l m : Leaves} {G : Gives} {X : Type 0} (c : Construct Item Fault l G) (d : Fault → Construct Item Fault m G) (view : X → ValueOf G)
       (now next : Reader) (x : X) → Builds R view now next (Ok x) c → Builds R view now next (Ok x) (recovers c d)
-  whole_builds c d view now next x (outcome, len, grown) =
+  whole_builds c d view now next x (outcome, fixed, grown) =
       subst (λ o. Returns R view now next (Ok x) (recover_outcome (computes c (R.rest now)).items o (λ fault. computes (d fault) (R.rest now))))
-      (sym outcome) (refl, len, grown)
+      (sym outcome) (refl, fixed, grown)
 
   -- what was read again after a fault, from where the construct began
   module _ {A : Type 0} (now stopped again next : Reader) (items : List Item) (r : Read Item Fault A) (made : R.made again ≡ R.made stopped)
@@ -52,51 +53,51 @@ module _ {Reader Stop Made Item Fault : Type 0} (R : ReaderKind Reader Stop Made
     stops_after None stops = tt
     stops_after (Some fault) stops = (stops.0, grows_after stops.1)
 
-    returns_after : {X : Type 0} (view : X → A) (result : Result X Stop) → R.len again ≡ R.len now → Returns R view again next result r
+    returns_after : {X : Type 0} (view : X → A) (result : Result X Stop) → R.fixed again ≡ R.fixed now → Returns R view again next result r
         → Returns R view now next result (prefixed items r)
-    returns_after view (Ok x) len returns = (returns.0, returns.1 ∙ len, grows_after returns.2)
-    returns_after view (Err e) len returns = stops_after (R.fault e) returns
+    returns_after view (Ok x) fixed returns = (returns.0, returns.1 ∙ fixed, grows_after returns.2)
+    returns_after view (Err e) fixed returns = stops_after (R.fault e) returns
 
   pub recovers_builds : {l m : Leaves} {G : Gives} {X : Type 0} (c : Construct Item Fault l G) (d : Fault → Construct Item Fault m G) (view : X → ValueOf G)
       (now stopped again next : Reader) (fault : Fault) (result : Result X Stop) → Stops R now stopped (Some fault) (computes c (R.rest now))
-      → R.rest again ≡ R.rest now → R.len again ≡ R.len now → R.made again ≡ R.made stopped
+      → R.rest again ≡ R.rest now → R.fixed again ≡ R.fixed now → R.made again ≡ R.made stopped
       → Builds R view again next result (d fault) → Builds R view now next result (recovers c d)
-  recovers_builds c d view now stopped again next fault result (outcome, grown) rest len made builds =
+  recovers_builds c d view now stopped again next fault result (outcome, grown) rest fixed made builds =
       let items = (computes c (R.rest now)).items in
       subst (λ o. Returns R view now next result (recover_outcome items o (λ fault. computes (d fault) (R.rest now)))) (sym outcome)
-      (returns_after now stopped again next items (computes (d fault) (R.rest now)) made grown view result len
+      (returns_after now stopped again next items (computes (d fault) (R.rest now)) made grown view result fixed
         (subst (λ text. Returns R view again next result (computes (d fault) text)) rest builds))
 
   -- the turns of a loop with a test
-  module _ {A : Type 0} (test : List ℕ → Bool) (d : ℕ → Construct Item Fault Less (One A)) (now : Reader) where
+  module _ {A : Type 0} (test : List ℕ → Bool) (d : Fixed → Construct Item Fault Less (One A)) (now : Reader) where
     abbrev turned : Bool → Read Item Fault (Option A)
-    turned here = cond here (computes (then (d (R.len now)) again) (R.rest now)) (gives None (R.rest now))
+    turned here = cond here (computes (then (d (R.fixed now)) again) (R.rest now)) (gives None (R.rest now))
 
     pub while_builds : {X : Type 0} (view : X → A) (next : Reader) (result : Result X Stop) → test (R.rest now) ≡ true
-        → Builds R view now next result (d (R.len now)) → Builds R (λ x. Some (view x)) now next result (while_test test (d (R.len now)))
+        → Builds R view now next result (d (R.fixed now)) → Builds R (λ x. Some (view x)) now next result (while_test test (d (R.fixed now)))
     unfolding while_test
     while_builds view next result here builds =
         subst (λ here. Returns R (λ x. Some (view x)) now next result (turned here)) (sym here) (returns_then Some now next _ view result builds)
 
-    pub while_done : test (R.rest now) ≡ false → Builds R (λ (x : Unit {0}). None) now now (Ok tt) (while_test test (d (R.len now)))
+    pub while_done : test (R.rest now) ≡ false → Builds R (λ (x : Unit {0}). None) now now (Ok tt) (while_test test (d (R.fixed now)))
     unfolding while_test
     while_done here = subst (λ here. Returns R (λ (x : Unit {0}). None) now now (Ok tt) (turned here)) (sym here) (refl, refl, refl)
 
   -- a loop over turns, from start to now, and the values that it gathered
-  pub record Gathers {A : Type 0} (c : ℕ → Construct Item Fault Less (OneOrEnd A)) (start now : Reader) : Type 0 where
+  pub record Gathers {A : Type 0} (c : Fixed → Construct Item Fault Less (OneOrEnd A)) (start now : Reader) : Type 0 where
     pub values : List A
-    pub len : R.len now ≡ R.len start
+    pub fixed : R.fixed now ≡ R.fixed start
     pub items : List Item
-    pub prefix : Prefix (computes (c (R.len start))) (R.rest start) (R.rest now) items values
+    pub prefix : Prefix (computes (c (R.fixed start))) (R.rest start) (R.rest now) items values
     pub grown : Grows R start now items
 
-module _ {Reader Stop Made Item Fault : Type 0} {R : ReaderKind Reader Stop Made Item Fault} {A : Type 0} {c : ℕ → Construct Item Fault Less (OneOrEnd A)} where
+module _ {Reader Fixed Stop Made Item Fault : Type 0} {R : ReaderKind Reader Fixed Stop Made Item Fault} {A : Type 0} {c : Fixed → Construct Item Fault Less (OneOrEnd A)} where
   unfoldable pub gathers_start : (start : Reader) → Gathers R c start start
   gathers_start start = record {
     values = [];
-    len = refl;
+    fixed = refl;
     items = [];
-    prefix = prefix_start (computes (c (R.len start))) (R.rest start);
+    prefix = prefix_start (computes (c (R.fixed start))) (R.rest start);
     grown = refl;
   }
 
@@ -104,45 +105,45 @@ module _ {Reader Stop Made Item Fault : Type 0} {R : ReaderKind Reader Stop Made
   module _ {start now : Reader} (so_far : Gathers R c start now) (next : Reader) where
     -- all items so far
     abbrev read : List Item
-    read = so_far.items ++ (computes (c (R.len start)) (R.rest now)).items
+    read = so_far.items ++ (computes (c (R.fixed start)) (R.rest now)).items
 
-    pub grown : Grows R now next (computes (c (R.len start)) (R.rest now)).items → Grows R start next read
-    grown more = more ∙ ap (λ s. fold R.add s (computes (c (R.len start)) (R.rest now)).items) so_far.grown
-        ∙ sym (fold-append R.add (R.made start) so_far.items (computes (c (R.len start)) (R.rest now)).items)
+    pub grown : Grows R now next (computes (c (R.fixed start)) (R.rest now)).items → Grows R start next read
+    grown more = more ∙ ap (λ s. fold R.add s (computes (c (R.fixed start)) (R.rest now)).items) so_far.grown
+        ∙ sym (fold-append R.add (R.made start) so_far.items (computes (c (R.fixed start)) (R.rest now)).items)
 
-    module _ {X : Type 0} (view : X → Option A) (x : X) (builds : Builds R view now next (Ok x) (c (R.len now))) where
+    module _ {X : Type 0} (view : X → Option A) (x : X) (builds : Builds R view now next (Ok x) (c (R.fixed now))) where
       unfoldable pub gathers_on : (a : A) → view x ≡ Some a → Gathers R c start next
       gathers_on a is =
-          let turn = rw so_far.len at builds in
+          let turn = rw so_far.fixed at builds in
           record {
             values = so_far.values ++ a ∷ [];
-            len = turn.1;
+            fixed = turn.1;
             items = read;
-            prefix = prefix_one (leaves (c (R.len start))) so_far.prefix a (R.rest next) (turn.0 ∙ ap (λ a. Ok (a, R.rest next)) is);
+            prefix = prefix_one (leaves (c (R.fixed start))) so_far.prefix a (R.rest next) (turn.0 ∙ ap (λ a. Ok (a, R.rest next)) is);
             grown = grown turn.2;
           }
 
       -- the end of a loop that keeps the values, and of one that doesn't
-      pub many_done : {Y : Type 0} (list : Y → List A) (y : Y) → so_far.values ≡ list y → view x ≡ None → Builds R list start next (Ok y) (many (c (R.len start)))
+      pub many_done : {Y : Type 0} (list : Y → List A) (y : Y) → so_far.values ≡ list y → view x ≡ None → Builds R list start next (Ok y) (many (c (R.fixed start)))
       many_done list y same is =
-          let turn = rw so_far.len at builds in
-          subst (Returns R list start next (Ok y)) (sym (prefix_done (leaves (c (R.len start))) so_far.prefix (R.rest next) (turn.0 ∙ ap (λ a. Ok (a, R.rest next)) is)))
+          let turn = rw so_far.fixed at builds in
+          subst (Returns R list start next (Ok y)) (sym (prefix_done (leaves (c (R.fixed start))) so_far.prefix (R.rest next) (turn.0 ∙ ap (λ a. Ok (a, R.rest next)) is)))
           (ap (λ values. Ok (values, R.rest next)) same, turn.1, grown turn.2)
 
-      pub repeat_done : view x ≡ None → Builds R (λ x. x) start next (Ok tt) (repeat (c (R.len start)))
+      pub repeat_done : view x ≡ None → Builds R (λ x. x) start next (Ok tt) (repeat (c (R.fixed start)))
       unfolding repeat
       repeat_done is = returns_then R (λ values. tt) start next _ (λ (x : Unit {0}). so_far.values) (Ok tt) (many_done (λ (x : Unit {0}). so_far.values) tt refl is)
 
     -- if a turn fails
-    pub many_stops : (o : Option Fault) → Stops R now next o (computes (c (R.len now)) (R.rest now)) → Stops R start next o (computes (many (c (R.len start))) (R.rest start))
+    pub many_stops : (o : Option Fault) → Stops R now next o (computes (c (R.fixed now)) (R.rest now)) → Stops R start next o (computes (many (c (R.fixed start))) (R.rest start))
     many_stops None stops = tt
     many_stops (Some fault) stops =
-        let turn = rw so_far.len at stops in
-        subst (Stops R start next (Some fault)) (sym (prefix_stopped (leaves (c (R.len start))) so_far.prefix fault turn.0)) (refl, grown turn.1)
+        let turn = rw so_far.fixed at stops in
+        subst (Stops R start next (Some fault)) (sym (prefix_stopped (leaves (c (R.fixed start))) so_far.prefix fault turn.0)) (refl, grown turn.1)
 
     -- as the code returns it
-    pub repeat_refused : (result : Result (Unit {0}) Stop) (e : Stop) → IsErrAnd result (λ fault. fault ≡ e) → Fails R now next e (c (R.len now))
-        → Builds R (λ x. x) start next result (repeat (c (R.len start)))
+    pub repeat_refused : (result : Result (Unit {0}) Stop) (e : Stop) → IsErrAnd result (λ fault. fault ≡ e) → Fails R now next e (c (R.fixed now))
+        → Builds R (λ x. x) start next result (repeat (c (R.fixed start)))
     unfolding repeat
     repeat_refused result e refused fails =
         let p = err_from_is_err_and result refused in

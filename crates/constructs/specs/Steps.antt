@@ -4,16 +4,16 @@ use Rattle.constructs.specs.Leaves.{Gives, ValueOf, Leaves}
 use Rattle.constructs.specs.Read.{Read}
 use Rattle.constructs.specs.Construct.{Construct, computes}
 
--- A kind of readers, by what is observed of it: the whole text's length, the rest of the text, what was made of the items so far, what one
--- more makes of it, and why a step stopped: a fault, or running out of memory, which is no fault.
-pub record ReaderKind (Reader Stop Made Item Fault : Type 0) : Type 0 where
-  pub len : Reader → ℕ
+-- A kind of readers, by what is observed of it: what no step changes (the whole text's length, say), the rest of the text, what was made of
+-- the items so far, what one more makes of it, and why a step stopped: a fault, or running out of memory, which is no fault.
+pub record ReaderKind (Reader Fixed Stop Made Item Fault : Type 0) : Type 0 where
+  pub fixed : Reader → Fixed
   pub rest : Reader → List ℕ
   pub made : Reader → Made
   pub add : Made → Item → Made
   pub fault : Stop → Option Fault
 
-module _ {Reader Stop Made Item Fault : Type 0} (R : ReaderKind Reader Stop Made Item Fault) where
+module _ {Reader Fixed Stop Made Item Fault : Type 0} (R : ReaderKind Reader Fixed Stop Made Item Fault) where
   -- what was made has grown by the items
   abbrev pub Grows : Reader → Reader → List Item → Type 0
   Grows old new items = R.made new ≡ fold R.add (R.made old) items
@@ -25,7 +25,7 @@ module _ {Reader Stop Made Item Fault : Type 0} (R : ReaderKind Reader Stop Made
 
   -- what a step returned, converted by view, is what reading gave
   abbrev pub Returns : {A X : Type 0} → (X → A) → Reader → Reader → Result X Stop → Read Item Fault A → Type 0
-  Returns view old new (Ok x) r = (r.outcome ≡ Ok (view x, R.rest new)) × (R.len new ≡ R.len old) × Grows old new r.items
+  Returns view old new (Ok x) r = (r.outcome ≡ Ok (view x, R.rest new)) × (R.fixed new ≡ R.fixed old) × Grows old new r.items
   Returns view old new (Err e) r = Stops old new (R.fault e) r
 
   -- the same, if a construct was read

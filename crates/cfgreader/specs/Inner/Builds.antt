@@ -31,9 +31,9 @@ fault_of errors.OutOfMemory = None
 fault_of (errors.Fault fault) = Some fault
 
 -- a reader of files: the tree holds what was built
-abbrev pub file_reader : ReaderKind Reader ReadFault Syntax Item Fault
+abbrev pub file_reader : ReaderKind Reader ℕ ReadFault Syntax Item Fault
 file_reader = record {
-  len = λ reader. reader.len;
+  fixed = λ reader. reader.len;
   rest = λ reader. reader.rest.now;
   made = λ reader. syntax_built reader.tree;
   add = add;

@@ -35,9 +35,9 @@ fault_of faults.OutOfMemory = None
 fault_of (faults.Fault fault) = Some (fault_view fault)
 
 -- a reader of sections: it notes entries
-abbrev pub section_reader : ReaderKind Reader ReadFault (List Entry) Entry Fault
+abbrev pub section_reader : ReaderKind Reader ℕ ReadFault (List Entry) Entry Fault
 section_reader = record {
-  len = λ reader. reader.len;
+  fixed = λ reader. reader.len;
   rest = λ reader. reader.rest.now;
   made = entries_of;
   add = λ entries entry. entries ++ entry ∷ [];
