@@ -3,6 +3,7 @@ pub mod Graphs
 pub mod Keeps
 pub mod Lengths
 pub mod Loops
+pub mod NextFinder
 pub mod PiecesLemmas
 pub mod SilentLemmas
 pub mod Steps

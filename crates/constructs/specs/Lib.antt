@@ -1,6 +1,7 @@
 pub mod Construct
 pub mod Graph
 pub mod Leaves
+pub mod Next
 pub mod Pieces
 pub mod Read
 pub mod Silent

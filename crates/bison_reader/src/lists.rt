@@ -1,0 +1,157 @@
+//! Lists of symbols.
+
+ghost use Rattle.std.specs.Prelude.{◌≡◌, ◌<◌, length, Ok};
+ghost use Rattle.constructs.specs.Construct.{goes_on, repeat};
+ghost use Rattle.bison_reader.specs.Declarations.{expected_of, group_of, is_literal, is_string, listed, listed_turn};
+ghost use Rattle.bison_reader.specs.Declarations.{precedence_rest, refused, rule_rest, symbol_rest, tagged_list};
+ghost use Rattle.bison_reader.specs.Declarations.{token_rest};
+
+use crate::group::Group;
+use crate::item::{Expected, Item};
+use crate::reader::{Reader, Stop};
+use crate::sort::Sort;
+use std::alloc::AllocError;
+
+/// What a list of symbols, with tags between them, declares.
+#[derive(Clone, Copy, Debug)]
+pub(crate) enum Listed {
+    /// `%token`.
+    Tokens,
+    /// `%nterm`.
+    Rules,
+    /// `%type`.
+    Symbols,
+    /// `%left` and the like.
+    Precedences,
+}
+
+impl Listed {
+    /// What such a list has.
+    fn group(self) -> Group
+        ensures { result ≡ group_of self }
+    {
+        match self {
+            Listed::Tokens | Listed::Rules => Group::TokenName,
+            Listed::Symbols | Listed::Precedences => Group::Symbol,
+        }
+    }
+
+    /// What is missing where it has nothing.
+    fn expected(self) -> Expected
+        ensures { result ≡ expected_of self }
+    {
+        match self {
+            Listed::Tokens => Expected::TokenName,
+            Listed::Rules => Expected::Identifier,
+            Listed::Symbols | Listed::Precedences => Expected::Symbol,
+        }
+    }
+}
+
+impl Reader<'_> {
+    ghost use Rattle.bison_reader.specs.Inner.Builds.{Builds};
+
+    /// Passes what may follow the name of a token: its number, and another name of it.
+    #[tactic(auto, unfolding(crate::specs::Declarations::token_rest))]
+    fn token_rest(&mut self, token: usize) -> Result<(), Stop>
+        ensures { Builds (λ x. x) self.old self.new result (token_rest self.old.sorts.now token) }
+    {
+        self.note(Item::Token(token))?;
+        self.optional(Group::Number);
+        if let Some(string) = self.take(Group::AnyString) {
+            self.note(Item::Alias { token, string })?;
+        }
+        Ok(())
+    }
+
+    /// Passes what no rule has, if it is here.
+    #[tactic(auto, unfolding(crate::specs::Declarations::refused))]
+    fn refused(&mut self, group: Group) -> Result<(), Stop>
+        ensures { Builds (λ x. x) self.old self.new result (refused self.old.sorts.now group) }
+    {
+        if let Some(word) = self.take(group) {
+            self.note(Item::NotForRules(word))?;
+        }
+        Ok(())
+    }
+
+    /// Passes what follows a name in `%nterm`.
+    #[tactic(auto, unfolding(crate::specs::Declarations::rule_rest))]
+    fn rule_rest(&mut self, name: usize) -> Result<(), Stop>
+        ensures { Builds (λ x. x) self.old self.new result (rule_rest self.old.sorts.now name) }
+    {
+        match self.sort_of(name) {
+            Sort::Literal => self.note(Item::NotForRules(name))?,
+            _ => self.note(Item::Rule(name))?,
+        }
+        self.refused(Group::Number)?;
+        self.refused(Group::AnyString)
+    }
+
+    /// Passes the number that may follow a token of a level, unless it is named by a string.
+    #[tactic(auto, unfolding(crate::specs::Declarations::precedence_rest))]
+    fn precedence_rest(&mut self, token: usize) -> Result<(), Stop>
+        ensures { Builds (λ x. x) self.old self.new result (precedence_rest self.old.sorts.now token) }
+    {
+        self.note(Item::Precedence(token))?;
+        match self.sort_of(token) {
+            Sort::String => {}
+            _ => self.optional(Group::Number),
+        }
+        Ok(())
+    }
+
+    /// Passes what follows a symbol of the list.
+    fn symbol_rest(&mut self, list: Listed, symbol: usize) -> Result<(), Stop>
+        ensures { Builds (λ x. x) self.old self.new result (symbol_rest self.old.sorts.now list symbol) }
+    {
+        match list {
+            Listed::Tokens => self.token_rest(symbol),
+            Listed::Rules => self.rule_rest(symbol),
+            Listed::Symbols => Ok(self.note(Item::Symbol(symbol))?),
+            Listed::Precedences => self.precedence_rest(symbol),
+        }
+    }
+
+    /// Passes a symbol, which must be here.
+    #[tactic(auto, unfolding(crate::specs::Declarations::listed))]
+    fn listed(&mut self, list: Listed) -> Result<(), Stop>
+        ensures { Builds (λ x. x) self.old self.new result (listed self.old.sorts.now list) }
+    {
+        let symbol = self.needed(list.group(), list.expected())?;
+        self.symbol_rest(list, symbol)
+    }
+
+    /// Passes another symbol, with or without a tag before it, if there is one.
+    #[tactic(auto, unfolding(crate::specs::Declarations::listed_turn))]
+    fn listed_turn(&mut self, list: Listed) -> Result<bool, Stop>
+        ensures { Builds goes_on self.old self.new result (listed_turn self.old.sorts.now list) }
+    {
+        if let Some(symbol) = self.take(list.group()) {
+            self.symbol_rest(list, symbol)?;
+            return Ok(true);
+        }
+        if self.take(Group::Tag).is_some() {
+            self.listed(list)?;
+            return Ok(true);
+        }
+        Ok(false)
+    }
+
+    fn listed_symbols(&mut self, list: Listed) -> Result<(), Stop>
+        ensures { Builds (λ x. x) self.old self.new result (repeat (listed_turn self.old.sorts.now list)) }
+    {
+        while self.listed_turn(list)? {}
+        Ok(())
+    }
+
+    /// Passes a list of symbols, with tags between them.
+    #[tactic(auto, unfolding(crate::specs::Declarations::tagged_list))]
+    pub(super) fn tagged_list(&mut self, list: Listed) -> Result<(), Stop>
+        ensures { Builds (λ x. x) self.old self.new result (tagged_list self.old.sorts.now list) }
+    {
+        self.optional(Group::Tag);
+        self.listed(list)?;
+        self.listed_symbols(list)
+    }
+}
