@@ -1,2 +1,2 @@
-pub mod Recovery
 pub mod Rests
+pub mod Whole

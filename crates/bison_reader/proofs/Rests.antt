@@ -1,5 +1,5 @@
 -- The numbers of the words that are left.
-use Rattle.std.proofs.Common.{◌≡◌, ℕ, zero, suc, ◌<◌, ◌≤◌, ◌+◌, ◌-◌, Bool, false, List, [], ◌∷◌, length, refl, ap, ◌∙◌, arith}
+use Rattle.std.proofs.Common.{◌≡◌, ℕ, zero, suc, ◌<◌, ◌≤◌, ◌+◌, ◌-◌, false, List, [], ◌∷◌, length, refl, ap, ◌∙◌, arith}
 use Rattle.bison_reader.specs.declared.group.Group.{Group}
 use Rattle.bison_reader.specs.declared.sort.Sort.{Sort}
 use Rattle.bison_reader.specs.FileGrammar.{numbers}

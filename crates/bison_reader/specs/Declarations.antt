@@ -1,6 +1,6 @@
 -- Declarations, construct by construct. `do` is sequence.
 use Rattle.std.specs.Prelude.{ℕ, Bool, true, false, List}
-use Rattle.constructs.specs.Leaves.{Leaves, Less, NoMore, One}
+use Rattle.constructs.specs.Leaves.{Leaves, One}
 use Rattle.constructs.specs.Construct.{Construct, ◌>>=◌, ◌>>◌, again, choice, emits, ends, gives, recovers, repeat, then}
 use Rattle.bison_reader.specs.declared.group.Group.{Group}
 use Rattle.bison_reader.specs.declared.group.Group.TheVariants as groups

@@ -1,6 +1,6 @@
 -- The grammar of a Yacc or Bison file: declarations, `%%`, and rules up to the second `%%` or the end.
 use Rattle.std.specs.Prelude.{ℕ, zero, suc, List, [], ◌∷◌, length}
-use Rattle.constructs.specs.Construct.{◌>>◌, choice, computes, emits, gives, here, repeat, word_or}
+use Rattle.constructs.specs.Construct.{◌>>◌, choice, computes, emits, gives, here, repeat}
 use Rattle.bison_reader.specs.declared.group.Group.TheVariants as groups
 use Rattle.bison_reader.specs.declared.item.Expected.TheVariants as expected
 use Rattle.bison_reader.specs.declared.sort.Sort.{Sort}

@@ -1,5 +1,5 @@
 -- What a file says, item by item. A symbol, a number or code is the number of the word that it is.
-use Rattle.std.specs.Prelude.{ℕ, Bool, List, map}
+use Rattle.std.specs.Prelude.{ℕ, Bool, List}
 use Rattle.bison_reader.specs.declared.item.Associativity.{Associativity}
 use Rattle.bison_reader.specs.declared.item.Expected.{Expected}
 use Rattle.bison_reader.specs.declared.item.Item.{Item as CodeItem}

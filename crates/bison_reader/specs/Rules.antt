@@ -69,11 +69,15 @@ module _ (words : List Sort) where
       (word_here_or words groups.Modifier (λ word. then (modifier word (sort_of words word)) again)
       ends))))
 
+  -- here a production has to end
+  unfoldable pub production_end : Lax (Unit {0})
+  production_end = choice (is_here words groups.ProductionEnd) nothing (unexpected words expected.Part)
+
   -- a production without faults, of the rule with this name
   unfoldable pub whole_production : ℕ → Lax (Unit {0})
   whole_production rule = here (λ text. do
     parts ← many part
-    choice (is_here words groups.ProductionEnd) nothing (unexpected words expected.Part)
+    production_end
     emits (ProductionRead (record { rule = rule; start = next_word words text; parts = parts })))
 
   -- a production; if it has a fault, it ends at the next `;` or `%%`, and doesn't count
@@ -109,12 +113,12 @@ module _ (words : List Sort) where
       (unexpected words expected.Rule))
 
   -- what is passed after a fault: the next word, all up to a `;` or `%%` unless that word is a `;`, and all `;` that follow
-  unfoldable pub rule_rest : Strict (Unit {0})
-  rule_rest = do
+  unfoldable pub rules_rest : Strict (Unit {0})
+  rules_rest = do
     word ← needed words groups.Any expected.Rule
     choice (λ _. is_of words groups.Semicolon word) (gives tt) (words_of words groups.InRule)
     words_of words groups.Semicolon
 
   -- a rule or a declaration, unless the second `%%` or the end is here
   unfoldable pub rules_turn : Turn (Unit {0})
-  rules_turn = choice (is_here words groups.RulesEnd) ends (then (recovers rule_or_declaration (λ fault. rule_rest)) again)
+  rules_turn = choice (is_here words groups.RulesEnd) ends (then (recovers rule_or_declaration (λ fault. rules_rest)) again)

@@ -1,7 +1,7 @@
 //! Declarations.
 
 ghost use Rattle.std.specs.Prelude.{◌≡◌, ◌<◌, length, Ok};
-ghost use Rattle.constructs.specs.Construct.{goes_on, repeat};
+ghost use Rattle.constructs.specs.Construct.{again, goes_on, recovers, repeat, then};
 ghost use Rattle.bison_reader.specs.Declarations.{codes, declaration, declaration_rest, declaration_turn, declared};
 ghost use Rattle.bison_reader.specs.Declarations.{declared_by, expected_conflicts, level, named_code, only, start};
 ghost use Rattle.bison_reader.specs.Declarations.{start_turn, symbol_or_tag, symbol_or_tag_turn, symbols_code, variable};
@@ -229,16 +229,32 @@ impl Reader<'_> {
         if self.is_here(Group::Mark) {
             return Ok(false);
         }
+        self.declaration_or_rest()
+    }
+
+    /// Passes a declaration, or what is left of one after a fault, and returns whether another may follow.
+    fn declaration_or_rest(&mut self) -> Result<bool, Stop>
+        ensures { Builds goes_on self.old self.new result
+            (recovers (then (declaration self.old.sorts.now) again)
+            (λ fault. declaration_rest self.old.sorts.now)) }
+    {
         let (sorts, start) = (self.sorts, self.next);
-        match self.declaration() {
-            Ok(()) => Ok(true),
+        match self.another_declaration() {
             Err(Stop::Unexpected) => {
                 self.sorts = sorts;
                 self.next = start;
                 self.declaration_rest()
             }
-            Err(Stop::OutOfMemory) => Err(Stop::OutOfMemory),
+            read => read,
         }
+    }
+
+    /// Passes a declaration; another may follow.
+    fn another_declaration(&mut self) -> Result<bool, Stop>
+        ensures { Builds goes_on self.old self.new result (then (declaration self.old.sorts.now) again) }
+    {
+        self.declaration()?;
+        Ok(true)
     }
 
     /// Passes all declarations, up to the first `%%` or the end.

@@ -88,9 +88,11 @@ impl Group {
     {
         match self {
             Group::Identifier => matches!(sort, Sort::Identifier) && !colon,
-            Group::TokenName => matches!(sort, Sort::Literal) || matches!(sort, Sort::Identifier) && !colon,
+            Group::TokenName => matches!(sort, Sort::Literal)
+                || matches!(sort, Sort::Identifier) && !colon,
             Group::Symbol => is_symbol(sort, colon),
-            Group::SymbolOrTag => is_symbol(sort, colon) || matches!(sort, Sort::Tag | Sort::OtherTag),
+            Group::SymbolOrTag => is_symbol(sort, colon)
+                || matches!(sort, Sort::Tag | Sort::OtherTag),
             Group::String => matches!(sort, Sort::String),
             Group::AnyString => matches!(sort, Sort::String | Sort::Translatable),
             Group::Number => matches!(sort, Sort::Number),
@@ -103,14 +105,18 @@ impl Group {
             Group::Bar => matches!(sort, Sort::Bar),
             Group::Mark => matches!(sort, Sort::Mark),
             Group::Head => matches!(sort, Sort::Identifier) && colon,
-            Group::Value => matches!(sort, Sort::String | Sort::Code) || matches!(sort, Sort::Identifier) && !colon,
+            Group::Value => matches!(sort, Sort::String | Sort::Code)
+                || matches!(sort, Sort::Identifier) && !colon,
             Group::Declaration => matches!(sort, Sort::Declaration(_)),
             Group::RuleDeclaration => is_rule_declaration(sort),
             Group::Modifier => is_modifier(sort),
             Group::Ignored => matches!(sort, Sort::Semicolon | Sort::Prologue),
             Group::Fault => matches!(sort, Sort::Fault),
             Group::End => matches!(sort, Sort::End),
-            Group::InDeclaration => !matches!(sort, Sort::Mark | Sort::Prologue | Sort::Declaration(_) | Sort::End),
+            Group::InDeclaration => !matches!(
+                sort,
+                Sort::Mark | Sort::Prologue | Sort::Declaration(_) | Sort::End
+            ),
             Group::InRule => !matches!(sort, Sort::Semicolon | Sort::Mark | Sort::End),
             Group::ProductionEnd => ends_production(sort, colon),
             Group::RulesEnd => matches!(sort, Sort::Mark | Sort::End),

@@ -55,6 +55,13 @@ impl<'a> Reader<'a> {
         }
     }
 
+    /// The items that were read.
+    pub(super) fn into_items(self) -> Vec<Item>
+        ensures { result ≡ self.entry.items }
+    {
+        self.items
+    }
+
     /// The sort of the word with this number.
     pub(super) fn sort_of(&self, word: usize) -> Sort
         ensures { result ≡ sort_of self.now.sorts.now word }

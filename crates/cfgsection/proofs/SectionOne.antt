@@ -39,11 +39,6 @@ pub section_answered : (required : Bool) (text : List ℕ) (entries : List Entry
 unfolding section_of
 section_answered required text entries end is = let same = section_is required text entries end is in ap₂ section_answer same.0 same.1
 
--- entries noted one by one
-noted_after : (entries xs : List Entry) → fold (λ entries entry. entries ++ entry ∷ []) entries xs ≡ entries ++ xs
-noted_after entries [] = sym (append-nil entries)
-noted_after entries (x ∷ xs) = noted_after (entries ++ x ∷ []) xs ∙ append_assoc entries (x ∷ []) xs
-
 -- what a reader of the whole text has noted
 pub entries_read : (required : Bool) (text : List ℕ) (old new : Reader) (entries : List CodeEntry) → old.rest.now ≡ text → old.len ≡ length text → entries_of old ≡ []
     → Grows old new (computes (section old.len required) old.rest.now).items → entries ≡ new.entries.items

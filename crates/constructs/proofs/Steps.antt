@@ -1,5 +1,5 @@
 -- Loops that read: reading the rest, from what was made so far, leads to the same end.
-use Rattle.std.proofs.Common.{◌≡◌, ℕ, ◌<◌, ◌≤◌, ◌-◌, Bool, true, false, cond, List, [], ◌∷◌, ◌++◌, length, fold, Option, Some, None, Result, Ok, Err, refl, sym, ◌∙◌, ap, subst, arith, append-nil}
+use Rattle.std.proofs.Common.{◌≡◌, ℕ, ◌<◌, ◌≤◌, ◌-◌, Bool, true, false, cond, List, [], ◌∷◌, ◌++◌, length, fold, Option, Some, None, Result, Ok, Err, refl, sym, ◌∙◌, ap, subst, arith, append-nil, append_assoc}
 use Rattle.std.specs.Prelude.{IsErrAnd}
 use Rattle.std.proofs.lemmas.List.Sums.{fold-append}
 use Rattle.std.proofs.lemmas.Result.{err_from_is_err_and}
@@ -9,6 +9,11 @@ use Rattle.constructs.specs.Construct.{Construct, then, recovers, again, many, r
 use Rattle.constructs.specs.Steps.{ReaderKind, Grows, Stops, Returns, Fails, Builds}
 use Rattle.constructs.proofs.Agree.{leaves}
 use Rattle.constructs.proofs.Loops.{Prefix, prefix_start, prefix_one, prefix_done, prefix_stopped}
+
+-- items noted one by one
+pub noted_after : {A : Type 0} (before items : List A) → fold (λ items item. items ++ item ∷ []) before items ≡ before ++ items
+noted_after before [] = sym (append-nil before)
+noted_after before (item ∷ items) = noted_after (before ++ item ∷ []) items ∙ append_assoc before (item ∷ []) items
 
 -- the rest after what was passed is no longer, so its offset isn't smaller, if what no step changes is the text's length
 pub offset_on : {Reader Stop Made Item Fault : Type 0} (R : ReaderKind Reader ℕ Stop Made Item Fault) {l : Leaves} {G : Gives} {X : Type 0}

@@ -1,5 +1,5 @@
 -- What a step of the reader does, given what reading gives from there.
-use Rattle.std.specs.Prelude.{◌≡◌, ℕ, ◌-◌, List, [], ◌∷◌, ◌++◌, length, map, Option, Some, None, Result, Ok, Err}
+use Rattle.std.specs.Prelude.{◌≡◌, ℕ, ◌-◌, List, [], ◌∷◌, ◌++◌, length, map, Option, Some, None, Result}
 use Rattle.constructs.specs.Construct.{Construct}
 use Rattle.constructs.specs.Leaves.{Gives, ValueOf, Leaves}
 use Rattle.constructs.specs.Steps as steps
