@@ -20,6 +20,13 @@ tag_piece =
     (case_of (codes "-") (again Stays)
     ends))))
 
+-- whether there is an identifier here
+unfoldable pub inner_name : Lax Bool
+inner_name = choice (starts_with Letter) (do
+    passes NameByte
+    gives true)
+  (gives false)
+
 -- len is the whole text's length
 module _ (len : ℕ) where
   unfoldable pub tag_end : List ℕ → List ℕ → Bool → Lax (Unit {0})
@@ -34,13 +41,6 @@ module _ (len : ℕ) where
         tag_end start opened closed
         again tt))
       ends)))
-
-  -- whether there is an identifier here
-  unfoldable pub inner_name : Lax Bool
-  inner_name = choice (starts_with Letter) (do
-      passes NameByte
-      gives true)
-    (gives false)
 
   -- Nothing else may precede the closing bracket. There may be more, but that is a fault right before it, and the word counts all the same.
   unfoldable pub name_close : List ℕ → List ℕ → Bool → Lax (Unit {0})

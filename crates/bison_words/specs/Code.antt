@@ -2,7 +2,7 @@
 use Rattle.std.specs.Prelude.{ℕ, Bool, true, false, List, [], ◌∷◌, ◌+◌, ◌-◌, ◌==◌, ◌||◌, length, take, get_or, Option, Some, None, codes, if◌then◌else◌}
 use Rattle.std.specs.Str.{trim}
 use Rattle.constructs.specs.Pieces.{run, strip}
-use Rattle.constructs.specs.Construct.{Construct, ◌>>=◌, ◌>>◌, then, case_of, choice, here, again, ends, repeat, gives}
+use Rattle.constructs.specs.Construct.{Construct, ◌>>=◌, ◌>>◌, case_of, choice, here, again, ends, repeat, gives}
 use Rattle.bison_words.specs.declared.class.Class.TheVariants.{Any, Gap, Line, Space, Comment, CommentLine, CodeQuoted, CodeByte, Quote}
 use Rattle.bison_words.specs.declared.nesting.Nesting.{Nesting}
 use Rattle.bison_words.specs.declared.nesting.Nesting.TheVariants.{Opens, Lowers, Closes, Stays}

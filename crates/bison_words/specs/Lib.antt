@@ -3,6 +3,7 @@ pub mod Blanks
 pub mod Brackets
 pub mod Bytes
 pub mod Code
+pub mod Digits
 pub mod Directives
 pub mod Here
 pub mod Names

@@ -1,13 +1,14 @@
 -- Identifiers, numbers, marks, and what can't begin a word.
-use Rattle.std.specs.Prelude.{ℕ, Bool, true, false, List, [], ◌∷◌, ◌+◌, ◌*◌, ◌-◌, ◌==◌, ◌||◌, ◌&&◌, nat_lt, nat_le, min, length, codes, fold, if◌then◌else◌}
+use Rattle.std.specs.Prelude.{ℕ, Bool, true, false, List, [], ◌∷◌, ◌==◌, ◌||◌, ◌&&◌, nat_lt, nat_le, codes}
 use Rattle.std.specs.List.{prefix_len}
 use Rattle.constructs.specs.Leaves.{One}
 use Rattle.constructs.specs.Construct.{Construct, ◌>>=◌, ◌>>◌, then, case_of, choice, here, again, ends, gives}
 use Rattle.bison_words.specs.declared.class.Class.TheVariants.{Any, Letter, NameByte, Digit, Hexadecimal, Odd, Mark}
 use Rattle.bison_words.specs.declared.words.WordFaultKind.TheVariants.{IllegalCharacters, IllegalIdentifier, IllegalInteger}
-use Rattle.bison_words.specs.Bytes.{holds, is_digit}
+use Rattle.bison_words.specs.Bytes.{holds}
 use Rattle.bison_words.specs.Words.{Identifier, Number, Colon, Semicolon, Bar, Equals}
 use Rattle.bison_words.specs.Blanks.{is_empty}
+use Rattle.bison_words.specs.Digits.{number_of}
 use Rattle.bison_words.specs.Here.{Lax, Turn, TurnEnd, begins, starts_with, run_here, passes, some_or, byte_or, word_from, fault_from, odd_from}
 
 -- `.` and `-` are odd too, so odd characters that reach further than an identifier are none
@@ -17,16 +18,6 @@ is_identifier text = starts_with Letter text && nat_le (prefix_len (holds Odd) t
 -- `:` is an odd character, so more of them are no colon
 unfoldable pub is_colon : List ℕ → Bool
 is_colon text = begins (codes ":") text && prefix_len (holds Odd) text == 1
-
--- the value of a digit, and that of digits; the greatest `usize` if it doesn't fit
-abbrev pub digit_value : ℕ → ℕ
-digit_value b = if nat_lt b 58 then b - 48 else if nat_lt b 97 then b - 55 else b - 87
-
-abbrev pub with_digit : ℕ → ℕ → ℕ → ℕ
-with_digit base number b = min (number * base + digit_value b) 18446744073709551615
-
-unfoldable pub number_of : ℕ → List ℕ → ℕ
-number_of base digits = fold (with_digit base) 0 digits
 
 module _ (len : ℕ) where
   unfoldable pub identifier : Turn (Unit {0})

@@ -52,6 +52,10 @@ step_of r = step_outcome r.items r.outcome
 abbrev pub found_of : Passage → Result (Found × List ℕ) ⊥
 found_of p = Ok (p.found, p.rest)
 
+-- the pieces of no text
+abbrev pub nothing : Depth → Passage
+nothing depth = ended [] false []
+
 module _ (piece : Pieces Nesting) where
   pub data IsStep (text : List ℕ) : Turn (Depth → Passage) → Type 0 where
     step : (r : Read Item ⊥ (Option Nesting)) → Says piece text r → IsStep text (step_of r)
@@ -63,9 +67,6 @@ module _ (piece : Pieces Nesting) where
     pub found : found_of (passes outermost) ≡ r
 
   -- The same as functions.
-
-  abbrev pub nothing : Depth → Passage
-  nothing depth = ended [] false []
 
   unfoldable pub passage : List ℕ → Depth → Passage
   passage = all_turns (λ text. step_of (computes piece text)) nothing

@@ -1,14 +1,14 @@
 -- Character literals and strings. Escapes are replaced in literals; strings count as they are spelled.
 use Rattle.std.specs.Prelude.{ℕ, Bool, true, false, List, [], ◌∷◌, ◌-◌, ◌==◌, ◌&&◌, nat_lt, length, take, get_or, Option, Some, None, codes, fold, is_none, if◌then◌else◌}
 use Rattle.std.specs.List.{prefix_len}
-use Rattle.constructs.specs.Construct.{Construct, ◌>>=◌, ◌>>◌, then, case_of, choice, here, again, ends, many, gives}
+use Rattle.constructs.specs.Construct.{Construct, ◌>>=◌, ◌>>◌, case_of, choice, here, again, ends, many, gives}
 use Rattle.bison_words.specs.declared.class.Class.{Class}
 use Rattle.bison_words.specs.declared.class.Class.TheVariants.{Hexadecimal, Octal, Quote, Quoted, Escape}
 use Rattle.bison_words.specs.declared.words.WordFaultKind.{WordFaultKind}
 use Rattle.bison_words.specs.declared.words.WordFaultKind.TheVariants.{IllegalCharacters, IllegalEscape, EmptyLiteral, LongLiteral, IncompleteLiteral, IncompleteString}
 use Rattle.bison_words.specs.Bytes.{holds}
 use Rattle.bison_words.specs.Words.{Lexeme, Literal, String, Translatable}
-use Rattle.bison_words.specs.Names.{number_of}
+use Rattle.bison_words.specs.Digits.{number_of}
 use Rattle.bison_words.specs.Here.{Lax, Turn, begins, starts_with, some_or, byte_or, few_here, character_here, word_from, fault_from, fault_first}
 
 -- the characters of `\a \b \f \n \r \t \v`; any other one is itself

@@ -27,6 +27,11 @@ is_predicate text = is_brace_left (strip (codes "%?") text)
 unfoldable pub is_equals : List ℕ → Bool
 is_equals text = begins (codes "=") (run (holds Space) text).1
 
+unfoldable pub equals : Lax (Unit {0})
+equals = do
+  passes Space
+  case_of (codes "=") (gives tt) (gives tt)
+
 unfoldable pub is_mark : List ℕ → Bool
 is_mark text = starts_with MarkByte text || is_colon text
 
@@ -35,10 +40,7 @@ module _ (len : ℕ) where
   -- an `=` belongs to a directive that it may follow
   unfoldable pub directive_end : List ℕ → Directive → Lax (Unit {0})
   directive_end start directive = do
-    choice (λ text. takes_equals directive && is_equals text) (do
-        passes Space
-        case_of (codes "=") (gives tt) (gives tt))
-      (gives tt)
+    choice (λ text. takes_equals directive && is_equals text) equals (gives tt)
     word_from len start (Directed directive)
 
   abbrev pub directive_word : List ℕ → Option Directive → Lax (Unit {0})

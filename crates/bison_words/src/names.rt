@@ -2,7 +2,8 @@
 
 ghost use Rattle.std.specs.Prelude.{◌≡◌, ◌≤◌, length, OnOk};
 ghost use Rattle.constructs.specs.Construct.{goes_on};
-ghost use Rattle.bison_words.specs.Names.{is_identifier, is_colon, digit_value, with_digit, number_of};
+ghost use Rattle.bison_words.specs.Digits.{digit_value, with_digit, number_of};
+ghost use Rattle.bison_words.specs.Names.{is_identifier, is_colon};
 ghost use Rattle.bison_words.specs.Names.{identifier, number_word, number_end, hexadecimal, number, mark, odd};
 
 use crate::class::Class;

@@ -77,11 +77,10 @@ fn continuation_len(bytes: &[u8]) -> usize
 pub(crate) fn after_character(text: &str) -> &str
     ensures { IsAfterCharacter text.now result.now }
 {
-    if text.is_empty() {
-        return text;
+    match text.as_bytes() {
+        [] => text,
+        [_, others @ ..] => text.split_at(1 + continuation_len(others)).1,
     }
-    let len = continuation_len(&text.as_bytes()[1..]);
-    text.split_at(1 + len).1
 }
 
 /// What precedes the rest of a text.

@@ -1,6 +1,6 @@
 //! The scanner: the rest of a text, and the words and faults that were read.
 
-ghost use Rattle.std.specs.Prelude.{◌≡◌, ◌≤◌, ◌-◌, ◌+◌, length, drop, Some, None, Ok, MatchBool, IfOk, IfSome, OnOk};
+ghost use Rattle.std.specs.Prelude.{◌≡◌, ◌≤◌, ◌-◌, ◌+◌, ◌⊎◌, [], length, drop, Some, None, Ok, MatchBool, IfOk, IfSome, OnOk};
 ghost use Rattle.std.specs.List.{prefix_len};
 ghost use Rattle.constructs.specs.Pieces.{strip, split_first};
 ghost use Rattle.bison_words.specs.Bytes.{holds};
@@ -142,7 +142,7 @@ impl<'a> Scanner<'a> {
 
     /// Passes at most so many bytes of the run of the class, and returns them.
     pub(crate) fn few(&mut self, class: Class, most: usize) -> &'a str
-        requires { class ≡ Class.Octal ⊎ class ≡ Class.Hexadecimal }
+        requires { (class ≡ Class.Octal) ⊎ (class ≡ Class.Hexadecimal) }
         ensures read { Builds (λ x. x.now) self.old self.new (Ok result) (few_here class most) }
         ensures passed { Passed self.old self.new }
     {

@@ -3,7 +3,7 @@
 ghost use Rattle.std.specs.Prelude.{◌≡◌, ◌≤◌, length, Some, IfOk, OnOk};
 ghost use Rattle.constructs.specs.Construct.{goes_on, computes};
 ghost use Rattle.bison_words.specs.Words.{IsWords};
-ghost use Rattle.bison_words.specs.TextWords.{is_predicate, is_equals, is_mark, directive_end, directive_word, directive_name};
+ghost use Rattle.bison_words.specs.TextWords.{is_predicate, is_equals, equals, is_mark, directive_end, directive_word, directive_name};
 ghost use Rattle.bison_words.specs.TextWords.{directive, percent, bracketed, word, word_turn, words, epilogue};
 ghost use Rattle.bison_words.specs.TextWords.{mark_then, sections, text_words};
 
@@ -45,6 +45,16 @@ impl<'a> Scanner<'a> {
         self.starts_with(Class::Mark) || self.is_colon()
     }
 
+    /// Passes a blank and a `=`.
+    #[tactic(auto, unfolding(crate::specs::TextWords::equals))]
+    fn equals(&mut self)
+        ensures read { Builds (λ x. x) self.old self.new (Ok result) equals }
+        ensures passed { Passed self.old self.new }
+    {
+        self.pass(Class::Space);
+        let _ = self.accept("=");
+    }
+
     /// Adds the directive that begins at `start`, with an `=` that belongs to it.
     #[tactic(auto, unfolding(crate::specs::TextWords::directive_end))]
     fn directive_end(&mut self, start: &'a str, directive: Directive) -> Result<(), AllocError>
@@ -54,8 +64,7 @@ impl<'a> Scanner<'a> {
         ensures passed { OnOk result (Passed self.old self.new) }
     {
         if directive.takes_equals() && is_equals(self.rest) {
-            self.pass(Class::Space);
-            let _ = self.accept("=");
+            self.equals();
         }
         self.word_from(start, Lexeme::Directive(directive))
     }
