@@ -1,0 +1,4 @@
+-- Lemmas of this crate's proofs.
+pub mod Boundaries
+pub mod Suffixes
+pub mod Loops

@@ -1,0 +1,5 @@
+-- Definitions for the crate's private clauses, of its loops and helpers. No public call depends on them.
+pub mod Builds
+pub mod Rests
+pub mod Quotes
+pub mod Bodies

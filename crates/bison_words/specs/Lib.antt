@@ -1,0 +1,20 @@
+-- Users of this crate's calls have to read these files; those in Inner define what private clauses use.
+pub mod Blanks
+pub mod Brackets
+pub mod Bytes
+pub mod Code
+pub mod Digits
+pub mod Directives
+pub mod Here
+pub mod Names
+pub mod Nested
+pub mod NestedGraph
+pub mod NestedHere
+pub mod Quotes
+pub mod RunGraphs
+pub mod Runs
+pub mod Inner
+pub mod Suffixes
+pub mod TextWords
+pub mod WordKinds
+pub mod Words

@@ -1,0 +1,294 @@
+//! The scanner: the rest of a text, and the words and faults that were read.
+
+ghost use Rattle.std.specs.Prelude.{◌≡◌, ◌≤◌, ◌-◌, ◌+◌, ◌⊎◌, [], length, drop, Some, None, Ok, MatchBool, IfOk, IfSome, OnOk};
+ghost use Rattle.std.specs.List.{prefix_len};
+ghost use Rattle.constructs.specs.Pieces.{strip, split_first};
+ghost use Rattle.bison_words.specs.Bytes.{holds};
+ghost use Rattle.bison_words.specs.Runs.{some_of, byte_of};
+ghost use Rattle.bison_words.specs.Words.{offset_of, lexeme_view};
+ghost use Rattle.bison_words.specs.Here.{begins, starts_with, run_here, few_here, character_here, passes, unended};
+ghost use Rattle.bison_words.specs.Here.{word_between, word_from, fault_between, fault_from, fault_first};
+ghost use Rattle.bison_words.specs.Here.{odd_between, odd_from};
+
+use crate::class::Class;
+use crate::runs;
+use crate::words::{Lexeme, Word, WordFault, WordFaultKind};
+use cfgbase::Span;
+use constructs::{after_word, split_at_first};
+use std::alloc::{AllocError, Global};
+
+/// Reads the words of a text: `rest` is the unread suffix.
+#[derive(Drop)]
+pub(crate) struct Scanner<'a> {
+    pub(crate) text: &'a str,
+    pub(crate) rest: &'a str,
+    pub(crate) words: Vec<Word<'a>>,
+    pub(crate) faults: Vec<WordFault>,
+    pub(crate) epilogue: Option<&'a str>,
+    ghost within: { length rest.now ≤ length text.now },
+    ghost suffix: { drop (length text.now - length rest.now) text.now ≡ rest.now },
+}
+
+impl<'a> Scanner<'a> {
+    ghost use Rattle.bison_words.specs.Suffixes.{IsSuffix};
+    ghost use Rattle.bison_words.specs.Inner.Builds.{Builds, Passed, Keeps, IsFoundHere, Made, made_by};
+
+    /// At the start of a text, with nothing read.
+    pub(crate) fn new(alloc: Global, text: &'a str) -> Self
+        ensures { (result.text.now ≡ text.now) × (result.rest.now ≡ text.now)
+            × (made_by result ≡ record { words = []; faults = []; epilogue = None }) }
+    {
+        Scanner {
+            text,
+            rest: text,
+            words: Vec::new(alloc),
+            faults: Vec::new(alloc),
+            epilogue: None,
+        }
+    }
+
+    /// Passes what precedes the rest.
+    pub(crate) fn go_to(&mut self, rest: &'a str)
+        requires { IsSuffix self.old.rest.now rest.now }
+        ensures { (self.new.rest.now ≡ rest.now) × Keeps self.old self.new }
+    {
+        self.rest = rest;
+    }
+
+    /// The offset of the rest, in bytes.
+    fn offset_of(&self, rest: &str) -> usize
+        ensures { result ≡ offset_of (length self.now.text.now) rest.now }
+    {
+        self.text.len().saturating_sub(rest.len())
+    }
+
+    /// Whether the rest begins with the word.
+    pub(crate) fn begins(&self, word: &str) -> bool
+        ensures { result ≡ begins word.now self.now.rest.now }
+    {
+        after_word(self.rest, word).is_some()
+    }
+
+    /// Whether the rest begins with a byte of the class.
+    pub(crate) fn starts_with(&self, class: Class) -> bool
+        ensures { result ≡ starts_with class self.now.rest.now }
+    {
+        runs::starts(self.rest, class)
+    }
+
+    /// How many bytes of the class the rest begins with.
+    pub(crate) fn run_len(&self, class: Class) -> usize
+        ensures { result ≡ prefix_len (holds class) self.now.rest.now }
+    {
+        runs::run_len(self.rest, class)
+    }
+
+    /// Passes the word, if the rest begins with it.
+    pub(crate) fn accept(&mut self, word: &str) -> bool
+        ensures passed { MatchBool result
+            ((strip word.now self.old.rest.now ≡ Some self.new.rest.now) × Keeps self.old self.new)
+            ((strip word.now self.old.rest.now ≡ None) × (self.new ≡ self.old)) }
+        ensures shorter { MatchBool result (length self.new.rest.now + length word.now ≡ length self.old.rest.now)
+            (self.new ≡ self.old) }
+        ensures same { self.new.text ≡ self.old.text }
+    {
+        match after_word(self.rest, word) {
+            Some(rest) => {
+                self.go_to(rest);
+                true
+            }
+            None => false,
+        }
+    }
+
+    /// Passes the run of the class, which may be empty, and returns it.
+    pub(crate) fn run(&mut self, class: Class) -> &'a str
+        ensures read { Builds (λ x. x.now) self.old self.new (Ok result) (run_here class) }
+        ensures passed { Passed self.old self.new }
+    {
+        let (run, rest) = runs::run(self.rest, class);
+        self.go_to(rest);
+        run
+    }
+
+    /// Passes the run of the class, which may be empty.
+    pub(crate) fn pass(&mut self, class: Class)
+        ensures read { Builds (λ x. x) self.old self.new (Ok result) (passes class) }
+        ensures passed { Passed self.old self.new }
+    {
+        let _ = self.run(class);
+    }
+
+    /// Passes the run of the class, if it isn't empty, and returns it.
+    pub(crate) fn some(&mut self, class: Class) -> Option<&'a str>
+        ensures { IsFoundHere (λ x. x.now) (some_of class) self.old self.new result }
+    {
+        if !self.starts_with(class) {
+            return None;
+        }
+        let (run, rest) = runs::run(self.rest, class);
+        self.go_to(rest);
+        Some(run)
+    }
+
+    /// Passes an ASCII byte of the class, if there is one, and returns it.
+    pub(crate) fn byte(&mut self, class: Class) -> Option<u8>
+        ensures { IsFoundHere (λ x. x) (byte_of class) self.old self.new result }
+    {
+        let (byte, rest) = runs::leading_byte(self.rest, class)?;
+        self.go_to(rest);
+        Some(byte)
+    }
+
+    /// Passes at most so many bytes of the run of the class, and returns them.
+    pub(crate) fn few(&mut self, class: Class, most: usize) -> &'a str
+        requires { (class ≡ Class.Octal) ⊎ (class ≡ Class.Hexadecimal) }
+        ensures read { Builds (λ x. x.now) self.old self.new (Ok result) (few_here class most) }
+        ensures passed { Passed self.old self.new }
+    {
+        let (few, rest) = runs::few(self.rest, class, most);
+        self.go_to(rest);
+        few
+    }
+
+    /// Passes a character, if there is one.
+    pub(crate) fn character(&mut self)
+        ensures read { Builds (λ x. x) self.old self.new (Ok result) character_here }
+        ensures passed { Passed self.old self.new }
+    {
+        let rest = runs::after_character(self.rest);
+        self.go_to(rest);
+    }
+
+    /// Passes the first needle, if there is one, and returns what precedes it.
+    pub(crate) fn first(&mut self, needle: &str) -> Option<&'a str>
+        ensures { IsFoundHere (λ x. x.now) (split_first needle.now) self.old self.new result }
+    {
+        let (body, rest) = split_at_first(self.rest, needle)?;
+        self.go_to(rest);
+        Some(body)
+    }
+
+    /// Adds a word that is from one rest of the text to another.
+    pub(crate) fn word_between(
+        &mut self,
+        start: &'a str,
+        end: &'a str,
+        lexeme: Lexeme<'a>,
+    ) -> Result<(), AllocError>
+        requires { length end.now ≤ length start.now }
+        ensures read { Builds (λ x. x) self.old self.new result
+            (word_between (length self.old.text.now) start.now end.now (lexeme_view lexeme.entry)) }
+        ensures passed { OnOk result (Passed self.old self.new) }
+    {
+        let span = Span::new(self.offset_of(start), self.offset_of(end));
+        self.words.push(Word { lexeme, span })?;
+        Ok(())
+    }
+
+    /// Adds a word that begins at `start` and ends here.
+    pub(crate) fn word_from(
+        &mut self,
+        start: &'a str,
+        lexeme: Lexeme<'a>,
+    ) -> Result<(), AllocError>
+        requires { length self.old.rest.now ≤ length start.now }
+        ensures read { Builds (λ x. x) self.old self.new result
+            (word_from (length self.old.text.now) start.now (lexeme_view lexeme.entry)) }
+        ensures passed { OnOk result (Passed self.old self.new) }
+    {
+        self.word_between(start, self.rest, lexeme)
+    }
+
+    /// Adds a fault from one rest of the text to another.
+    pub(crate) fn fault_between(
+        &mut self,
+        start: &str,
+        end: &str,
+        kind: WordFaultKind,
+    ) -> Result<(), AllocError>
+        requires { length end.now ≤ length start.now }
+        ensures read { Builds (λ x. x) self.old self.new result
+            (fault_between (length self.old.text.now) start.now end.now kind) }
+        ensures passed { OnOk result (Passed self.old self.new) }
+    {
+        let span = Span::new(self.offset_of(start), self.offset_of(end));
+        self.faults.push(WordFault { kind, span })?;
+        Ok(())
+    }
+
+    /// Adds a fault that begins at `start` and ends here.
+    pub(crate) fn fault_from(&mut self, start: &str, kind: WordFaultKind) -> Result<(), AllocError>
+        requires { length self.old.rest.now ≤ length start.now }
+        ensures read { Builds (λ x. x) self.old self.new result
+            (fault_from (length self.old.text.now) start.now kind) }
+        ensures passed { OnOk result (Passed self.old self.new) }
+    {
+        self.fault_between(start, self.rest, kind)
+    }
+
+    /// Adds a fault at the first `n` bytes of `start`.
+    pub(crate) fn fault_first(
+        &mut self,
+        start: &str,
+        n: usize,
+        kind: WordFaultKind,
+    ) -> Result<(), AllocError>
+        requires { n ≤ length start.now × length start.now ≤ length self.old.text.now }
+        ensures read { Builds (λ x. x) self.old self.new result
+            (fault_first (length self.old.text.now) start.now n kind) }
+        ensures passed { OnOk result (Passed self.old self.new) }
+    {
+        let offset = self.offset_of(start);
+        let span = Span::new(offset, offset + n);
+        self.faults.push(WordFault { kind, span })?;
+        Ok(())
+    }
+
+    /// Adds a fault in place of which there is no word.
+    pub(crate) fn odd_between(
+        &mut self,
+        start: &'a str,
+        end: &'a str,
+        kind: WordFaultKind,
+    ) -> Result<(), AllocError>
+        requires { length end.now ≤ length start.now }
+        ensures read { Builds (λ x. x) self.old self.new result
+            (odd_between (length self.old.text.now) start.now end.now kind) }
+        ensures passed { OnOk result (Passed self.old self.new) }
+    {
+        self.fault_between(start, end, kind)?;
+        self.word_between(start, end, Lexeme::Fault)
+    }
+
+    /// The same from `start` up to here.
+    pub(crate) fn odd_from(
+        &mut self,
+        start: &'a str,
+        kind: WordFaultKind,
+    ) -> Result<(), AllocError>
+        requires { length self.old.rest.now ≤ length start.now }
+        ensures read { Builds (λ x. x) self.old self.new result
+            (odd_from (length self.old.text.now) start.now kind) }
+        ensures passed { OnOk result (Passed self.old self.new) }
+    {
+        self.odd_between(start, self.rest, kind)
+    }
+
+    /// Adds such a fault for what begins at `start` and doesn't end, and passes the rest of the text.
+    #[tactic(auto, unfolding(crate::specs::Here::unended))]
+    pub(crate) fn unended(
+        &mut self,
+        start: &'a str,
+        kind: WordFaultKind,
+    ) -> Result<(), AllocError>
+        requires { length self.old.rest.now ≤ length start.now }
+        ensures read { Builds (λ x. x) self.old self.new result
+            (unended (length self.old.text.now) start.now kind) }
+        ensures passed { OnOk result (Passed self.old self.new) }
+    {
+        self.odd_from(start, kind)?;
+        self.pass(Class::Any);
+        Ok(())
+    }
+}

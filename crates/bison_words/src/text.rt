@@ -1,0 +1,253 @@
+//! The words of a text.
+
+ghost use Rattle.std.specs.Prelude.{◌≡◌, ◌≤◌, length, Some, IfOk, OnOk};
+ghost use Rattle.constructs.specs.Construct.{goes_on, computes};
+ghost use Rattle.bison_words.specs.Words.{IsWords};
+ghost use Rattle.bison_words.specs.TextWords.{is_predicate, is_equals, equals, is_mark, directive_end, directive_word, directive_name};
+ghost use Rattle.bison_words.specs.TextWords.{directive, percent, bracketed, word, word_turn, words, epilogue};
+ghost use Rattle.bison_words.specs.TextWords.{mark_then, sections, text_words};
+
+use crate::class::Class;
+use crate::directive::{Directive, directive_named};
+use crate::runs::run;
+use crate::scanner::Scanner;
+use crate::words::{Lexeme, WordFaultKind, Words};
+use constructs::after_word;
+use std::alloc::{AllocError, Global};
+
+/// Whether the text begins with `%?` and, maybe after blanks, a brace.
+#[tactic(auto, unfolding(crate::specs::TextWords::is_predicate))]
+fn is_predicate(text: &str) -> bool
+    ensures { result ≡ is_predicate text.now }
+{
+    match after_word(text, "%?") {
+        Some(rest) => after_word(run(rest, Class::Space).1, "{").is_some(),
+        None => false,
+    }
+}
+
+/// Whether the text begins with `=`, maybe after blanks.
+#[tactic(auto, unfolding(crate::specs::TextWords::is_equals))]
+fn is_equals(text: &str) -> bool
+    ensures { result ≡ is_equals text.now }
+{
+    after_word(run(text, Class::Space).1, "=").is_some()
+}
+
+impl<'a> Scanner<'a> {
+    ghost use Rattle.bison_words.specs.Inner.Builds.{Builds, Passed};
+
+    /// Whether `;`, `|`, `=` or a colon is here.
+    #[tactic(auto, unfolding(crate::specs::TextWords::is_mark))]
+    fn is_mark(&self) -> bool
+        ensures { result ≡ is_mark self.now.rest.now }
+    {
+        self.starts_with(Class::Mark) || self.is_colon()
+    }
+
+    /// Passes a blank and a `=`.
+    #[tactic(auto, unfolding(crate::specs::TextWords::equals))]
+    fn equals(&mut self)
+        ensures read { Builds (λ x. x) self.old self.new (Ok result) equals }
+        ensures passed { Passed self.old self.new }
+    {
+        self.pass(Class::Space);
+        let _ = self.accept("=");
+    }
+
+    /// Adds the directive that begins at `start`, with an `=` that belongs to it.
+    #[tactic(auto, unfolding(crate::specs::TextWords::directive_end))]
+    fn directive_end(&mut self, start: &'a str, directive: Directive) -> Result<(), AllocError>
+        requires { length self.old.rest.now ≤ length start.now }
+        ensures read { Builds (λ x. x) self.old self.new result
+            (directive_end (length self.old.text.now) start.now directive) }
+        ensures passed { OnOk result (Passed self.old self.new) }
+    {
+        if directive.takes_equals() && is_equals(self.rest) {
+            self.equals();
+        }
+        self.word_from(start, Lexeme::Directive(directive))
+    }
+
+    /// Passes the name of the directive whose `%` is at `start`.
+    #[tactic(auto, unfolding(crate::specs::TextWords::directive_name))]
+    fn directive_name(&mut self, start: &'a str) -> Result<bool, AllocError>
+        requires { length self.old.rest.now ≤ length start.now }
+        ensures read { Builds goes_on self.old self.new result
+            (directive_name (length self.old.text.now) start.now) }
+        ensures passed { OnOk result (Passed self.old self.new) }
+    {
+        match self.some(Class::NameByte) {
+            Some(name) => match directive_named(name) {
+                Some(directive) => self.directive_end(start, directive)?,
+                None => self.odd_from(start, WordFaultKind::UnknownDirective)?,
+            },
+            None => self.odd_from(start, WordFaultKind::IllegalCharacters)?,
+        }
+        Ok(true)
+    }
+
+    #[tactic(auto, unfolding(crate::specs::TextWords::directive))]
+    fn directive(&mut self) -> Result<bool, AllocError>
+        ensures read { Builds goes_on self.old self.new result (directive (length self.old.text.now)) }
+        ensures passed { OnOk result (Passed self.old self.new) }
+    {
+        let start = self.rest;
+        if !self.accept("%") {
+            return Ok(false);
+        }
+        if self.starts_with(Class::Letter) {
+            return self.directive_name(start);
+        }
+        self.odd_from(start, WordFaultKind::IllegalCharacters)?;
+        Ok(true)
+    }
+
+    /// Passes a word that begins with `%`.
+    #[tactic(auto, unfolding(crate::specs::TextWords::percent))]
+    fn percent(&mut self) -> Result<bool, AllocError>
+        ensures read { Builds goes_on self.old self.new result (percent (length self.old.text.now)) }
+        ensures passed { OnOk result (Passed self.old self.new) }
+    {
+        if self.begins("%{") {
+            self.prologue()
+        } else if is_predicate(self.rest) {
+            self.predicate()
+        } else {
+            self.directive()
+        }
+    }
+
+    /// Passes a word in brackets or quotes, or what can't begin a word.
+    #[tactic(auto, unfolding(crate::specs::TextWords::bracketed))]
+    fn bracketed(&mut self) -> Result<bool, AllocError>
+        ensures read { Builds goes_on self.old self.new result (bracketed (length self.old.text.now)) }
+        ensures passed { OnOk result (Passed self.old self.new) }
+    {
+        if self.begins("'") {
+            self.literal()
+        } else if self.begins("\"") {
+            self.string()
+        } else if self.begins("<") {
+            self.tag()
+        } else if self.begins("[") {
+            self.name()
+        } else if self.begins("{") {
+            self.code()
+        } else {
+            self.odd()
+        }
+    }
+
+    /// Passes a word; there is none at the text's end.
+    #[tactic(auto, unfolding(crate::specs::TextWords::word))]
+    fn word(&mut self) -> Result<bool, AllocError>
+        ensures read { Builds goes_on self.old self.new result (word (length self.old.text.now)) }
+        ensures passed { OnOk result (Passed self.old self.new) }
+    {
+        if self.begins("%") {
+            self.percent()
+        } else if self.begins("_(\"") {
+            self.translatable()
+        } else if self.is_identifier() {
+            self.identifier()
+        } else if self.starts_with(Class::Digit) {
+            self.number()
+        } else if self.is_mark() {
+            self.mark()
+        } else {
+            self.bracketed()
+        }
+    }
+
+    /// Passes a blank and a word, unless a `%%` or the text's end follows.
+    #[tactic(auto, unfolding(crate::specs::TextWords::word_turn))]
+    fn word_turn(&mut self) -> Result<bool, AllocError>
+        ensures read { Builds goes_on self.old self.new result (word_turn (length self.old.text.now)) }
+        ensures passed { OnOk result (Passed self.old self.new) }
+    {
+        self.blank()?;
+        if self.begins("%%") {
+            return Ok(false);
+        }
+        self.word()
+    }
+
+    /// Passes words up to a `%%` or the text's end.
+    fn words(&mut self) -> Result<(), AllocError>
+        ensures read { Builds (λ x. x) self.old self.new result (words (length self.old.text.now)) }
+        ensures passed { OnOk result (Passed self.old self.new) }
+    {
+        while self.word_turn()? {}
+        Ok(())
+    }
+
+    /// Passes what follows the second `%%`.
+    #[tactic(auto, unfolding(crate::specs::TextWords::epilogue))]
+    fn epilogue(&mut self) -> Result<(), AllocError>
+        ensures read { Builds (λ x. x) self.old self.new result (epilogue (length self.old.text.now)) }
+        ensures passed { OnOk result (Passed self.old self.new) }
+    {
+        self.epilogue = Some(self.rest);
+        self.code_pieces()
+    }
+
+    /// Passes a second `%%`, if it is here, and what follows it.
+    #[tactic(auto, unfolding(crate::specs::TextWords::mark_then))]
+    fn last_section(&mut self) -> Result<(), AllocError>
+        ensures read { Builds (λ x. x) self.old self.new result
+            (mark_then (length self.old.text.now) (epilogue (length self.old.text.now))) }
+        ensures passed { OnOk result (Passed self.old self.new) }
+    {
+        let start = self.rest;
+        if !self.accept("%%") {
+            return Ok(());
+        }
+        self.word_from(start, Lexeme::Mark)?;
+        self.epilogue()
+    }
+
+    /// Passes words, and what follows a `%%`.
+    #[tactic(auto, unfolding(crate::specs::TextWords::sections, crate::specs::TextWords::mark_then))]
+    fn sections(&mut self) -> Result<(), AllocError>
+        ensures read { Builds (λ x. x) self.old self.new result (sections (length self.old.text.now)) }
+        ensures passed { OnOk result (Passed self.old self.new) }
+    {
+        self.words()?;
+        let start = self.rest;
+        if !self.accept("%%") {
+            return Ok(());
+        }
+        self.word_from(start, Lexeme::Mark)?;
+        self.words()?;
+        self.last_section()
+    }
+
+    /// Passes a whole text.
+    #[tactic(auto, unfolding(crate::specs::TextWords::text_words))]
+    fn text_words(&mut self) -> Result<(), AllocError>
+        ensures read { Builds (λ x. x) self.old self.new result (text_words (length self.old.text.now)) }
+    {
+        self.line_number();
+        self.sections()?;
+        self.word_from(self.rest, Lexeme::End)
+    }
+}
+
+/// Reads the words of a text, the faults in them, and what follows the second `%%`.
+///
+/// # Errors
+///
+/// `AllocError` if an allocation fails.
+pub fn read_words<'a>(alloc: Global, text: &'a str) -> Result<Words<'a>, AllocError>
+    ensures { IfOk result (IsWords (computes (text_words (length text.now)) text.now).items) }
+{
+    let mut scanner = Scanner::new(alloc, text);
+    scanner.text_words()?;
+    let Scanner { words, faults, epilogue, .. } = scanner;
+    Ok(Words {
+        words,
+        faults,
+        epilogue,
+    })
+}
