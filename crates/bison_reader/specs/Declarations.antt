@@ -14,20 +14,20 @@ use Rattle.bison_reader.specs.declared.sort.Declaration.TheVariants as declarati
 use Rattle.bison_reader.specs.declared.sort.Sort.{Sort}
 use Rattle.bison_reader.specs.declared.sort.Sort.TheVariants as sorts
 use Rattle.bison_reader.specs.Here.{Strict, Lax, Turn, continues, sort_of, is_of, is_here, word_here_or, optional, words_of, needed, unexpected}
-use Rattle.bison_reader.specs.Items.{Item, TokenGiven, AliasGiven, RuleGiven, RefusedForRules, SymbolListed, LevelBegun, PrecedenceGiven, StartNamed, ExpectGiven, ExpectReduceReduceGiven, DefaultPrecedence}
+use Rattle.bison_reader.specs.Items.{Item, TokenGiven, AliasGiven, RuleGiven, RefusedForRules, SymbolListed, PrecedenceGiven, LevelEnded, StartNamed, ExpectGiven, ExpectReduceReduceGiven, DefaultPrecedence}
 
 -- what a list of symbols has, and what is missing where it has none
 abbrev pub group_of : Listed → Group
 group_of Tokens = groups.TokenName
 group_of Rules = groups.TokenName
 group_of Symbols = groups.Symbol
-group_of Precedences = groups.Symbol
+group_of (Precedences associativity) = groups.Symbol
 
 abbrev pub expected_of : Listed → Expected
 expected_of Tokens = expected.TokenName
 expected_of Rules = expected.Identifier
 expected_of Symbols = expected.Symbol
-expected_of Precedences = expected.Symbol
+expected_of (Precedences associativity) = expected.Symbol
 
 -- words are the sorts of all words
 module _ (words : List Sort) where
@@ -57,9 +57,9 @@ module _ (words : List Sort) where
   is_string _ = false
 
   -- a number may follow the token, unless it is named by a string
-  unfoldable pub precedence_rest : ℕ → Lax (Unit {0})
-  precedence_rest token = do
-    emits (PrecedenceGiven token)
+  unfoldable pub precedence_rest : Associativity → ℕ → Lax (Unit {0})
+  precedence_rest associativity token = do
+    emits (PrecedenceGiven associativity token)
     choice (λ _. is_string (sort_of words token)) (gives tt) (optional words groups.Number)
 
   -- what follows a symbol of a list
@@ -67,7 +67,7 @@ module _ (words : List Sort) where
   symbol_rest Tokens = token_rest
   symbol_rest Rules = rule_rest
   symbol_rest Symbols = λ symbol. emits (SymbolListed symbol)
-  symbol_rest Precedences = precedence_rest
+  symbol_rest (Precedences associativity) = precedence_rest associativity
 
   -- a symbol, which must be here
   unfoldable pub listed : Listed → Strict (Unit {0})
@@ -91,8 +91,8 @@ module _ (words : List Sort) where
 
   unfoldable pub level : Associativity → Strict (Unit {0})
   level associativity = do
-    emits (LevelBegun associativity)
-    tagged_list Precedences
+    tagged_list (Precedences associativity)
+    emits (LevelEnded associativity)
 
   -- another symbol of a `%start`
   unfoldable pub start_turn : Turn (Unit {0})

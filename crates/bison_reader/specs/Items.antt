@@ -19,8 +19,8 @@ pub data Item : Type 0 where
   RuleGiven : ℕ → Item  -- `%nterm` says that this symbol is a rule
   RefusedForRules : ℕ → Item  -- what `%nterm` can't have: a literal, a number or a string
   SymbolListed : ℕ → Item  -- a symbol in a list that says of none whether it is a token
-  LevelBegun : Associativity → Item  -- a level of precedences
-  PrecedenceGiven : ℕ → Item  -- a token of this level
+  PrecedenceGiven : Associativity → ℕ → Item  -- a token of a level of precedences
+  LevelEnded : Associativity → Item  -- the end of such a level
   StartNamed : ℕ → Item  -- a symbol that `%start` names
   ExpectGiven : ℕ → Item  -- the number of shift/reduce conflicts
   ExpectReduceReduceGiven : ℕ → Item  -- the number of reduce/reduce conflicts
@@ -39,8 +39,8 @@ item_view (code.Alias token string) = AliasGiven token string
 item_view (code.Rule symbol) = RuleGiven symbol
 item_view (code.NotForRules word) = RefusedForRules word
 item_view (code.Symbol symbol) = SymbolListed symbol
-item_view (code.Level associativity) = LevelBegun associativity
-item_view (code.Precedence symbol) = PrecedenceGiven symbol
+item_view (code.Precedence associativity symbol) = PrecedenceGiven associativity symbol
+item_view (code.LevelEnd associativity) = LevelEnded associativity
 item_view (code.Start symbol) = StartNamed symbol
 item_view (code.Expect number) = ExpectGiven number
 item_view (code.ExpectReduceReduce number) = ExpectReduceReduceGiven number

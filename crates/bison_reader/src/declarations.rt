@@ -21,8 +21,8 @@ impl Reader<'_> {
     fn level(&mut self, associativity: Associativity) -> Result<(), Stop>
         ensures { Builds (λ x. x) self.old self.new result (level self.old.sorts.now associativity) }
     {
-        self.note(Item::Level(associativity))?;
-        self.tagged_list(Listed::Precedences)
+        self.tagged_list(Listed::Precedences(associativity))?;
+        Ok(self.note(Item::LevelEnd(associativity))?)
     }
 
     /// Passes another symbol of a `%start`, if there is one.

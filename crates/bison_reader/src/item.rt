@@ -24,10 +24,10 @@ pub enum Item {
     NotForRules(usize),
     /// A symbol in a list that says of none whether it is a token.
     Symbol(usize),
-    /// A level of precedences begins.
-    Level(Associativity),
-    /// A token of this level.
-    Precedence(usize),
+    /// A token of a level of precedences.
+    Precedence(Associativity, usize),
+    /// The end of such a level.
+    LevelEnd(Associativity),
     /// A symbol that `%start` names.
     Start(usize),
     /// The number of shift/reduce conflicts.

@@ -7,7 +7,7 @@ ghost use Rattle.bison_reader.specs.Declarations.{precedence_rest, refused, rule
 ghost use Rattle.bison_reader.specs.Declarations.{token_rest};
 
 use crate::group::Group;
-use crate::item::{Expected, Item};
+use crate::item::{Associativity, Expected, Item};
 use crate::reader::{Reader, Stop};
 use crate::sort::Sort;
 use std::alloc::AllocError;
@@ -22,7 +22,7 @@ pub(crate) enum Listed {
     /// `%type`.
     Symbols,
     /// `%left` and the like.
-    Precedences,
+    Precedences(Associativity),
 }
 
 impl Listed {
@@ -32,7 +32,7 @@ impl Listed {
     {
         match self {
             Listed::Tokens | Listed::Rules => Group::TokenName,
-            Listed::Symbols | Listed::Precedences => Group::Symbol,
+            Listed::Symbols | Listed::Precedences(_) => Group::Symbol,
         }
     }
 
@@ -43,7 +43,7 @@ impl Listed {
         match self {
             Listed::Tokens => Expected::TokenName,
             Listed::Rules => Expected::Identifier,
-            Listed::Symbols | Listed::Precedences => Expected::Symbol,
+            Listed::Symbols | Listed::Precedences(_) => Expected::Symbol,
         }
     }
 }
@@ -90,10 +90,11 @@ impl Reader<'_> {
 
     /// Passes the number that may follow a token of a level, unless it is named by a string.
     #[tactic(auto, unfolding(crate::specs::Declarations::precedence_rest))]
-    fn precedence_rest(&mut self, token: usize) -> Result<(), Stop>
-        ensures { Builds (λ x. x) self.old self.new result (precedence_rest self.old.sorts.now token) }
+    fn precedence_rest(&mut self, associativity: Associativity, token: usize) -> Result<(), Stop>
+        ensures { Builds (λ x. x) self.old self.new result
+            (precedence_rest self.old.sorts.now associativity token) }
     {
-        self.note(Item::Precedence(token))?;
+        self.note(Item::Precedence(associativity, token))?;
         match self.sort_of(token) {
             Sort::String => {}
             _ => self.optional(Group::Number),
@@ -109,7 +110,7 @@ impl Reader<'_> {
             Listed::Tokens => self.token_rest(symbol),
             Listed::Rules => self.rule_rest(symbol),
             Listed::Symbols => Ok(self.note(Item::Symbol(symbol))?),
-            Listed::Precedences => self.precedence_rest(symbol),
+            Listed::Precedences(associativity) => self.precedence_rest(associativity, symbol),
         }
     }
 

@@ -26,9 +26,9 @@ abbrev pub made_by : Scanner → Made
 made_by scanner = record { words = map word_view scanner.words.items; faults = scanner.faults.items; epilogue = option_map (λ text. text.now) scanner.epilogue }
 
 -- a scanner: no fault stops it, only running out of memory does
-abbrev pub scanner_kind : ReaderKind Scanner AllocError Made Item ⊥
+abbrev pub scanner_kind : ReaderKind Scanner ℕ AllocError Made Item ⊥
 scanner_kind = record {
-  len = λ scanner. length scanner.text.now;
+  fixed = λ scanner. length scanner.text.now;
   rest = λ scanner. scanner.rest.now;
   made = made_by;
   add = add;
