@@ -9,6 +9,7 @@ mod kind_counts;
 pub mod laws;
 mod linter;
 mod program;
+mod read_fault;
 mod runtime;
 mod summary;
 mod tally;

@@ -1,0 +1,145 @@
+//! Files that can't be read as text.
+
+ghost use Rattle.std.specs.Prelude.{◌≡◌, ◌++◌, IfOk, IsUtf8, OnOk, length, string_bytes};
+ghost use Rattle.std.specs.Str.{IsValidUpTo};
+ghost use Rattle.cfgjson.specs.Objects.{json_line};
+ghost use Rattle.cfgrammar.specs.Lines.{column, line_number};
+ghost use Rattle.cfglint_shell.specs.ReadFaults.{fault_line, fault_lines, invalid_encoding, reason_text};
+ghost use Rattle.cfglint_shell.specs.ReadFaults.{shown_fault, unreadable_file};
+
+use crate::format::Format;
+use cfgjson::{Diagnostic, push_line};
+use cfgprogram::ReadError;
+use cfgrammar::{Positions, Span, Visible};
+use std::alloc::{AllocError, Global};
+use std::marker::Model;
+
+/// Why a file can't be read as text: its beginning that is text, the word of the reason, and what is said of it.
+#[derive(Drop)]
+pub(crate) struct ReadFault<'a> {
+    text: &'a str,
+    kind: &'static str,
+    message: String,
+}
+
+impl<'a> Model for ReadFault<'a> {
+    ghost use Rattle.std.specs.Prelude.{string_bytes};
+    ghost use Rattle.cfglint_shell.specs.ReadFaults as faults;
+
+    ghost Value = { faults.ReadFault };
+
+    ghost view = { λ x. record { text = x.text.now; kind = x.kind.now; message = string_bytes x.message } };
+}
+
+impl<'a> ReadFault<'a> {
+    /// A file can't be read, for this reason.
+    pub(crate) fn unreadable(alloc: Global, reason: ReadError) -> Result<Self, AllocError>
+        ensures { IfOk result (λ fault. fault ≡ unreadable_file reason) }
+    {
+        let reason = reason_text(reason);
+        Ok(ReadFault {
+            text: "",
+            kind: "unreadable-file",
+            message: format!(in alloc; "Unreadable file{reason}")?,
+        })
+    }
+
+    /// The bytes of a file are UTF-8 up to here alone.
+    pub(crate) fn invalid(alloc: Global, bytes: &'a [u8], valid: usize) -> Result<Self, AllocError>
+        requires { IsValidUpTo bytes.now valid }
+        ensures { IfOk result (λ fault. fault ≡ invalid_encoding bytes.entry.now valid) }
+    {
+        let byte = bytes[valid];
+        Ok(ReadFault {
+            text: text_of(&bytes[..valid]),
+            kind: "invalid-encoding",
+            message: format!(in alloc; "Not UTF-8: found the byte 0x{byte:02X}")?,
+        })
+    }
+
+    /// Writes the line that says so of a file of this name.
+    pub(crate) fn push_line(
+        &self,
+        alloc: Global,
+        out: &mut String,
+        name: &str,
+    ) -> Result<(), AllocError>
+        ensures { OnOk result (string_bytes out.new ≡ string_bytes out.old ++ fault_line name.now self.now) }
+    {
+        let positions = Positions::new(alloc, self.text)?;
+        let name = Visible(name);
+        let (line, column) = end_of(&positions);
+        writeln!(
+            out,
+            "{name}:{line}:{column}: error: {} [{}]",
+            self.message, self.kind
+        )
+    }
+
+    /// Writes what the format has of it among the lines for texts: in JSON an object.
+    pub(crate) fn push_reported(
+        &self,
+        alloc: Global,
+        out: &mut String,
+        format: Format,
+        name: &str,
+    ) -> Result<(), AllocError>
+        ensures { OnOk result (string_bytes out.new
+            ≡ string_bytes out.old ++ fault_lines format name.now self.now) }
+    {
+        match format {
+            Format::Text => Ok(()),
+            Format::Json => self.push_json(alloc, out, name),
+        }
+    }
+
+    /// Writes the JSON object that says so of a file of this name, on a line.
+    fn push_json(&self, alloc: Global, out: &mut String, name: &str) -> Result<(), AllocError>
+        ensures { OnOk result (string_bytes out.new
+            ≡ string_bytes out.old ++ json_line name.now self.now.text (shown_fault self.now)) }
+    {
+        let positions = Positions::new(alloc, self.text)?;
+        let end = self.text.len();
+        let diagnostic = Diagnostic {
+            is_error: true,
+            kind: self.kind,
+            text: self.message.as_str(),
+            hint: None,
+            spans: &[Span::new(end, end)],
+        };
+        push_line(alloc, out, name, &positions, &diagnostic)
+    }
+}
+
+/// The text that bytes are.
+fn text_of(bytes: &[u8]) -> &str
+    requires { IsUtf8 bytes.now }
+    ensures { result.now ≡ bytes.now }
+{
+    match std::str::from_utf8(bytes) {
+        Ok(text) => text,
+        Err(_) => unreachable!(),
+    }
+}
+
+/// The line and the column of a text's end.
+fn end_of(positions: &Positions<'_>) -> (usize, usize)
+    ensures { result ≡ (line_number positions.now (length positions.now), column positions.now (length positions.now)) }
+{
+    match positions.line_and_column(positions.text().len()) {
+        Some(end) => end,
+        None => unreachable!(),
+    }
+}
+
+/// Why a file could not be read, if that is known.
+fn reason_text(reason: ReadError) -> &'static str
+    ensures { result.now ≡ reason_text reason }
+{
+    match reason {
+        ReadError::NotFound => ": it is not there",
+        ReadError::IsADirectory => ": it is a directory",
+        ReadError::PermissionDenied => ": permission denied",
+        ReadError::Other => "",
+    }
+}
