@@ -2,11 +2,11 @@
 import re
 
 from .as_json import line_of
-from .faults import Fault, HeaderFault, position
+from .faults import Fault, HeaderFault
 from .findings import findings_of
 from .grammar import Grammar
 from .hints import hint
-from .rendered import note, rendered, visible
+from .rendered import note, placed, rendered, visible
 from .section import named_kind, section
 from .validation import errors_of, every_fault
 
@@ -22,6 +22,8 @@ usage: cfglint [OPTION..] [--] FILE..
   --default-kind KIND
                      The default kind, any but section: original-noaction if this option isn't given.
   --format FORMAT    text, the default, or json: a line with a JSON object for each error and warning, and no summary.
+  --columns UNIT     What a column of text counts from 1: bytes, characters, the default, or display: columns of a
+                     terminal, of which wide characters take two, and tabs those up to the next multiple of 8.
   --allow FINDING    Findings of this kind aren't reported.
   --warn FINDING     Findings of this kind are warnings.
   --deny FINDING     Findings of this kind are errors.
@@ -55,7 +57,7 @@ and the others are warnings. If a finding is given to several of these options, 
 status: 0 without errors or denied warnings; 1 with either; 2 if the arguments are wrong, a file can't be read or
 the output can't be written; 3 if there is no memory left
 '''
-OPTIONS = ('--kind', '--default-kind', '--format', '--allow', '--warn', '--deny', '--deny-warnings', '--quiet', '--stdin-name',
+OPTIONS = ('--kind', '--default-kind', '--format', '--columns', '--allow', '--warn', '--deny', '--deny-warnings', '--quiet', '--stdin-name',
            '--help', '--version')
 KINDS = ('original-noaction', 'original-useraction', 'original-genericparsetree', 'grmtools', 'eco', 'section')
 FINDINGS = ('unused-rule', 'unused-token', 'shadowed-rule', 'start-without-sentence', 'no-sentence', 'unusable-rule',
@@ -72,6 +74,7 @@ NO_TOKEN = 'if it is a token, declare it by %token'
 STILL_NO_TOKEN = '%left, %right and %nonassoc declare no token: declare it by %token too'
 NO_PRECEDENCE = 'no %left, %right or %nonassoc names it'
 FORMATS = ('text', 'json')
+UNITS = ('bytes', 'characters', 'display')
 GREATEST = 4294967295
 NO_MEMORY = object()                               # in place of the bytes of a file
 
@@ -94,7 +97,7 @@ class Options:
         self.kind, self.default_kind = None, 'original-noaction'
         self.denies, self.is_quiet, self.stdin_name, self.files = False, False, '-', []
         self.levels = dict.fromkeys(FINDINGS, 'warning') | dict.fromkeys(CONSEQUENCES) | {'start-without-sentence': 'error'}
-        self.format = 'text'
+        self.format, self.columns = 'text', 'characters'
 
     def set(self, option, value):
         if option == '--stdin-name':
@@ -105,6 +108,8 @@ class Options:
             self.default_kind = named(value, 'default kind', KINDS[:-1])
         elif option == '--format':
             self.format = named(value, 'format', FORMATS)
+        elif option == '--columns':
+            self.columns = named(value, 'unit', UNITS)
         else:
             word = named(value, 'finding', (*FINDINGS, 'all'))
             self.levels.update(dict.fromkeys(FINDINGS if word == 'all' else [word], LEVELS[option]))
@@ -137,7 +142,7 @@ def options_of(arguments):
             options.denies = True
         elif argument == '--quiet':
             options.is_quiet = True
-        elif option in ('--kind', '--default-kind', '--format', *LEVELS, '--stdin-name'):
+        elif option in ('--kind', '--default-kind', '--format', '--columns', *LEVELS, '--stdin-name'):
             if not equals and not left:
                 raise Wrong("option '%s' needs a value" % option)
             options.set(option, value if equals else left.pop(0))
@@ -184,12 +189,12 @@ class Tally:
             self.add_lines([line_of(name, t, 'error', error_word(error), error.display(), error.spans, words)])
         else:
             message = ': '.join(['error', error.display(), *([] if words is None else [words])])
-            self.add_lines(rendered(name, t, '%s [%s]' % (message, error_word(error)), error.spans, error.spans_kind()))
-            self.add_lines([] if words is None else [note(name, t, words, error.spans[0][0])])
+            self.add_lines(rendered(name, t, '%s [%s]' % (message, error_word(error)), error.spans, error.spans_kind(), options.columns))
+            self.add_lines([] if words is None else [note(name, t, words, error.spans[0][0], options.columns)])
 
     def add_unread(self, options, name, before, word, says):
         """Adds a file whose reading stopped after this text."""
-        self.faults += '%s:%d:%d: error: %s [%s]\n' % (visible(name), *position(before, len(before)), says, word)
+        self.faults += '%s:%d:%d: error: %s [%s]\n' % (visible(name), *placed(before, len(before), options.columns), says, word)
         if options.format == 'json':
             self.add_lines([line_of(name, before, 'error', word, says, [(len(before), len(before))])])
 
@@ -202,7 +207,7 @@ class Tally:
             self.add_lines([line_of(name, t, level, word, finding.text, finding.spans)])
         elif level:
             text = '%s: %s [%s]' % (level, finding.text, word)
-            self.add_lines(rendered(name, t, text, finding.spans, finding.spans_kind()))
+            self.add_lines(rendered(name, t, text, finding.spans, finding.spans_kind(), options.columns))
 
     def add_lines(self, lines):
         self.lines += ''.join(line + '\n' for line in lines)

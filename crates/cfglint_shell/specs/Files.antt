@@ -27,7 +27,7 @@ module _ (Reports : LintOptions → List ℕ → List ℕ → Printed → Type 0
     none : {source : S} {tally : Tally} → Lints Fetches reason source tally [] source tally
     next : {source between after : S} {tally last : Tally} {file : List ℕ} {files : List (List ℕ)} {answer : Input} (outcome : FileOutcome)
         → Fetches source file answer between → IsFileOutcome (name_of options file) answer (reason between) outcome
-        → Lints Fetches reason between (with_file options.lint.format (name_of options file) outcome tally) files after last
+        → Lints Fetches reason between (with_file options.lint (name_of options file) outcome tally) files after last
         → Lints Fetches reason source tally (file ∷ files) after last
 
 -- Files are requested of a source one by one.

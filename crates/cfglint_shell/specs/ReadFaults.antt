@@ -3,7 +3,9 @@ use Rattle.std.specs.Prelude.{ℕ, ◌/◌, ◌%◌, true, List, [], ◌∷◌, 
 use Rattle.std.specs.Fmt.{decimal, digit_glyph}
 use Rattle.cfgjson.specs.Objects.{ShownDiagnostic, json_line}
 use Rattle.cfgrammar.specs.Visible.{visible}
-use Rattle.cfgrammar.specs.Lines.{column, line_number}
+use Rattle.cfgrammar.specs.ColumnUnit.{ColumnUnit}
+use Rattle.cfgrammar.specs.Lines.{line_number}
+use Rattle.cfgrammar.specs.Render.{column_in}
 use Rattle.cfgprogram.specs.declared.source.ReadError.{ReadError}
 use Rattle.cfgprogram.specs.declared.source.ReadError.TheVariants.{NotFound, IsADirectory, PermissionDenied, Other}
 use Rattle.cfglint_shell.specs.declared.format.Format.{Format}
@@ -38,10 +40,10 @@ invalid_encoding bytes valid = record {
   message = codes "Not UTF-8: found the byte 0x" ++ hex_byte (slice_index bytes valid);
 }
 
--- the line: where the text ends, what is said, and the word
-abbrev pub fault_line : List ℕ → ReadFault → List ℕ
-fault_line name fault = visible name ++ (codes ":" ++ (decimal (line_number fault.text (length fault.text)) ++ (codes ":"
-    ++ (decimal (column fault.text (length fault.text)) ++ (codes ": error: " ++ (fault.message
+-- the line: where the text ends, with the column in this unit, what is said, and the word
+abbrev pub fault_line : ColumnUnit → List ℕ → ReadFault → List ℕ
+fault_line unit name fault = visible name ++ (codes ":" ++ (decimal (line_number fault.text (length fault.text)) ++ (codes ":"
+    ++ (decimal (column_in unit fault.text (length fault.text)) ++ (codes ": error: " ++ (fault.message
     ++ (codes " [" ++ (fault.kind ++ codes "]\n"))))))))
 
 -- the same as JSON, with the end of the text as its place

@@ -8,7 +8,7 @@ use Rattle.cfgprogram.specs.declared.kinds.KindArg.{KindArg}
 use Rattle.cfgprogram.specs.declared.kinds.KindArg.TheVariants.{Named, Section}
 use Rattle.cfgprogram.specs.declared.source.ReadError.{ReadError}
 use Rattle.cfglint_shell.specs.declared.kind_counts.KindCounts.{KindCounts}
-use Rattle.cfglint_shell.specs.declared.format.Format.{Format}
+use Rattle.cfglint_shell.specs.declared.linter.LintOptions.{LintOptions}
 use Rattle.cfglint_shell.specs.KindCounts.{count_of, kinds, no_kinds, with_kind}
 use Rattle.cfglint_shell.specs.ReadFaults.{ReadFault, fault_line, fault_lines, invalid_encoding, unreadable_file}
 
@@ -41,18 +41,18 @@ abbrev pub no_files : Tally
 no_files = record { lines = []; faults = []; texts = 0; kinds_read = no_kinds; errors = 0; warnings = 0; is_short = false }
 
 -- with one more file, of this name, that can't be read as text
-abbrev pub with_fault : Format → List ℕ → ReadFault → Tally → Tally
-with_fault format name fault t = record t {
-  lines = t.lines ++ fault_lines format name fault;
-  faults = t.faults ++ fault_line name fault;
+abbrev pub with_fault : LintOptions → List ℕ → ReadFault → Tally → Tally
+with_fault options name fault t = record t {
+  lines = t.lines ++ fault_lines options.format name fault;
+  faults = t.faults ++ fault_line options.columns name fault;
   is_short = true;
 }
 
 -- with one more file, of this name
-abbrev pub with_file : Format → List ℕ → FileOutcome → Tally → Tally
-with_file format name (Unread reason) t = with_fault format name (unreadable_file reason) t
-with_file format name (NoText bytes) t = with_fault format name (invalid_encoding bytes (utf8_valid_len bytes)) t
-with_file format name (Linted printed) t = record t {
+abbrev pub with_file : LintOptions → List ℕ → FileOutcome → Tally → Tally
+with_file options name (Unread reason) t = with_fault options name (unreadable_file reason) t
+with_file options name (NoText bytes) t = with_fault options name (invalid_encoding bytes (utf8_valid_len bytes)) t
+with_file options name (Linted printed) t = record t {
   lines = t.lines ++ printed.lines;
   texts = t.texts + 1;
   kinds_read = with_kind t.kinds_read printed.kind;

@@ -51,7 +51,7 @@ fn lint_file<'a, L: Linter, S: SourceWithReasons>(
         × S.fetches source.old file.now answer source.new
         × IsFileOutcome L.reports (options_view options.now)
         (name_of (options_view options.now) file.now) answer (S.reason source.new) outcome
-        × (tally.new ≡ with_file options.now.lint.format (name_of (options_view options.now) file.now) outcome tally.old)) }
+        × (tally.new ≡ with_file options.now.lint (name_of (options_view options.now) file.now) outcome tally.old)) }
     ensures err { OnErr result ((answer : Input) × S.fetches source.old file.now answer source.new) }
 {
     let name = options.name_of(file);
@@ -59,7 +59,7 @@ fn lint_file<'a, L: Linter, S: SourceWithReasons>(
         Input::Bytes(bytes) => lint_bytes(alloc, linter, options, name, &bytes, tally),
         Input::Unreadable => {
             let fault = ReadFault::unreadable(alloc, source.reason())?;
-            tally.add_fault(alloc, options.lint.format, name, &fault)
+            tally.add_fault(alloc, &options.lint, name, &fault)
         }
         Input::OutOfMemory => Err(AllocError),
     }
@@ -77,13 +77,13 @@ fn lint_bytes<L: Linter>(
     requires { tally.old.texts < 2 ^ 64 - 1 }
     ensures { OnOk result ((outcome : FileOutcome)
         × IsPrinted L.reports (options_view options.now) name.now bytes.now outcome
-        × (tally.new ≡ with_file options.now.lint.format name.now outcome tally.old)) }
+        × (tally.new ≡ with_file options.now.lint name.now outcome tally.old)) }
 {
     match std::str::from_utf8(bytes) {
         Ok(text) => tally.add_report(&linter.lint(alloc, &options.lint, name, text)?),
         Err(error) => {
             let fault = ReadFault::invalid(alloc, bytes, error.valid_up_to())?;
-            tally.add_fault(alloc, options.lint.format, name, &fault)
+            tally.add_fault(alloc, &options.lint, name, &fault)
         }
     }
 }

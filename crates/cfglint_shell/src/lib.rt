@@ -13,6 +13,7 @@ mod read_fault;
 mod runtime;
 mod summary;
 mod tally;
+mod unit;
 mod usage;
 
 pub use format::Format;

@@ -3,14 +3,15 @@
 ghost use Rattle.std.specs.Prelude.{◌≡◌, ◌++◌, IfOk, IsUtf8, OnOk, length, string_bytes};
 ghost use Rattle.std.specs.Str.{IsValidUpTo};
 ghost use Rattle.cfgjson.specs.Objects.{json_line};
-ghost use Rattle.cfgrammar.specs.Lines.{column, line_number};
+ghost use Rattle.cfgrammar.specs.Lines.{line_number};
+ghost use Rattle.cfgrammar.specs.Render.{column_in};
 ghost use Rattle.cfglint_shell.specs.ReadFaults.{fault_line, fault_lines, invalid_encoding, reason_text};
 ghost use Rattle.cfglint_shell.specs.ReadFaults.{shown_fault, unreadable_file};
 
 use crate::format::Format;
 use cfgjson::{Diagnostic, push_line};
 use cfgprogram::ReadError;
-use cfgrammar::{Positions, Span, Visible};
+use cfgrammar::{ColumnUnit, Positions, Span, Visible};
 use std::alloc::{AllocError, Global};
 use std::marker::Model;
 
@@ -57,18 +58,19 @@ impl<'a> ReadFault<'a> {
         })
     }
 
-    /// Writes the line that says so of a file of this name.
+    /// Writes the line that says so of a file of this name, with its column in this unit.
     pub(crate) fn push_line(
         &self,
         alloc: Global,
         out: &mut String,
+        unit: ColumnUnit,
         name: &str,
     ) -> Result<(), AllocError>
-        ensures { OnOk result (string_bytes out.new ≡ string_bytes out.old ++ fault_line name.now self.now) }
+        ensures { OnOk result (string_bytes out.new ≡ string_bytes out.old ++ fault_line unit name.now self.now) }
     {
         let positions = Positions::new(alloc, self.text)?;
         let name = Visible(name);
-        let (line, column) = end_of(&positions);
+        let (line, column) = end_of(unit, &positions);
         writeln!(
             out,
             "{name}:{line}:{column}: error: {} [{}]",
@@ -122,11 +124,14 @@ fn text_of(bytes: &[u8]) -> &str
     }
 }
 
-/// The line and the column of a text's end.
-fn end_of(positions: &Positions<'_>) -> (usize, usize)
-    ensures { result ≡ (line_number positions.now (length positions.now), column positions.now (length positions.now)) }
+/// The line of a text's end, and its column in this unit.
+fn end_of(unit: ColumnUnit, positions: &Positions<'_>) -> (usize, u128)
+    ensures { result ≡ (
+      line_number positions.now (length positions.now),
+      column_in unit positions.now (length positions.now),
+    ) }
 {
-    match positions.line_and_column(positions.text().len()) {
+    match unit.line_and_column(positions, positions.text().len()) {
         Some(end) => end,
         None => unreachable!(),
     }

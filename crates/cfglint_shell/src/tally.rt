@@ -1,12 +1,11 @@
 //! What is reported about files, one by one.
 
 ghost use Rattle.std.specs.Prelude.{◌≡◌, ◌-◌, ◌^◌, ◌<◌, ℕ, List, OnOk};
-ghost use Rattle.cfglint_shell.specs.declared.format.Format as declared_format;
+ghost use Rattle.cfglint_shell.specs.declared.linter.LintOptions as declared;
 ghost use Rattle.cfglint_shell.specs.Tally.{Linted, fails, no_files, status_of, with_fault, with_file};
 
-use crate::format::Format;
 use crate::kind_counts::KindCounts;
-use crate::linter::Report;
+use crate::linter::{LintOptions, Report};
 use crate::read_fault::ReadFault;
 use std::alloc::{AllocError, Global};
 use std::marker::Model;
@@ -64,8 +63,8 @@ impl Tally {
     /// Adds a file with what is reported about its text.
     pub(crate) fn add_report(&mut self, report: &Report) -> Result<(), AllocError>
         requires { self.old.texts < 2 ^ 64 - 1 }
-        ensures { OnOk result ((format : declared_format.Format) (name : List ℕ)
-            → self.new ≡ with_file format name (Linted report.now) self.old) }
+        ensures { OnOk result ((options : declared.LintOptions) (name : List ℕ)
+            → self.new ≡ with_file options name (Linted report.now) self.old) }
     {
         self.lines.push_str(&report.lines)?;
         self.texts += 1;
@@ -79,14 +78,14 @@ impl Tally {
     pub(crate) fn add_fault(
         &mut self,
         alloc: Global,
-        format: Format,
+        options: &LintOptions,
         name: &str,
         fault: &ReadFault<'_>,
     ) -> Result<(), AllocError>
-        ensures { OnOk result (self.new ≡ with_fault format name.now fault.now self.old) }
+        ensures { OnOk result (self.new ≡ with_fault options.now name.now fault.now self.old) }
     {
-        fault.push_reported(alloc, &mut self.lines, format, name)?;
-        fault.push_line(alloc, &mut self.faults, name)?;
+        fault.push_reported(alloc, &mut self.lines, options.format, name)?;
+        fault.push_line(alloc, &mut self.faults, options.columns, name)?;
         self.is_short = true;
         Ok(())
     }

@@ -33,6 +33,8 @@ usage: cfglint [OPTION..] [--] FILE..
   --default-kind KIND
                      The default kind, any but section: original-noaction if this option isn't given.
   --format FORMAT    text, the default, or json: a line with a JSON object for each error and warning, and no summary.
+  --columns UNIT     What a column of text counts from 1: bytes, characters, the default, or display: columns of a
+                     terminal, of which wide characters take two, and tabs those up to the next multiple of 8.
   --allow FINDING    Findings of this kind aren't reported.
   --warn FINDING     Findings of this kind are warnings.
   --deny FINDING     Findings of this kind are errors.
@@ -73,6 +75,7 @@ pub(crate) enum ValueOption {
     Kind,
     DefaultKind,
     Format,
+    Columns,
     Allow,
     Warn,
     Deny,
@@ -88,6 +91,7 @@ impl ValueOption {
             "--kind" => ValueOption::Kind,
             "--default-kind" => ValueOption::DefaultKind,
             "--format" => ValueOption::Format,
+            "--columns" => ValueOption::Columns,
             "--allow" => ValueOption::Allow,
             "--warn" => ValueOption::Warn,
             "--deny" => ValueOption::Deny,
@@ -105,6 +109,7 @@ impl ValueOption {
             ValueOption::Kind => "--kind",
             ValueOption::DefaultKind => "--default-kind",
             ValueOption::Format => "--format",
+            ValueOption::Columns => "--columns",
             ValueOption::Allow => "--allow",
             ValueOption::Warn => "--warn",
             ValueOption::Deny => "--deny",
@@ -124,6 +129,8 @@ pub(crate) enum UsageError<'a> {
     UnknownDefaultKind(&'a str),
     /// This value of `--format` names no format.
     UnknownFormat(&'a str),
+    /// This value of `--columns` names no unit.
+    UnknownUnit(&'a str),
     /// This value of `--allow`, `--warn` or `--deny` names no kind of finding.
     UnknownFinding(&'a str),
     /// No value follows the option.
@@ -150,6 +157,7 @@ impl UsageError<'_> {
             UsageError::UnknownFormat(format) => {
                 unknown(alloc, "format", format, format, &FORMATS)
             }
+            UsageError::UnknownUnit(unit) => unknown(alloc, "unit", unit, unit, &UNITS),
             UsageError::UnknownFinding(finding) => {
                 unknown(alloc, "finding", finding, finding, &FINDINGS)
             }
@@ -238,10 +246,11 @@ fn push_rest(text: &mut String, names: &[&str]) -> Result<(), AllocError>
 }
 
 /// The options.
-const OPTIONS: [&str; 11] = [
+const OPTIONS: [&str; 12] = [
     "--kind",
     "--default-kind",
     "--format",
+    "--columns",
     "--allow",
     "--warn",
     "--deny",
@@ -273,6 +282,9 @@ const DEFAULT_KINDS: [&str; 5] = [
 
 /// The values of `--format`.
 const FORMATS: [&str; 2] = ["text", "json"];
+
+/// The values of `--columns`.
+const UNITS: [&str; 3] = ["bytes", "characters", "display"];
 
 /// The values of `--allow`, `--warn` and `--deny`.
 const FINDINGS: [&str; 14] = [
