@@ -135,7 +135,7 @@ module _ (options : Options) where
   with_value StdinName value = Goes Argument (record options { stdin_name = value })
 
   -- an option with a value, which follows an `=` or is the next argument
-  abbrev pub with_option : List ℕ → Step
+  unfoldable pub with_option : List ℕ → Step
   with_option argument = option_map_or
       (λ option. if nat_lt (position_or_len (λ byte. byte == 61) argument) (length argument)
       then with_value option (after_first (λ byte. byte == 61) argument)

@@ -192,6 +192,7 @@ impl<'a> Options<'a> {
     }
 
     /// Takes an option with a value, which follows an `=` or is the next argument.
+    #[tactic(auto, unfolding(crate::specs::Requests::with_option))]
     fn take_option(&mut self, argument: &'a str) -> Step<'a>
         ensures { step_view (options_view self.new) result ≡ with_option (options_view self.old) argument.now }
     {

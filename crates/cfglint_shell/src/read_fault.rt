@@ -1,6 +1,6 @@
 //! Files that can't be read as text.
 
-ghost use Rattle.std.specs.Prelude.{◌≡◌, ◌++◌, IfOk, IsUtf8, OnOk, length, string_bytes};
+ghost use Rattle.std.specs.Prelude.{◌≡◌, ◌++◌, None, true, IfOk, IsUtf8, OnOk, length, string_bytes};
 ghost use Rattle.std.specs.Str.{IsValidUpTo};
 ghost use Rattle.cfgjson.specs.Objects.{json_line};
 ghost use Rattle.cfgrammar.specs.Lines.{line_number};
@@ -102,14 +102,28 @@ impl<'a> ReadFault<'a> {
     {
         let positions = Positions::new(alloc, self.text)?;
         let end = self.text.len();
-        let diagnostic = Diagnostic {
-            is_error: true,
-            kind: self.kind,
-            text: self.message.as_str(),
-            hint: None,
-            spans: &[Span::new(end, end)],
-        };
-        push_line(alloc, out, name, &positions, &diagnostic)
+        let spans = [Span::new(end, end)];
+        let shown = error_at(self.kind, &self.message, &spans);
+        push_line(alloc, out, name, &positions, &shown)
+    }
+}
+
+/// An error with this word and this text, without a note.
+fn error_at<'a>(kind: &'a str, text: &'a str, spans: &'a [Span]) -> Diagnostic<'a>
+    ensures { result ≡ record {
+      is_error = true;
+      kind = kind.now;
+      text = text.now;
+      hint = None;
+      spans = spans.now;
+    } }
+{
+    Diagnostic {
+        is_error: true,
+        kind,
+        text,
+        hint: None,
+        spans,
     }
 }
 
