@@ -1,0 +1,3 @@
+pub mod Used
+pub mod UsedAt
+pub mod Entries
