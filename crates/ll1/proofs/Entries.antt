@@ -1,5 +1,5 @@
 -- The entries of a parsing table: what a loop over the productions of a rule has found.
-use Rattle.std.proofs.Common.{◌≡◌, ◌≢◌, ◌↔◌, inl, inr, ℕ, ◌+◌, ◌<◌, List, length, get_or, Contains, Option, Some, None, arith, sym, ap, subst, ◌∙◌}
+use Rattle.std.proofs.Common.{◌≡◌, ◌↔◌, inl, inr, ℕ, ◌+◌, ◌<◌, ◌≤◌, List, length, get_or, Contains, Option, Some, None, Bool, true, false, IsTrue, arith, refl, sym, ap, subst, ◌∙◌}
 use Rattle.std.proofs.lemmas.Bool.{cases_eq}
 use Rattle.std.proofs.lemmas.List.{get_or_default}
 use Rattle.cfgrammar.specs.Grammar.{Grammar}
@@ -70,17 +70,49 @@ module _ (g : Grammar) (r t : ℕ) (listed : List ℕ) where
     found_second i first p within one is entry =
         (one.entry, entry, (λ same. own.once one.position i one.before within (sym one.is ∙ same ∙ is)))
 
+    -- the production at an index, and whether it is used
+    module _ (i : ℕ) (p : PIdx S) (within : i < length listed) (is : number p.0 ≡ get_or listed i 0) (used : Bool)
+        (entry : IsTrue used ↔ IsEntry g (nth_production g (number p.0)).rule t (number p.0)) where
+      owner : (nth_production g (number p.0)).rule ≡ r
+      owner = ap (λ n. (nth_production g n).rule) is ∙ own.own i within
+
+      is_entry : used ≡ true → IsEntry g r t (number p.0)
+      is_entry on = subst (λ n. IsEntry g n t (number p.0)) owner (entry.0 on)
+
+      pub found_unused : (found : Option (PIdx S)) → IsFound number i found → used ≡ false → IsFound number (i + 1) found
+      found_unused found so_far off = found_same number i found so_far
+          (λ h. let on = entry.1 (subst (λ n. IsEntry g n t (number p.0)) (sym owner) (subst (IsEntry g r t) (sym is) h)) in cc)
+
+      pub found_used : IsFound number i None → used ≡ true → IsFound number (i + 1) (Some p)
+      found_used none on = found_first number i p none is (is_entry on)
+
+      pub found_again : (first : PIdx S) → IsFound number i (Some first) → used ≡ true → IsDecision number g r t (Conflict first p)
+      found_again first one on = found_second i first p within one is (is_entry on)
+
     at : (p : ℕ) → IsEntry g r t p → (k : ℕ) × (k < length listed) × (get_or listed k 0 ≡ p)
     at p h = let (k, within, is) = own.all p h.within h.owner in (k, within, get_or_default listed k 0 p within ∙ is)
 
-    pub no_entry : (i : ℕ) → length listed ≡ i → IsFound number i None → IsDecision number g r t NoProduction
+    pub no_entry : (i : ℕ) → length listed ≤ i → IsFound number i None → IsDecision number g r t NoProduction
     no_entry i end none = λ p h. let (k, within, is) = at p h in
         none k (omega (arith, within, end)) (subst (IsEntry g r t) (sym is) h)
 
-    pub one_entry : (i : ℕ) (p : PIdx S) → length listed ≡ i → IsFound number i (Some p) → IsDecision number g r t (Production p)
+    pub one_entry : (i : ℕ) (p : PIdx S) → length listed ≤ i → IsFound number i (Some p) → IsDecision number g r t (Production p)
     one_entry i p end one = λ q. (
       (λ h. let (k, within, is) = at q h in
-      let same = one.only k (omega (arith, within, end)) (subst (IsEntry g r t) (sym is) h) in
-      sym is ∙ ap (λ n. get_or listed n 0) same ∙ sym one.is),
+          let same = one.only k (omega (arith, within, end)) (subst (IsEntry g r t) (sym is) h) in
+          sym is ∙ ap (λ n. get_or listed n 0) same ∙ sym one.is),
       (λ same. subst (IsEntry g r t) (sym same) one.entry),
     )
+
+-- the entry has at most one production
+abbrev pub HasOne : Grammar → ℕ → ℕ → Type 0
+HasOne g r t = (p q : ℕ) → IsEntry g r t p → IsEntry g r t q → p ≡ q
+
+module _ (g : Grammar) (r t : ℕ) {S : Type 0} (number : S → ℕ) where
+  pub one_decided : (d : Decision S) → IsDecision number g r t d → ((p q : PIdx S) → d ≡ Conflict p q → ⊥) → HasOne g r t
+  one_decided NoProduction none apart = λ p q h k. absurd (none p h)
+  one_decided (Production p) one apart = λ q s h k. (one q).0 h ∙ sym ((one s).0 k)
+  one_decided (Conflict p q) two apart = absurd (apart p q refl)
+
+  pub two_decided : (p q : PIdx S) → IsDecision number g r t (Conflict p q) → HasOne g r t → ⊥
+  two_decided p q two one = two.2 (one (number p.0) (number q.0) two.0 two.1)

@@ -1,8 +1,8 @@
 -- The list of a rule's productions has each of them once.
-use Rattle.std.proofs.Common.{◌≡◌, ℕ, zero, suc, ◌+◌, ◌<◌, ◌≤◌, ◌==◌, nat_eq, Bool, true, false, if◌then◌else◌, List, [], ◌∷◌, length, map, count_by, get_or, slice_get, Some, option_map, All, arith, eq-eqb, refl, sym, ap, ◌∙◌}
+use Rattle.std.proofs.Common.{◌≡◌, ◌↔◌, inl, inr, ℕ, zero, suc, ◌<◌, ◌≤◌, ◌==◌, nat_eq, if◌then◌else◌, List, [], ◌∷◌, length, map, count_by, get_or, Some, option_map, All, arith, eq-eqb, refl, sym, ap, subst, ◌∙◌}
 use Rattle.std.proofs.lemmas.Bool.{cases_Bool}
 use Rattle.std.proofs.lemmas.List.{get_or-map, length-map}
-use Rattle.std.proofs.lemmas.List.Elements.{Contains-get_or}
+use Rattle.std.proofs.lemmas.List.Elements.{All-map, Contains-get_or}
 use Rattle.std.proofs.lemmas.List.Sums.{get_or-le-sum_by, sum_by-cons}
 use Rattle.std.proofs.lemmas.Option.{get_or_from_slice_get, same_Some}
 use Rattle.cfgrammar.proofs.Elements.{element_at}
@@ -11,7 +11,9 @@ use Rattle.cfgrammar.specs.Accessors.{production_part, rule_part}
 use Rattle.cfgrammar.specs.Grammar.{Sym}
 use Rattle.cfgrammar.specs.Numbered.{Numbered, NumberedProduction, core, production_core}
 use Rattle.cfgrammar.specs.Openings.{nth_production}
+use Rattle.cfgrammar.specs.PIdx.{PIdx}
 use Rattle.cfgrammar.specs.WellNumbered.{ListsEachOnce}
+use Rattle.ll1.specs.Ll1.{IsEntry, IsUsedAt}
 use Rattle.ll1.proofs.Entries.{ListsOwn}
 
 -- the number p at one index, and at two
@@ -49,6 +51,20 @@ module _ (g : Numbered) (p : ℕ) (within : p < length g.productions) where
   pub symbols_at : (symbols : List Sym) → production_part (λ x. x.symbols) g p ≡ Some symbols → (nth_production (core g) p).symbols ≡ symbols
   symbols_at symbols found = let (x, is, same) = part_at (λ y. y.symbols) symbols found in ap (λ y. y.symbols) is ∙ same
 
+  -- what says where it is used says of which entries it is one
+  pub entry_at : (r t : ℕ) (symbols : List Sym) (Used : Type 0) → (nth_production (core g) p).rule ≡ r → (nth_production (core g) p).symbols ≡ symbols
+      → Used ↔ IsUsedAt (core g) r symbols t → Used ↔ IsEntry (core g) (nth_production (core g) p).rule t p
+  entry_at r t symbols Used owner are used = (
+    (λ h. record {
+      within = subst (λ n. p < n) (sym (length-map g.productions production_core)) within;
+      owner = refl;
+      used = subst (λ n. IsUsedAt (core g) n (nth_production (core g) p).symbols t) (sym owner)
+          (subst (λ l. IsUsedAt (core g) r l t) (sym are) (used.0 h));
+    }),
+    (λ h. used.1 (subst (λ l. IsUsedAt (core g) r l t) are
+        (subst (λ n. IsUsedAt (core g) n (nth_production (core g) p).symbols t) owner h.used))),
+  )
+
 module _ (g : Numbered) (r : ℕ) (listed : List ℕ) (each : ListsEachOnce g) (at : rule_part (λ x. x.productions) g r ≡ Some listed)
     (within : All (λ p. p < length g.productions) listed) where
   at_most_once : (p : ℕ) → p < length g.productions → count_by (nat_eq p) listed ≤ 1
@@ -56,8 +72,8 @@ module _ (g : Numbered) (r : ℕ) (listed : List ℕ) (each : ListsEachOnce g) (
       let (x, read) = element_at g.productions p inside in
       let often = each p x.rule r listed (ap (option_map (λ y. y.rule)) read) at in
       elim (cases_Bool (r == x.rule)) [
-        | inl i ↦ omega (arith, often, ap (λ b. if b then 1 else 0) i)
-        | inr i ↦ omega (arith, often, ap (λ b. if b then 1 else 0) i)
+        | inl i ↦ omega (arith, often, ap {B = ℕ} (λ b. if b then 1 else 0) i)
+        | inr i ↦ omega (arith, often, ap {B = ℕ} (λ b. if b then 1 else 0) i)
       ]
 
   pub lists_own : ListsOwn (core g) r listed
@@ -71,3 +87,20 @@ module _ (g : Numbered) (r : ℕ) (listed : List ℕ) (each : ListsEachOnce g) (
             let most = at_most_once (get_or listed k 0) (within k 0 below) in
             omega (arith, twice, most);
       }
+
+-- the same of the list that a call returned
+pub lists_shown : {S : Type 0} (number : S → ℕ) (g : Numbered) (r : ℕ) (items : List (PIdx S)) → ListsEachOnce g
+    → rule_part (λ x. x.productions) g r ≡ Some (map (λ p. number p.0) items) → All (λ p. number p.0 < length g.productions) items
+    → ListsOwn (core g) r (map (λ p. number p.0) items)
+lists_shown number g r items each at within =
+    lists_own g r (map (λ p. number p.0) items) each at (All-map (λ p. p < length g.productions) (λ p. number p.0) items within)
+
+-- an item of the list, as it is shown
+pub shown_at : {X : Type 0} (f : X → ℕ) (xs : List X) (i : ℕ) (x : X) → i < length xs → x ≡ get_or xs i x → f x ≡ get_or (map f xs) i 0
+shown_at f xs i x within is = sym (get_or-map f xs i x 0 within ∙ ap f (sym is))
+
+pub shown_within : {X : Type 0} (f : X → ℕ) (xs : List X) (i : ℕ) → i < length xs → i < length (map f xs)
+shown_within f xs i within = subst (λ n. i < n) (sym (length-map xs f)) within
+
+pub shown_end : {X : Type 0} (f : X → ℕ) (xs : List X) (i : ℕ) → length xs ≤ i → length (map f xs) ≤ i
+shown_end f xs i past = subst (λ n. n ≤ i) (sym (length-map xs f)) past

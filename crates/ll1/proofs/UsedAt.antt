@@ -1,5 +1,5 @@
 -- Sets that are FIRST and FOLLOW say where productions are used.
-use Rattle.std.proofs.Common.{◌≡◌, ◌↔◌, ◌⊎◌, inl, inr, ℕ, List, [], ◌∷◌}
+use Rattle.std.proofs.Common.{◌↔◌, ◌⊎◌, inl, inr, ℕ, List, [], ◌∷◌}
 use Rattle.cfgrammar.specs.Derivation.{Derives}
 use Rattle.cfgrammar.specs.First.{First, Nullable}
 use Rattle.cfgrammar.specs.FirstSets.{AreNullable, Begins}
@@ -44,15 +44,15 @@ module _ (g : Grammar) (x : FirstSets) (y : Table) (firsts : AreFirsts g x) (fol
   pub used_at : IsUsedBySets (IsNullableRule x) (IsAmongFirsts x) (HasBit y) r a t ↔ IsUsedAt g r a t
   used_at = (
     (λ h. elim (in_parts (Nullable (HasProduction g)) (First (HasProduction g)) (MayFollow g) r t a
-    (more_used (IsNullableRule x) (Nullable (HasProduction g)) (IsAmongFirsts x) (First (HasProduction g)) (HasBit y) (MayFollow g) r t
-    (λ q. (firsts.empty q).0) (λ q. (firsts.first q t).0) (follows.follow r t).0 a h)) [
-      | inl b ↦ inl (begins.0 b)
-      | inr all ↦ inr (nullable.0 all.0, all.1)
-    ]),
+        (more_used (IsNullableRule x) (Nullable (HasProduction g)) (IsAmongFirsts x) (First (HasProduction g)) (HasBit y) (MayFollow g) r t
+        (λ q. (firsts.empty q).0) (λ q. (firsts.first q t).0) (follows.follow r t).0 a h)) [
+          | inl b ↦ inl (begins.0 b)
+          | inr all ↦ inr (nullable.0 all.0, all.1)
+        ]),
     (λ h. more_used (Nullable (HasProduction g)) (IsNullableRule x) (First (HasProduction g)) (IsAmongFirsts x) (MayFollow g) (HasBit y) r t
-    (λ q. (firsts.empty q).1) (λ q. (firsts.first q t).1) (follows.follow r t).1 a
-    (from_parts (Nullable (HasProduction g)) (First (HasProduction g)) (MayFollow g) r t a (elim h [
-      | inl f ↦ inl (begins.1 f)
-      | inr all ↦ inr (nullable.1 all.0, all.1)
-    ]))),
+        (λ q. (firsts.empty q).1) (λ q. (firsts.first q t).1) (follows.follow r t).1 a
+        (from_parts (Nullable (HasProduction g)) (First (HasProduction g)) (MayFollow g) r t a (elim h [
+          | inl f ↦ inl (begins.1 f)
+          | inr all ↦ inr (nullable.1 all.0, all.1)
+        ]))),
   )

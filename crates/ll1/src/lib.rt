@@ -26,7 +26,7 @@ pub enum Decision<S> {
     NoProduction,
     /// It uses this production.
     Production(PIdx<S>),
-    /// Two productions are used, or more: these are the first two.
+    /// At least two productions are used, which these are two of: the grammar isn't LL(1).
     Conflict(PIdx<S>, PIdx<S>),
 }
 
@@ -96,13 +96,14 @@ pub fn decide<S: Storage>(
     requires rule { S.number rule.0 < length grammar.now.rules }
     ensures { IsDecision S.number (core grammar.now) (S.number rule.0) (S.number token.0) result }
 {
+    grammar.invariant_holds();
     let mut used = None;
     for pidx in grammar.rule_to_prods(rule) {
         if is_used(grammar, firsts, follows, *pidx, token) {
-            if let Some(first) = used {
-                return Decision::Conflict(first, *pidx);
+            match used {
+                None => used = Some(*pidx),
+                Some(first) => return Decision::Conflict(first, *pidx),
             }
-            used = Some(*pidx);
         }
     }
     match used {

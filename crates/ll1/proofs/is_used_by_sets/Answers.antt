@@ -29,8 +29,8 @@ returns-then-not-is_epsilon_set g c =
     let all = rw left at c.loop-symbol.invariant in (
       (λ h. cc),
       (λ h. absurd (unused_at_rule _ _ _ _ _ _ _ _ all
-      (λ begins. let on = c.is_set.ensures.1 begins in cc)
-      (λ nullable. let on = c.is_epsilon_set.ensures.1 nullable in cc) h)),
+          (λ begins. let on = c.is_set.ensures.1 begins in cc)
+          (λ nullable. let on = c.is_epsilon_set.ensures.1 nullable in cc) h)),
     )
 
 pub loop-symbol-preserved : goal.loop-symbol-preserved

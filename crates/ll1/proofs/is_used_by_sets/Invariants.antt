@@ -1,4 +1,4 @@
-use Rattle.std.proofs.Common.{◌↔◌, map, drop}
+use Rattle.std.proofs.Common.{map, drop}
 use Rattle.cfgrammar.specs.Firsts.{IsAmongFirsts, IsNullableRule}
 use Rattle.cfgrammar.specs.NumberedSymbols.{sym_of}
 use Rattle.cfgrammar.specs.Table.{HasBit}
