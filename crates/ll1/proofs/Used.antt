@@ -2,7 +2,7 @@
 use Rattle.std.proofs.Common.{◌≡◌, ◌↔◌, inl, inr, ℕ, ◌+◌, ◌<◌, ◌≤◌, List, [], ◌∷◌, length, map, drop, get_or, sym, ap, ◌∙◌}
 use Rattle.std.proofs.lemmas.List.{drop_all, drop_more}
 use Rattle.cfgrammar.specs.Grammar.{Sym, Rule, Token}
-use Rattle.ll1.specs.Sets.{IsUsedBySets}
+use Rattle.ll1.specs.Inner.Sets.{IsUsedBySets}
 
 module _ (E : ℕ → Type 0) (F W : ℕ → ℕ → Type 0) (r t : ℕ) (symbols : List Sym) where
   -- the production is used exactly if it would be with the rest of its symbols alone

@@ -9,7 +9,7 @@ use Rattle.cfgrammar.specs.Follows.{AreFollows}
 use Rattle.cfgrammar.specs.Grammar.{Grammar, HasProduction, Sym, Rule, Token}
 use Rattle.cfgrammar.specs.Table.{HasBit, Table}
 use Rattle.ll1.specs.Ll1.{FirstOf, IsUsedAt}
-use Rattle.ll1.specs.Sets.{IsUsedBySets}
+use Rattle.ll1.specs.Inner.Sets.{IsUsedBySets}
 
 -- sets that have more say more
 more_used : (E E' : ℕ → Type 0) (F F' W W' : ℕ → ℕ → Type 0) (r t : ℕ) → ((q : ℕ) → E q → E' q) → ((q : ℕ) → F q t → F' q t) → (W r t → W' r t)

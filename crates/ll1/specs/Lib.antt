@@ -1,2 +1,2 @@
 pub mod Ll1
-pub mod Sets
+pub mod Inner

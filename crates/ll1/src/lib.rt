@@ -2,6 +2,8 @@
 //! 4.4.3).
 #![tactic(auto)]
 
+pub mod reachable;
+
 ghost use Rattle.std.specs.Prelude.{◌≡◌, ◌↔◌, ◌<◌, ℕ, length, map, IfOk, IsTrue};
 ghost use Rattle.cfgrammar.specs.Firsts.{AreFirsts, IsAmongFirsts, IsNullableRule};
 ghost use Rattle.cfgrammar.specs.Follows.{AreFollows};
@@ -10,7 +12,7 @@ ghost use Rattle.cfgrammar.specs.NumberedSymbols.{sym_of};
 ghost use Rattle.cfgrammar.specs.Openings.{nth_production};
 ghost use Rattle.cfgrammar.specs.Table.{HasBit};
 ghost use Rattle.ll1.specs.Ll1.{IsDecision, IsEntry, IsLl1};
-ghost use Rattle.ll1.specs.Sets.{IsUsedBySets};
+ghost use Rattle.ll1.specs.Inner.Sets.{IsUsedBySets};
 
 use cfgrammar::laws::{lists_begin_symbol_by_symbol, tokens_are_their_numbers};
 use cfgrammar::yacc::YaccGrammar;
