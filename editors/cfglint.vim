@@ -3,5 +3,5 @@ if exists("current_compiler")
   finish
 endif
 let current_compiler = "cfglint"
-CompilerSet makeprg=cfglint\ --quiet\ --\ %:S
+CompilerSet makeprg=cfglint\ --quiet\ --columns\ bytes\ --\ %:S
 CompilerSet errorformat=%f:%l:%c:\ %trror:\ %m,%f:%l:%c:\ %tarning:\ %m,%f:%l:%c:\ %tote:\ %m,%-G%.%#

@@ -6,7 +6,7 @@ from .faults import Fault, HeaderFault
 from .findings import findings_of
 from .grammar import Grammar
 from .hints import hint
-from .rendered import note, rendered, visible
+from .rendered import note, placed, rendered, visible
 from .section import named_kind, section
 from .validation import errors_of, every_fault
 
@@ -22,6 +22,8 @@ usage: cfglint [OPTION..] [--] FILE..
   --default-kind KIND
                      The default kind, any but section: original-noaction if this option isn't given.
   --format FORMAT    text, the default, or json: a line with a JSON object for each error and warning, and no summary.
+  --columns UNIT     What a column of text counts from 1: bytes, characters, the default, or display: columns of a
+                     terminal, of which wide characters take two, and tabs those up to the next multiple of 8.
   --allow FINDING    Findings of this kind aren't reported.
   --warn FINDING     Findings of this kind are warnings.
   --deny FINDING     Findings of this kind are errors.
@@ -33,18 +35,30 @@ usage: cfglint [OPTION..] [--] FILE..
   --                 What follows are files.
   FILE               A path, or - for standard input, which can be given once.
 
-FINDING is unused-rule, unused-token, shadowed-rule, start-without-sentence, no-sentence, unusable-rule,
-unusable-production, useless-symbol, cyclic-rule, repeated-production, unused-precedence, repeated-token,
-overridden-precedence or all, which is each of them. Without these options start-without-sentence is an error; unusable-rule, unusable-production
-and useless-symbol, which only follow from a rule without a sentence, aren't reported; and the others are warnings.
-If a finding is given to several of these options, the last one wins.
+FINDING is all, for each kind, or one of these. Without these options those that say so are errors or aren't reported,
+and the others are warnings. If a finding is given to several of these options, the last one wins.
+
+  unused-rule             a rule that can't be reached from the start rule
+  unused-token            a token that can't be reached from it, and that no %prec names
+  shadowed-rule           a rule that is never used, since its name is that of a token
+  start-without-sentence  a start rule from which no sentence can be derived: an error
+  no-sentence             another rule from which no sentence can be derived
+  unusable-rule           a rule without a sentence since others have none: not reported
+  unusable-production     a production with a rule that has no sentence: not reported
+  useless-symbol          a rule or token that only unusable productions reach: not reported
+  cyclic-rule             a rule that derives itself
+  repeated-production     a production with the symbols of an earlier one of its rule
+  unused-precedence       a precedence of a token that no production needs
+  repeated-token          a token that a %token list has a second time
+  overridden-precedence   a %prec that a later one of its production overrides
+
 --kind=KIND is --kind KIND, and so on.
 
 status: 0 without errors or denied warnings; 1 with either; 2 if the arguments are wrong, a file can't be read or
 the output can't be written; 3 if there is no memory left
 '''
-OPTIONS = ('--kind, --default-kind, --format, --allow, --warn, --deny, --deny-warnings, --quiet, --stdin-name, -h, --help, '
-           '--version, --')
+OPTIONS = ('--kind', '--default-kind', '--format', '--columns', '--allow', '--warn', '--deny', '--deny-warnings', '--quiet',
+           '--stdin-name', '--help', '--version')
 KINDS = ('original-noaction', 'original-useraction', 'original-genericparsetree', 'grmtools', 'eco', 'section')
 FINDINGS = ('unused-rule', 'unused-token', 'shadowed-rule', 'start-without-sentence', 'no-sentence', 'unusable-rule',
             'unusable-production', 'useless-symbol', 'cyclic-rule', 'repeated-production', 'unused-precedence',
@@ -60,6 +74,7 @@ NO_TOKEN = 'if it is a token, declare it by %token'
 STILL_NO_TOKEN = '%left, %right and %nonassoc declare no token: declare it by %token too'
 NO_PRECEDENCE = 'no %left, %right or %nonassoc names it'
 FORMATS = ('text', 'json')
+UNITS = ('bytes', 'characters', 'display')
 GREATEST = 4294967295
 NO_MEMORY = object()                               # in place of the bytes of a file
 
@@ -70,7 +85,7 @@ class Unreadable:
     def __init__(self, error=None):
         reasons = {FileNotFoundError: ': it is not there', IsADirectoryError: ': it is a directory',
                    PermissionError: ': permission denied'}
-        self.reason = reasons.get(type(error), '')
+        self.says = 'Unreadable file' + reasons.get(type(error), '')
 
 
 class Wrong(Exception):
@@ -82,26 +97,33 @@ class Options:
         self.kind, self.default_kind = None, 'original-noaction'
         self.denies, self.is_quiet, self.stdin_name, self.files = False, False, '-', []
         self.levels = dict.fromkeys(FINDINGS, 'warning') | dict.fromkeys(CONSEQUENCES) | {'start-without-sentence': 'error'}
-        self.format = 'text'
+        self.format, self.columns = 'text', 'characters'
 
     def set(self, option, value):
         if option == '--stdin-name':
             self.stdin_name = value
         elif option == '--kind':
-            self.kind = named(value, 'kind', 'kinds', KINDS)
+            self.kind = named(value, 'kind', KINDS)
         elif option == '--default-kind':
-            self.default_kind = named(value, 'default kind', 'kinds', KINDS[:-1])
+            self.default_kind = named(value, 'default kind', KINDS[:-1])
         elif option == '--format':
-            self.format = named(value, 'format', 'formats', FORMATS)
+            self.format = named(value, 'format', FORMATS)
+        elif option == '--columns':
+            self.columns = named(value, 'unit', UNITS)
         else:
-            word = named(value, 'finding', 'findings', (*FINDINGS, 'all'))
+            word = named(value, 'finding', (*FINDINGS, 'all'))
             self.levels.update(dict.fromkeys(FINDINGS if word == 'all' else [word], LEVELS[option]))
 
 
-def named(value, one, several, values):
+def named(value, what, values):
     if value not in values:
-        raise Wrong("unknown %s '%s': the %s are %s" % (one, visible(value), several, ', '.join(values)))
+        raise unknown(what, value, value, values)
     return value
+
+
+def unknown(what, word, name, names):
+    """That a word names nothing, with the nearest of the names, or else with all."""
+    return Wrong("unknown %s '%s': %s" % (what, visible(word), nearest(name, names) or 'the %ss are %s' % (what, ', '.join(names))))
 
 
 def options_of(arguments):
@@ -120,12 +142,12 @@ def options_of(arguments):
             options.denies = True
         elif argument == '--quiet':
             options.is_quiet = True
-        elif option in ('--kind', '--default-kind', '--format', *LEVELS, '--stdin-name'):
+        elif option in ('--kind', '--default-kind', '--format', '--columns', *LEVELS, '--stdin-name'):
             if not equals and not left:
                 raise Wrong("option '%s' needs a value" % option)
             options.set(option, value if equals else left.pop(0))
         elif argument.startswith('-') and argument != '-':
-            raise Wrong("unknown option '%s': the options are %s" % (visible(argument), OPTIONS))
+            raise unknown('option', argument, option, OPTIONS)
         else:
             options.files.append(argument)
     if not options.files:
@@ -167,8 +189,14 @@ class Tally:
             self.add_lines([line_of(name, t, 'error', error_word(error), error.display(), error.spans, words)])
         else:
             message = ': '.join(['error', error.display(), *([] if words is None else [words])])
-            self.add_lines(rendered(name, t, '%s [%s]' % (message, error_word(error)), error.spans, error.spans_kind()))
-            self.add_lines([] if words is None else [note(name, t, words, error.spans[0][0])])
+            self.add_lines(rendered(name, t, '%s [%s]' % (message, error_word(error)), error.spans, error.spans_kind(), options.columns))
+            self.add_lines([] if words is None else [note(name, t, words, error.spans[0][0], options.columns)])
+
+    def add_unread(self, options, name, before, word, says):
+        """Adds a file whose reading stopped after this text."""
+        self.faults += '%s:%d:%d: error: %s [%s]\n' % (visible(name), *placed(before, len(before), options.columns), says, word)
+        if options.format == 'json':
+            self.add_lines([line_of(name, before, 'error', word, says, [(len(before), len(before))])])
 
     def add_finding(self, options, name, t, finding):
         word = re.sub('(?<=.)[A-Z]', lambda capital: '-' + capital.group(), finding.kind).lower()
@@ -179,7 +207,7 @@ class Tally:
             self.add_lines([line_of(name, t, level, word, finding.text, finding.spans)])
         elif level:
             text = '%s: %s [%s]' % (level, finding.text, word)
-            self.add_lines(rendered(name, t, text, finding.spans, finding.spans_kind()))
+            self.add_lines(rendered(name, t, text, finding.spans, finding.spans_kind(), options.columns))
 
     def add_lines(self, lines):
         self.lines += ''.join(line + '\n' for line in lines)
@@ -277,21 +305,22 @@ def result(arguments, fetch, is_printed):
         if t is NO_MEMORY:
             return None
         if isinstance(t, Unreadable):
-            tally.faults += 'cfglint: cannot read %s%s\n' % (visible(name), t.reason)
-        elif not is_utf8(t):
-            tally.faults += 'cfglint: %s is not UTF-8\n' % visible(name)
+            tally.add_unread(options, name, b'', 'unreadable-file', t.says)
+        elif valid_length(t) < len(t):
+            before = t[:valid_length(t)]
+            tally.add_unread(options, name, before, 'invalid-encoding', 'Not UTF-8: found the byte 0x%02X' % t[len(before)])
         else:
             tally.add_text(options, name, t, is_printed)
     summary = '' if options.is_quiet or options.format == 'json' else tally.summary()
     return tally.lines + summary, tally.faults, tally.status(options.denies)
 
 
-def is_utf8(t):
+def valid_length(t):
+    """How many bytes come before the first that is in no character of UTF-8."""
     try:
-        t.decode('utf-8')
-        return True
-    except UnicodeDecodeError:
-        return False
+        return len(t.decode('utf-8').encode('utf-8'))
+    except UnicodeDecodeError as error:
+        return error.start
 
 
 def ending(arguments, fetch, room, why, is_printed):

@@ -25,7 +25,30 @@ def visible(text):
     return ''.join('\\u{%x}' % ord(c) if is_escaped(c) else c for c in text)
 
 
-def shown(name, t, message, span):
+def width(c):
+    """How many columns of a terminal a character takes. Characters that few files have may take others there."""
+    if unicodedata.category(c) in ('Cc', 'Cf', 'Mn', 'Me') and c != '\u00ad':
+        return 0
+    return 2 if unicodedata.east_asian_width(c) in 'WF' else 1
+
+
+def placed(t, offset, columns):
+    """The line of an offset, and its column in this unit."""
+    line, column = position(t, offset)
+    if columns == 'characters':
+        return line, column
+    before = t[t.rfind(b'\n', 0, offset) + 1:offset]
+    if t[offset:offset + 1] == b'\n' and before.endswith(b'\r'):
+        before = before[:-1]
+    if columns == 'bytes':
+        return line, len(before) + 1
+    shown = 0
+    for c in before.decode('utf-8'):
+        shown = shown // 8 * 8 + 8 if c == '\t' else shown + width(c)
+    return line, shown + 1
+
+
+def shown(name, t, message, span, columns):
     """A message at a span, the line in which the span starts, and carets under it."""
     start, end = span
     if start > len(t) or start < len(t) and not begins_character(t[start]):
@@ -40,18 +63,19 @@ def shown(name, t, message, span):
     cut, is_long = '...' if first else '', '...' if last < len(line) else ''
     under = ' ' * len(cut) + ''.join('\t' if c == '\t' else ' ' * len(visible(c)) for c in before[first:])
     carets = len(visible(line[len(before):min(len(before) + covered, last)])) or 1
-    head = '%s:%d:%d: %s' % (visible(name), *position(t, start), visible(message))
+    head = '%s:%d:%d: %s' % (visible(name), *placed(t, start, columns), visible(message))
     return [head, cut + visible(line[first:last]) + is_long, under + '^' * carets]
 
 
-def note(name, t, words, offset):
+def note(name, t, words, offset, columns):
     """The line of a note at an offset of the text."""
     if offset > len(t) or offset < len(t) and not begins_character(t[offset]):
         return '%s: note: %s' % (visible(name), visible(words))
-    return '%s:%d:%d: note: %s' % (visible(name), *position(t, offset), visible(words))
+    return '%s:%d:%d: note: %s' % (visible(name), *placed(t, offset, columns), visible(words))
 
 
-def rendered(name, t, message, spans, spans_kind):
+def rendered(name, t, message, spans, spans_kind, columns='characters'):
     """The lines that show an error, a warning or a finding in a text of this name."""
     also = spans[1:] if spans_kind == 'DuplicationError' else []
-    return shown(name, t, message, spans[0]) + [line for span in also for line in shown(name, t, 'note: also here', span)]
+    return shown(name, t, message, spans[0], columns) + [
+        line for span in also for line in shown(name, t, 'note: also here', span, columns)]

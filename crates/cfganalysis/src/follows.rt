@@ -1,6 +1,6 @@
 //! FOLLOW: the tokens that come right after rules (Aho, Lam, Sethi and Ullman, 4.4.2).
 
-ghost use Rattle.std.specs.Prelude.{◌≡◌, ◌-◌, ◌^◌, ◌<◌, ◌≤◌, ◌↔◌, ℕ, [], ◌∷◌, Contains, length, IfOk, IsTrue};
+ghost use Rattle.std.specs.Prelude.{◌≡◌, ◌-◌, ◌^◌, ◌<◌, ◌≤◌, ◌↔◌, ℕ, [], ◌∷◌, Contains, length, IfOk, IsTrue, MatchBool, ⊤};
 ghost use Rattle.derivation.specs.Grammar.{Grammar, IsGrammar, IsSymbolOf, Rule};
 ghost use Rattle.cfganalysis.specs.Firsts.{AreFirsts};
 ghost use Rattle.cfganalysis.specs.Follows.{AreFollows};
@@ -90,14 +90,19 @@ enum Lookahead<S: Storage> {
 struct GrowingFollows<'a, S: Storage> {
     firsts: &'a YaccFirsts<S>,
     follows: WordTable,
+    /// A rule whose set has all of that of another, so that this one need not be added again. Productions of a rule that
+    /// end with the same rule follow each other.
+    includes: Option<(usize, usize)>,
 }
 
 impl<'a, S: Storage> Model for GrowingFollows<'a, S> {
-    ghost use Rattle.cfganalysis.specs.Inner.GrowingFollows.{FollowSets};
+    ghost use Rattle.cfganalysis.specs.Inner.GrowingFollows.{FollowSets, Includes};
 
     ghost Value = { FollowSets };
 
     ghost view = { λ x. record { firsts = x.firsts.now; follows = x.follows } };
+
+    ghost invariant = { λ x. Includes x.follows x.includes };
 }
 
 impl<'a, S: Storage> GrowingFollows<'a, S> {
@@ -108,6 +113,7 @@ impl<'a, S: Storage> GrowingFollows<'a, S> {
         ensures { Puts (λ r t. (r ≡ S.number before.0) × BeginsList self.old (sym_of S.number symbol ∷ []) t)
             self.old self.new result }
     {
+        self.includes = None;
         match symbol {
             Symbol::Token(token) => self.follows.set(usize::from(before), usize::from(token)),
             Symbol::Rule(rule) => self
@@ -123,8 +129,23 @@ impl<'a, S: Storage> GrowingFollows<'a, S> {
         ensures { Puts (λ r t. (r ≡ S.number before.0) × HasBit self.old.follows (S.number rule.0) t)
             self.old self.new result }
     {
-        self.follows
-            .join_row(usize::from(before), usize::from(rule))
+        let (into, from) = (usize::from(before), usize::from(rule));
+        if self.is_included(into, from) {
+            return false;
+        }
+        self.includes = Some((into, from));
+        self.follows.join_row(into, from)
+    }
+
+    /// Whether it is known that the first rule's set has all of the second's.
+    fn is_included(&self, into: usize, from: usize) -> bool
+        ensures { MatchBool result
+            ((t : ℕ) → HasBit self.now.follows from t → HasBit self.now.follows into t) ⊤ }
+    {
+        match self.includes {
+            Some((has_all, of)) => has_all == into && of == from,
+            None => false,
+        }
     }
 
     /// Adds the next tokens to FOLLOW of `before`, the rule before them. Returns whether the set grew.
@@ -145,7 +166,10 @@ impl<'a, S: Storage> GrowingFollows<'a, S> {
         match lookahead {
             Lookahead::End => self.put_follows(before, rule),
             Lookahead::Symbol(symbol) => self.put_first(before, *symbol),
-            Lookahead::Gathered => self.follows.join(usize::from(before), gathered),
+            Lookahead::Gathered => {
+                self.includes = None;
+                self.follows.join(usize::from(before), gathered)
+            }
         }
     }
 
@@ -295,7 +319,11 @@ impl<'a, S: Storage> FollowAnalysis<'a, S> {
         let mut follows = WordTable::new(alloc, rules, tokens)?;
         let _ = follows.set(0, tokens - 1);
         Ok(FollowAnalysis {
-            sets: GrowingFollows { firsts, follows },
+            sets: GrowingFollows {
+                firsts,
+                follows,
+                includes: None,
+            },
             gathered: Vob::from_elem(alloc, false, tokens)?,
         })
     }

@@ -58,6 +58,10 @@ pub record IsJsonLine (shown : Data) (line : List ℕ) : Type 0 where
   pub reads_back : read line ≡ Some shown
   pub one_line : Contains line 10 → ⊥
 
+-- the line of an error or a warning about the text of a file of this name
+abbrev pub json_line : List ℕ → List ℕ → ShownDiagnostic → List ℕ
+json_line name text shown = compact_text (diagnostic_object name text shown) ++ codes "\n"
+
 -- a text with one more line, of this object
 abbrev pub AddsJsonLine : Data → List ℕ → List ℕ → Type 0
 AddsJsonLine shown old new = (line : List ℕ) × IsJsonLine shown line × (new ≡ old ++ (line ++ codes "\n"))

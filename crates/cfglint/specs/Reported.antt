@@ -6,7 +6,8 @@ use Rattle.cfgrammar.specs.Errors.{GrammarError}
 use Rattle.cfgrammar.specs.Errors as errors
 use Rattle.cfgrammar.specs.ErrorTexts.{error_text}
 use Rattle.cfgrammar.specs.Hints.{hint_text}
-use Rattle.cfgrammar.specs.Render.{note_line, rendered}
+use Rattle.cfgrammar.specs.Render.{note_line, rendered_in}
+use Rattle.cfgrammar.specs.ColumnUnit.{ColumnUnit}
 use Rattle.cfgrammar.specs.Span.{Span}
 use Rattle.cfgrammar.specs.Answer.{Found}
 use Rattle.cfgrammar.specs.Numbered.{Numbered}
@@ -78,17 +79,17 @@ abbrev pub error_offset : GrammarError → ℕ
 error_offset error = option_map_or (λ (span : Span). span.start) (slice_get error.spans 0) 0
 
 -- the line of the note
-abbrev pub hint_line : List ℕ → List ℕ → NotedError → List ℕ
-hint_line name text shown = option_map_or (λ words. note_line name text words (error_offset shown.error)) shown.hint []
+abbrev pub hint_line : ColumnUnit → List ℕ → List ℕ → NotedError → List ℕ
+hint_line unit name text shown = option_map_or (λ words. note_line unit name text words (error_offset shown.error)) shown.hint []
 
--- the lines for errors and for findings, for a text with this name
-abbrev pub error_lines : List ℕ → List ℕ → List NotedError → List ℕ
-error_lines name text all = flat_map (λ (shown : NotedError).
-    rendered name text (error_message shown) shown.error.spans (errors.spanskind_of shown.error.kind) ++ hint_line name text shown) all
+-- the lines for errors and for findings, for a text with this name, with columns in this unit
+abbrev pub error_lines : ColumnUnit → List ℕ → List ℕ → List NotedError → List ℕ
+error_lines unit name text all = flat_map (λ (shown : NotedError).
+    rendered_in unit name text (error_message shown) shown.error.spans (errors.spanskind_of shown.error.kind) ++ hint_line unit name text shown) all
 
-abbrev pub finding_lines : List ℕ → List ℕ → List Reported → List ℕ
-finding_lines name text all =
-    flat_map (λ (reported : Reported). rendered name text (finding_message reported) reported.finding.spans (spanskind_of reported.finding.kind)) all
+abbrev pub finding_lines : ColumnUnit → List ℕ → List ℕ → List Reported → List ℕ
+finding_lines unit name text all = flat_map (λ (reported : Reported).
+    rendered_in unit name text (finding_message reported) reported.finding.spans (spanskind_of reported.finding.kind)) all
 
 -- an error and a finding, as JSON shows them
 abbrev pub shown_error : NotedError → ShownDiagnostic
@@ -114,15 +115,15 @@ abbrev pub InFormat : Format → Type 0 → Type 0 → Type 0
 InFormat Text AsText AsJson = AsText
 InFormat Json AsText AsJson = AsJson
 
--- what is reported, in this format, for a text in a file with this name
-module _ (format : Format) (name text : List ℕ) where
+-- what is reported, in this format and with columns in this unit, for a text in a file with this name
+module _ (format : Format) (unit : ColumnUnit) (name text : List ℕ) where
   -- the lines for errors and for findings in the format
   abbrev pub AreErrorLines : List NotedError → List ℕ → Type 0
-  AreErrorLines all lines = InFormat format (lines ≡ error_lines name text all)
+  AreErrorLines all lines = InFormat format (lines ≡ error_lines unit name text all)
       (AreJsonLines (map (λ error. diagnostic_object name text (shown_error error)) all) lines)
 
   abbrev pub AreFindingLines : List Reported → List ℕ → Type 0
-  AreFindingLines all lines = InFormat format (lines ≡ finding_lines name text all)
+  AreFindingLines all lines = InFormat format (lines ≡ finding_lines unit name text all)
       (AreJsonLines (map (λ finding. diagnostic_object name text (shown_finding finding)) all) lines)
 
   -- that it has these errors, and was read as this syntax unless it names no kind: the errors that are shown, each with its note
@@ -145,4 +146,5 @@ pub record ReportsText (options : LintOptions) (name text : List ℕ) (reported 
   pub found : Found
   pub read_as : IsReadAs options.default_kind text options.kind read_kind
   pub is_found : IsFound read_kind text found
-  pub reports : IsMadeOfRead (ReportsErrors options.format name text) (ReportsFindings options.format name text options.levels) found (reported, reported.kind)
+  pub reports : IsMadeOfRead (ReportsErrors options.format options.columns name text)
+      (ReportsFindings options.format options.columns name text options.levels) found (reported, reported.kind)

@@ -1,22 +1,21 @@
 //! What is reported for a text.
 
-ghost use Rattle.std.specs.Prelude.{◌≡◌, IfOk, IfSome, map, string_bytes};
-ghost use Rattle.cfgrammar.specs.Render.{RendersEach};
-ghost use Rattle.cfgjson.specs.Objects.{AreJsonLines, diagnostic_object};
-ghost use Rattle.cfglint.specs.Reported.{AreErrorLines, InFormat};
+ghost use Rattle.std.specs.Prelude.{IfOk, string_bytes};
+ghost use Rattle.cfglint.specs.Reported.{AreErrorLines, AreFindingLines};
 
 use crate::reported::{
-    ReportedError, error_count, error_lines, reported_errors, reported_findings,
+    ReportedError, ReportedFinding, error_count, error_lines, finding_lines, reported_errors,
+    reported_findings,
 };
 use crate::shown::shown_errors;
 use crate::suggestion::Names;
 use cfgdriver::{TextReader, read_text_or};
 use cfgfindings::findings;
-use cfgjson::{JsonLine, json_lines};
+use cfgjson::json_lines;
 use cfglint_shell::{Format, LintOptions, Linter, Report};
+use cfgrammar::ColumnUnit;
 use cfgrammar::yacc::ast::GrammarAST;
 use cfgrammar::yacc::{YaccGrammar, YaccGrammarError};
-use cfgrammar::{Spanned, render_all};
 use finding_kinds::Levels;
 use std::alloc::{AllocError, Global};
 
@@ -42,6 +41,7 @@ impl Linter for Lints {
             name,
             levels: options.levels,
             format: options.format,
+            columns: options.columns,
         };
         let (report, kind) = read_text_or(
             alloc,
@@ -60,14 +60,15 @@ struct FileReporter<'a> {
     name: &'a str,
     levels: Levels,
     format: Format,
+    columns: ColumnUnit,
 }
 
 impl TextReader<Report> for FileReporter<'_> {
     ghost use Rattle.cfglint.specs.Reported.{ReportsErrors, ReportsFindings};
 
-    ghost of_errors = { λ x. ReportsErrors x.format x.name.now };
+    ghost of_errors = { λ x. ReportsErrors x.format x.columns x.name.now };
 
-    ghost of_grammar = { λ x text. ReportsFindings x.format x.name.now text x.levels };
+    ghost of_grammar = { λ x text. ReportsFindings x.format x.columns x.name.now text x.levels };
 
     fn errors(
         &self,
@@ -79,7 +80,7 @@ impl TextReader<Report> for FileReporter<'_> {
         let shown = shown_errors(alloc, ast, errors)?;
         let names = Names::of(alloc, ast)?;
         let reported = reported_errors(alloc, text, &names, &shown)?;
-        let lines = lines_of_errors(alloc, self.format, self.name, text, &reported)?;
+        let lines = self.error_lines(alloc, text, &reported)?;
         Ok(Report {
             lines,
             kind: None,
@@ -97,7 +98,7 @@ impl TextReader<Report> for FileReporter<'_> {
     ) -> Result<Report, AllocError> {
         let all = findings(alloc, ast, grammar)?;
         let reported = reported_findings(alloc, &all, &self.levels)?;
-        let lines = lines_of(alloc, self.format, self.name, text, &reported)?;
+        let lines = self.finding_lines(alloc, text, &reported)?;
         let errors = error_count(&reported);
         Ok(Report {
             lines,
@@ -108,37 +109,36 @@ impl TextReader<Report> for FileReporter<'_> {
     }
 }
 
-/// The lines for errors in the text of a file of this name, in this format.
-fn lines_of_errors(
-    alloc: Global,
-    format: Format,
-    name: &str,
-    text: &str,
-    errors: &[ReportedError<'_>],
-) -> Result<String, AllocError>
-    ensures { IfOk result (λ lines. AreErrorLines format name.now text.now errors.now (string_bytes lines)) }
-{
-    match format {
-        Format::Text => error_lines(alloc, name, text, errors),
-        Format::Json => json_lines(alloc, name, text, errors),
+impl FileReporter<'_> {
+    /// The lines for errors in the text.
+    fn error_lines(
+        &self,
+        alloc: Global,
+        text: &str,
+        errors: &[ReportedError<'_>],
+    ) -> Result<String, AllocError>
+        ensures { IfOk result (λ lines. AreErrorLines self.now.format self.now.columns self.now.name.now text.now
+            errors.now (string_bytes lines)) }
+    {
+        match self.format {
+            Format::Text => error_lines(alloc, self.columns, self.name, text, errors),
+            Format::Json => json_lines(alloc, self.name, text, errors),
+        }
     }
-}
 
-/// The lines for findings for the text of a file of this name, in this format.
-fn lines_of<E: Spanned + JsonLine>(
-    alloc: Global,
-    format: Format,
-    name: &str,
-    text: &str,
-    all: &[E],
-) -> Result<String, AllocError>
-    ensures { IfOk result (λ lines. InFormat format
-        (RendersEach (λ one message. IfSome (E.output one) (λ printed. message ≡ printed))
-        E.spans E.spanskind name.now text.now all.now (string_bytes lines))
-        (AreJsonLines (map (λ one. diagnostic_object name.now text.now (E.shown one)) all.now) (string_bytes lines))) }
-{
-    match format {
-        Format::Text => render_all(alloc, name, text, all),
-        Format::Json => json_lines(alloc, name, text, all),
+    /// The lines for findings about the text.
+    fn finding_lines(
+        &self,
+        alloc: Global,
+        text: &str,
+        all: &[ReportedFinding<'_>],
+    ) -> Result<String, AllocError>
+        ensures { IfOk result (λ lines. AreFindingLines self.now.format self.now.columns self.now.name.now text.now
+            all.now (string_bytes lines)) }
+    {
+        match self.format {
+            Format::Text => finding_lines(alloc, self.columns, self.name, text, all),
+            Format::Json => json_lines(alloc, self.name, text, all),
+        }
     }
 }

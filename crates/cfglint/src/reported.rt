@@ -3,7 +3,7 @@
 ghost use Rattle.std.specs.Prelude.{◌≡◌, [], ◌∷◌, ◌++◌, IfOk, OnOk, drop, map, string_bytes, take};
 ghost use Rattle.std.specs.List.{count_by};
 ghost use Rattle.std.specs.Option.{option_map};
-ghost use Rattle.cfglint.specs.Reported.{error_lines, error_offset, note_on, noted, noted_errors, reported_by};
+ghost use Rattle.cfglint.specs.Reported.{error_lines, error_offset, finding_lines, note_on, noted, noted_errors, reported_by};
 ghost use Rattle.cfglint.specs.Suggestions.{most_suggestions};
 
 use crate::error_words::error_word;
@@ -11,7 +11,7 @@ use crate::suggestion::{Names, suggestion};
 use cfgfindings::Finding;
 use cfgjson::{Diagnostic, JsonLine, push_line};
 use cfgrammar::yacc::YaccGrammarError;
-use cfgrammar::{Positions, Source, Span, Spanned, SpansKind, hint_for};
+use cfgrammar::{ColumnUnit, Positions, Source, Span, Spanned, SpansKind, hint_for};
 use finding_kinds::{Level, Levels};
 use std::alloc::{AllocError, Global};
 use std::fmt;
@@ -240,13 +240,14 @@ fn hint_of(
 /// The errors as people read them, each with its note after it.
 pub(crate) fn error_lines(
     alloc: Global,
+    unit: ColumnUnit,
     name: &str,
     text: &str,
     errors: &[ReportedError<'_>],
 ) -> Result<String, AllocError>
-    ensures { IfOk result (λ lines. string_bytes lines ≡ error_lines name.now text.now errors.now) }
+    ensures { IfOk result (λ lines. string_bytes lines ≡ error_lines unit name.now text.now errors.now) }
 {
-    let source = Source::new(alloc, name, text)?;
+    let source = Source::with_columns(alloc, name, text, unit)?;
     let mut lines = String::new(alloc);
     for error in errors {
         push_error(alloc, &mut lines, &source, error)?;
@@ -262,7 +263,7 @@ fn push_error(
     error: &ReportedError<'_>,
 ) -> Result<(), AllocError>
     ensures { OnOk result (string_bytes lines.new
-        ≡ string_bytes lines.old ++ error_lines source.now.name.now source.now.text (error.now ∷ [])) }
+        ≡ string_bytes lines.old ++ error_lines source.now.unit source.now.name.now source.now.text (error.now ∷ [])) }
 {
     source.push(alloc, lines, error)?;
     match error.hint() {
@@ -289,6 +290,24 @@ pub(crate) fn reported_findings<'a>(
         reported.push(ReportedFinding { finding, is_error })?;
     }
     Ok(reported)
+}
+
+/// The findings as people read them.
+pub(crate) fn finding_lines(
+    alloc: Global,
+    unit: ColumnUnit,
+    name: &str,
+    text: &str,
+    findings: &[ReportedFinding<'_>],
+) -> Result<String, AllocError>
+    ensures { IfOk result (λ lines. string_bytes lines ≡ finding_lines unit name.now text.now findings.now) }
+{
+    let source = Source::with_columns(alloc, name, text, unit)?;
+    let mut lines = String::new(alloc);
+    for finding in findings {
+        source.push(alloc, &mut lines, finding)?;
+    }
+    Ok(lines)
 }
 
 /// How many of them are errors.

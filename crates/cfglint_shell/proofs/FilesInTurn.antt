@@ -11,10 +11,10 @@ use Rattle.cfglint_shell.specs.Files.{AsksFirst, IsRequested, IsFileOutcome, Lin
 use Rattle.cfglint_shell.specs.Tally.{FileOutcome, Linted, NoText, Tally, Printed, Unread, with_file}
 
 -- a file has at most one text
-pub texts-with_file : (file : List ℕ) (outcome : FileOutcome) (tally : Tally) → (with_file file outcome tally).texts ≤ tally.texts + 1
-texts-with_file file (Unread reason) tally = omega arith
-texts-with_file file NoText tally = omega arith
-texts-with_file file (Linted printed) tally = omega arith
+pub texts-with_file : (options : LintOptions) (file : List ℕ) (outcome : FileOutcome) (tally : Tally) → (with_file options file outcome tally).texts ≤ tally.texts + 1
+texts-with_file options file (Unread reason) tally = omega arith
+texts-with_file options file (NoText bytes) tally = omega arith
+texts-with_file options file (Linted printed) tally = omega arith
 
 -- what holds in either case
 pub on_err : {T E P : Type 0} (r : Result T E) → P → OnErr r P
@@ -56,7 +56,7 @@ module _ {S : Type 0} (Fetches : S → List ℕ → Input → S → Type 0) wher
     -- one more file is linted
     Lints-more : {before between after : S} {tally last : Tally} {files : List (List ℕ)} (file : List ℕ) (answer : Input) (outcome : FileOutcome)
         → Lints Reports options Fetches reason before tally files between last → Fetches between file answer after → IsFileOutcome Reports options (name_of options file) answer (reason after) outcome
-        → Lints Reports options Fetches reason before tally (files ++ file ∷ []) after (with_file (name_of options file) outcome last)
+        → Lints Reports options Fetches reason before tally (files ++ file ∷ []) after (with_file options.lint (name_of options file) outcome last)
     Lints-more file answer outcome Lints.none fetched is = Lints.next outcome fetched is Lints.none
     Lints-more file answer outcome (Lints.next before first was rest) fetched is = Lints.next before first was (Lints-more file answer outcome rest fetched is)
 
@@ -64,7 +64,7 @@ module _ {S : Type 0} (Fetches : S → List ℕ → Input → S → Type 0) wher
     pub linted_up_to : (files : List (Bor (List ℕ))) (i : ℕ) (d : Bor (List ℕ)) → i < length files → (before between after : S) (tally last : Tally) (answer : Input) (outcome : FileOutcome)
         → Lints Reports options Fetches reason before tally (map (λ file. file.now) (take i files)) between last
         → Fetches between (get_or files i d).now answer after → IsFileOutcome Reports options (name_of options (get_or files i d).now) answer (reason after) outcome
-        → Lints Reports options Fetches reason before tally (map (λ file. file.now) (take (i + 1) files)) after (with_file (name_of options (get_or files i d).now) outcome last)
+        → Lints Reports options Fetches reason before tally (map (λ file. file.now) (take (i + 1) files)) after (with_file options.lint (name_of options (get_or files i d).now) outcome last)
     linted_up_to files i d within before between after tally last answer outcome linted fetched is =
-        subst (λ names. Lints Reports options Fetches reason before tally names after (with_file (name_of options (get_or files i d).now) outcome last)) (sym (map_more (λ (file : Bor (List ℕ)). file.now) files i d within))
+        subst (λ names. Lints Reports options Fetches reason before tally names after (with_file options.lint (name_of options (get_or files i d).now) outcome last)) (sym (map_more (λ (file : Bor (List ℕ)). file.now) files i d within))
         (Lints-more (get_or files i d).now answer outcome linted fetched is)

@@ -13,7 +13,7 @@ module _ (Reports : LintOptions → List ℕ → List ℕ → Printed → Type 0
   -- what becomes of the bytes of a file of this name
   abbrev pub IsPrinted : List ℕ → List ℕ → FileOutcome → Type 0
   IsPrinted name bytes (Unread reason) = ⊥
-  IsPrinted name bytes NoText = IsUtf8 bytes → ⊥
+  IsPrinted name bytes (NoText given) = (given ≡ bytes) × (IsUtf8 bytes → ⊥)
   IsPrinted name bytes (Linted printed) = IsUtf8 bytes × Reports options.lint name bytes printed
 
   -- what becomes of a file of this name for which a source returns this, and then gives this reason
@@ -27,7 +27,7 @@ module _ (Reports : LintOptions → List ℕ → List ℕ → Printed → Type 0
     none : {source : S} {tally : Tally} → Lints Fetches reason source tally [] source tally
     next : {source between after : S} {tally last : Tally} {file : List ℕ} {files : List (List ℕ)} {answer : Input} (outcome : FileOutcome)
         → Fetches source file answer between → IsFileOutcome (name_of options file) answer (reason between) outcome
-        → Lints Fetches reason between (with_file (name_of options file) outcome tally) files after last
+        → Lints Fetches reason between (with_file options.lint (name_of options file) outcome tally) files after last
         → Lints Fetches reason source tally (file ∷ files) after last
 
 -- Files are requested of a source one by one.

@@ -1,6 +1,8 @@
--- The words that name formats.
+-- The words that name formats, and units of columns.
 use Rattle.std.specs.Prelude.{ℕ, Bool, true, false, List, Option, Some, None, if◌then◌else◌, codes}
 use Rattle.std.specs.Str.{bytes_eq}
+use Rattle.cfgrammar.specs.ColumnUnit.{ColumnUnit}
+use Rattle.cfgrammar.specs.ColumnUnit.TheVariants.{Bytes, Characters, Display}
 use Rattle.cfglint_shell.specs.declared.format.Format.{Format}
 use Rattle.cfglint_shell.specs.declared.format.Format.TheVariants.{Text, Json}
 
@@ -9,6 +11,14 @@ abbrev pub format_named : List ℕ → Option Format
 format_named word =
     if bytes_eq word (codes "text") then Some Text
     else if bytes_eq word (codes "json") then Some Json
+    else None
+
+-- the unit of columns that a word names
+abbrev pub unit_named : List ℕ → Option ColumnUnit
+unit_named word =
+    if bytes_eq word (codes "bytes") then Some Bytes
+    else if bytes_eq word (codes "characters") then Some Characters
+    else if bytes_eq word (codes "display") then Some Display
     else None
 
 -- whether people read it

@@ -1,9 +1,11 @@
 -- What the program's arguments request, and what it then says about itself.
-use Rattle.std.specs.Prelude.{ℕ, Bool, true, false, not, ◌&&◌, ◌||◌, ◌==◌, nat_lt, List, [], ◌∷◌, ◌++◌, length, Option, Some, None, codes, if◌then◌else◌}
-use Rattle.std.specs.List.{after_first, before_first, count_by, position_or_len}
+use Rattle.std.specs.Prelude.{ℕ, Bool, true, false, not, ◌&&◌, ◌||◌, ◌==◌, nat_lt, List, [], ◌∷◌, ◌++◌, length, map, Option, Some, None, codes, if◌then◌else◌}
+use Rattle.std.specs.List.{after_first, before_first, count_by, flat_map, position_or_len}
 use Rattle.std.specs.Option.{option_map_or}
 use Rattle.std.specs.Str.{bytes_eq}
+use Rattle.cfgrammar.specs.ColumnUnit.TheVariants.{Characters}
 use Rattle.cfgrammar.specs.Visible.{visible}
+use Rattle.cfgnear.specs.Nearest.{nearest}
 use Rattle.cfgprogram.specs.Kinds.{kind_named}
 use Rattle.cfgprogram.specs.YaccKind.{YaccKind}
 use Rattle.cfgprogram.specs.YaccKind.TheVariants.{Original}
@@ -16,10 +18,10 @@ use Rattle.finding_kinds.specs.declared.levels.Level.{Level}
 use Rattle.finding_kinds.specs.declared.levels.Level.TheVariants as level
 use Rattle.cfglint_shell.specs.declared.linter.LintOptions.{LintOptions}
 use Rattle.cfglint_shell.specs.declared.usage.ValueOption.{ValueOption}
-use Rattle.cfglint_shell.specs.declared.usage.ValueOption.TheVariants.{Kind, DefaultKind, Format, Allow, Warn, Deny, StdinName}
+use Rattle.cfglint_shell.specs.declared.usage.ValueOption.TheVariants.{Kind, DefaultKind, Format, Columns, Allow, Warn, Deny, StdinName}
 use Rattle.cfglint_shell.specs.declared.format.Format.TheVariants.{Text}
-use Rattle.cfglint_shell.specs.Formats.{format_named, is_text}
-use Rattle.finding_kinds.specs.FindingKinds.{all_levels, default_levels, finding_named, with_level}
+use Rattle.cfglint_shell.specs.Formats.{format_named, is_text, unit_named}
+use Rattle.finding_kinds.specs.FindingKinds.{all_levels, default_levels, finding_named, kinds, with_level, word_of}
 
 -- that these files are linted, in order; the name under which standard input is reported; whether warnings are denied, and whether the
 -- summary is left out
@@ -33,7 +35,7 @@ pub record Options : Type 0 where
 -- before the first argument
 abbrev pub no_options : Options
 no_options = record {
-  lint = record { kind = None; default_kind = Original NoAction; levels = default_levels; format = Text };
+  lint = record { kind = None; default_kind = Original NoAction; levels = default_levels; format = Text; columns = Characters };
   stdin_name = codes "-";
   denies = false;
   is_quiet = false;
@@ -48,13 +50,14 @@ name_of options file = if bytes_eq file (codes "-") then options.stdin_name else
 abbrev pub has_summary : Options → Bool
 has_summary options = is_text options.lint.format && not options.is_quiet
 
--- what is wrong with arguments: there is no such option; this value of an option names no kind, none that can be the default, no format or no
--- kind of finding; an option's value is missing; no file is given; more than one of the files is standard input
+-- what is wrong with arguments: there is no such option; this value of an option names no kind, none that can be the default, no format, no unit or
+-- no kind of finding; an option's value is missing; no file is given; more than one of the files is standard input
 pub data UsageError : Type 0 where
   UnknownOption : List ℕ → UsageError
   UnknownKind : List ℕ → UsageError
   UnknownDefaultKind : List ℕ → UsageError
   UnknownFormat : List ℕ → UsageError
+  UnknownUnit : List ℕ → UsageError
   UnknownFinding : List ℕ → UsageError
   MissingValue : ValueOption → UsageError
   NoFile : UsageError
@@ -77,6 +80,7 @@ option_named name =
     if bytes_eq name (codes "--kind") then Some Kind
     else if bytes_eq name (codes "--default-kind") then Some DefaultKind
     else if bytes_eq name (codes "--format") then Some Format
+    else if bytes_eq name (codes "--columns") then Some Columns
     else if bytes_eq name (codes "--allow") then Some Allow
     else if bytes_eq name (codes "--warn") then Some Warn
     else if bytes_eq name (codes "--deny") then Some Deny
@@ -87,10 +91,15 @@ abbrev pub option_name : ValueOption → List ℕ
 option_name Kind = codes "--kind"
 option_name DefaultKind = codes "--default-kind"
 option_name Format = codes "--format"
+option_name Columns = codes "--columns"
 option_name Allow = codes "--allow"
 option_name Warn = codes "--warn"
 option_name Deny = codes "--deny"
 option_name StdinName = codes "--stdin-name"
+
+-- the part of an argument before its first `=`, or all of it
+abbrev pub option_part : List ℕ → List ℕ
+option_part argument = before_first (λ byte. byte == 61) argument
 
 -- the kind of a file that names none itself: `section` can't be it
 abbrev pub own_kind : Option KindArg → Option YaccKind
@@ -117,18 +126,21 @@ module _ (options : Options) where
   with_value Format value = option_map_or
       (λ format. Goes Argument (record options { lint = record options.lint { format = format } }))
       (format_named value) (Stops (Wrong (UnknownFormat value)))
+  with_value Columns value = option_map_or
+      (λ unit. Goes Argument (record options { lint = record options.lint { columns = unit } }))
+      (unit_named value) (Stops (Wrong (UnknownUnit value)))
   with_value Allow value = with_finding level.Allow value
   with_value Warn value = with_finding level.Warn value
   with_value Deny value = with_finding level.Deny value
   with_value StdinName value = Goes Argument (record options { stdin_name = value })
 
   -- an option with a value, which follows an `=` or is the next argument
-  abbrev pub with_option : List ℕ → Step
+  unfoldable pub with_option : List ℕ → Step
   with_option argument = option_map_or
       (λ option. if nat_lt (position_or_len (λ byte. byte == 61) argument) (length argument)
       then with_value option (after_first (λ byte. byte == 61) argument)
       else Goes (Value option) options)
-      (option_named (before_first (λ byte. byte == 61) argument)) (Stops (Wrong (UnknownOption argument)))
+      (option_named (option_part argument)) (Stops (Wrong (UnknownOption argument)))
 
   -- a file
   abbrev pub with_file_argument : List ℕ → Options
@@ -195,13 +207,50 @@ files_requested (Lint options) = options.files
 abbrev pub usage : List ℕ
 usage = codes "usage: cfglint [OPTION..] [--] FILE..\n"
 
+-- the words that name options, kinds, default kinds, formats and findings
+abbrev pub option_names : List (List ℕ)
+option_names = codes "--kind" ∷ codes "--default-kind" ∷ codes "--format" ∷ codes "--columns" ∷ codes "--allow" ∷ codes "--warn" ∷ codes "--deny"
+    ∷ codes "--deny-warnings" ∷ codes "--quiet" ∷ codes "--stdin-name" ∷ codes "--help" ∷ codes "--version" ∷ []
+
+abbrev pub default_kind_names : List (List ℕ)
+default_kind_names = codes "original-noaction" ∷ codes "original-useraction" ∷ codes "original-genericparsetree" ∷ codes "grmtools"
+    ∷ codes "eco" ∷ []
+
+abbrev pub kind_names : List (List ℕ)
+kind_names = default_kind_names ++ codes "section" ∷ []
+
+abbrev pub format_names : List (List ℕ)
+format_names = codes "text" ∷ codes "json" ∷ []
+
+abbrev pub unit_names : List (List ℕ)
+unit_names = codes "bytes" ∷ codes "characters" ∷ codes "display" ∷ []
+
+abbrev pub finding_names : List (List ℕ)
+finding_names = map word_of kinds ++ codes "all" ∷ []
+
+-- names with commas between them
+abbrev pub listed_names : List (List ℕ) → List ℕ
+listed_names [] = []
+listed_names (first ∷ rest) = first ++ flat_map (λ name. codes ", " ++ name) rest
+
+-- the question whether the nearest name is meant, or all names if none is near
+abbrev pub choice : List ℕ → List (List ℕ) → Option (List ℕ) → List ℕ
+choice what names (Some near) = codes "did you mean '" ++ (near ++ codes "'?")
+choice what names None = codes "the " ++ (what ++ (codes "s are " ++ listed_names names))
+
+-- the line on a word that is none of these names, where the nearest to `name` may be meant
+abbrev pub unknown_text : List ℕ → List ℕ → List ℕ → List (List ℕ) → List ℕ
+unknown_text what word name names = codes "cfglint: unknown " ++ (what ++ (codes " '" ++ (visible word ++ (codes "': "
+    ++ (choice what names (nearest name names) ++ codes "\n")))))
+
 -- the line that says what is wrong
 abbrev pub usage_error_text : UsageError → List ℕ
-usage_error_text (UnknownOption option) = codes "cfglint: unknown option '" ++ (visible option ++ codes "': the options are --kind, --default-kind, --format, --allow, --warn, --deny, --deny-warnings, --quiet, --stdin-name, -h, --help, --version, --\n")
-usage_error_text (UnknownKind kind) = codes "cfglint: unknown kind '" ++ (visible kind ++ codes "': the kinds are original-noaction, original-useraction, original-genericparsetree, grmtools, eco, section\n")
-usage_error_text (UnknownDefaultKind kind) = codes "cfglint: unknown default kind '" ++ (visible kind ++ codes "': the kinds are original-noaction, original-useraction, original-genericparsetree, grmtools, eco\n")
-usage_error_text (UnknownFormat format) = codes "cfglint: unknown format '" ++ (visible format ++ codes "': the formats are text, json\n")
-usage_error_text (UnknownFinding finding) = codes "cfglint: unknown finding '" ++ (visible finding ++ codes "': the findings are unused-rule, unused-token, shadowed-rule, start-without-sentence, no-sentence, unusable-rule, unusable-production, useless-symbol, cyclic-rule, repeated-production, unused-precedence, repeated-token, overridden-precedence, all\n")
+usage_error_text (UnknownOption option) = unknown_text (codes "option") option (option_part option) option_names
+usage_error_text (UnknownKind kind) = unknown_text (codes "kind") kind kind kind_names
+usage_error_text (UnknownDefaultKind kind) = unknown_text (codes "default kind") kind kind default_kind_names
+usage_error_text (UnknownFormat format) = unknown_text (codes "format") format format format_names
+usage_error_text (UnknownUnit unit) = unknown_text (codes "unit") unit unit unit_names
+usage_error_text (UnknownFinding finding) = unknown_text (codes "finding") finding finding finding_names
 usage_error_text (MissingValue option) = codes "cfglint: option '" ++ (option_name option ++ codes "' needs a value\n")
 usage_error_text NoFile = codes "cfglint: no file is given\n"
 usage_error_text StandardInputTwice = codes "cfglint: standard input is given twice\n"
@@ -210,4 +259,4 @@ abbrev pub version : List ℕ
 version = codes "cfglint 0.15.0\n"
 
 abbrev pub help : List ℕ
-help = codes "cfglint reports errors in Yacc grammar files, and warnings about their grammars.\n\nusage: cfglint [OPTION..] [--] FILE..\n\n  --kind KIND        original-noaction, original-useraction, original-genericparsetree, grmtools, eco or section\n                     (the kind that the file's section names). Without it the section names the kind; a file that\n                     names none is read as the default kind.\n  --default-kind KIND\n                     The default kind, any but section: original-noaction if this option isn't given.\n  --format FORMAT    text, the default, or json: a line with a JSON object for each error and warning, and no summary.\n  --allow FINDING    Findings of this kind aren't reported.\n  --warn FINDING     Findings of this kind are warnings.\n  --deny FINDING     Findings of this kind are errors.\n  --deny-warnings    Warnings end with status 1 too.\n  --quiet            Writes no summary.\n  --stdin-name NAME  Standard input is reported under this name.\n  -h, --help         Writes this.\n  --version          Writes the version.\n  --                 What follows are files.\n  FILE               A path, or - for standard input, which can be given once.\n\nFINDING is unused-rule, unused-token, shadowed-rule, start-without-sentence, no-sentence, unusable-rule,\nunusable-production, useless-symbol, cyclic-rule, repeated-production, unused-precedence, repeated-token,\noverridden-precedence or all, which is each of them. Without these options start-without-sentence is an error; unusable-rule, unusable-production\nand useless-symbol, which only follow from a rule without a sentence, aren't reported; and the others are warnings.\nIf a finding is given to several of these options, the last one wins.\n--kind=KIND is --kind KIND, and so on.\n\nstatus: 0 without errors or denied warnings; 1 with either; 2 if the arguments are wrong, a file can't be read or\nthe output can't be written; 3 if there is no memory left\n"
+help = codes "cfglint reports errors in Yacc grammar files, and warnings about their grammars.\n\nusage: cfglint [OPTION..] [--] FILE..\n\n  --kind KIND        original-noaction, original-useraction, original-genericparsetree, grmtools, eco or section\n                     (the kind that the file's section names). Without it the section names the kind; a file that\n                     names none is read as the default kind.\n  --default-kind KIND\n                     The default kind, any but section: original-noaction if this option isn't given.\n  --format FORMAT    text, the default, or json: a line with a JSON object for each error and warning, and no summary.\n  --columns UNIT     What a column of text counts from 1: bytes, characters, the default, or display: columns of a\n                     terminal, of which wide characters take two, and tabs those up to the next multiple of 8.\n  --allow FINDING    Findings of this kind aren't reported.\n  --warn FINDING     Findings of this kind are warnings.\n  --deny FINDING     Findings of this kind are errors.\n  --deny-warnings    Warnings end with status 1 too.\n  --quiet            Writes no summary.\n  --stdin-name NAME  Standard input is reported under this name.\n  -h, --help         Writes this.\n  --version          Writes the version.\n  --                 What follows are files.\n  FILE               A path, or - for standard input, which can be given once.\n\nFINDING is all, for each kind, or one of these. Without these options those that say so are errors or aren't reported,\nand the others are warnings. If a finding is given to several of these options, the last one wins.\n\n  unused-rule             a rule that can't be reached from the start rule\n  unused-token            a token that can't be reached from it, and that no %prec names\n  shadowed-rule           a rule that is never used, since its name is that of a token\n  start-without-sentence  a start rule from which no sentence can be derived: an error\n  no-sentence             another rule from which no sentence can be derived\n  unusable-rule           a rule without a sentence since others have none: not reported\n  unusable-production     a production with a rule that has no sentence: not reported\n  useless-symbol          a rule or token that only unusable productions reach: not reported\n  cyclic-rule             a rule that derives itself\n  repeated-production     a production with the symbols of an earlier one of its rule\n  unused-precedence       a precedence of a token that no production needs\n  repeated-token          a token that a %token list has a second time\n  overridden-precedence   a %prec that a later one of its production overrides\n\n--kind=KIND is --kind KIND, and so on.\n\nstatus: 0 without errors or denied warnings; 1 with either; 2 if the arguments are wrong, a file can't be read or\nthe output can't be written; 3 if there is no memory left\n"

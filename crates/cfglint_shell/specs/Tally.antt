@@ -1,15 +1,16 @@
 -- What is reported about files, one by one, and the summary at the end.
 use Rattle.std.specs.Prelude.{ℕ, ◌+◌, ◌==◌, ◌||◌, nat_lt, Bool, true, false, ◌&&◌, List, [], ◌∷◌, ◌++◌, codes, if◌then◌else◌, Option, Some, None}
 use Rattle.std.specs.Fmt.{decimal}
-use Rattle.cfgrammar.specs.Visible.{visible}
+use Rattle.std.specs.Str.Lossy.{utf8_valid_len}
 use Rattle.cfgprogram.specs.Kinds.{kind_name}
 use Rattle.cfgprogram.specs.YaccKind.{YaccKind}
 use Rattle.cfgprogram.specs.declared.kinds.KindArg.{KindArg}
 use Rattle.cfgprogram.specs.declared.kinds.KindArg.TheVariants.{Named, Section}
 use Rattle.cfgprogram.specs.declared.source.ReadError.{ReadError}
-use Rattle.cfgprogram.specs.declared.source.ReadError.TheVariants.{NotFound, IsADirectory, PermissionDenied, Other}
 use Rattle.cfglint_shell.specs.declared.kind_counts.KindCounts.{KindCounts}
+use Rattle.cfglint_shell.specs.declared.linter.LintOptions.{LintOptions}
 use Rattle.cfglint_shell.specs.KindCounts.{count_of, kinds, no_kinds, with_kind}
+use Rattle.cfglint_shell.specs.ReadFaults.{ReadFault, fault_line, fault_lines, invalid_encoding, unreadable_file}
 
 -- What is reported about a text: lines as people read them, the kind that the text was read as, if it was read, and how many errors and
 -- warnings are reported.
@@ -19,10 +20,10 @@ pub record Printed : Type 0 where
   pub errors : ℕ
   pub warnings : ℕ
 
--- what became of a file: it could not be read, for this reason, or is not text, or this was reported about it
+-- what became of a file: it could not be read, for this reason, or its bytes are not text, or this was reported about it
 pub data FileOutcome : Type 0 where
   Unread : ReadError → FileOutcome
-  NoText : FileOutcome
+  NoText : List ℕ → FileOutcome
   Linted : Printed → FileOutcome
 
 -- What was reported about files: lines about their texts, and lines about those without text; how many texts there were, and how many were
@@ -39,25 +40,19 @@ pub record Tally : Type 0 where
 abbrev pub no_files : Tally
 no_files = record { lines = []; faults = []; texts = 0; kinds_read = no_kinds; errors = 0; warnings = 0; is_short = false }
 
--- why a file could not be read, if that is known
-abbrev pub reason_text : ReadError → List ℕ
-reason_text NotFound = codes ": it is not there"
-reason_text IsADirectory = codes ": it is a directory"
-reason_text PermissionDenied = codes ": permission denied"
-reason_text Other = []
-
--- the line about a file of this name without text
-abbrev pub unread_line : List ℕ → ReadError → List ℕ
-unread_line name reason = codes "cfglint: cannot read " ++ (visible name ++ (reason_text reason ++ codes "\n"))
-
-abbrev pub no_text_line : List ℕ → List ℕ
-no_text_line name = codes "cfglint: " ++ (visible name ++ codes " is not UTF-8\n")
+-- with one more file, of this name, that can't be read as text
+abbrev pub with_fault : LintOptions → List ℕ → ReadFault → Tally → Tally
+with_fault options name fault t = record t {
+  lines = t.lines ++ fault_lines options.format name fault;
+  faults = t.faults ++ fault_line options.columns name fault;
+  is_short = true;
+}
 
 -- with one more file, of this name
-abbrev pub with_file : List ℕ → FileOutcome → Tally → Tally
-with_file name (Unread reason) t = record t { faults = t.faults ++ unread_line name reason; is_short = true }
-with_file name NoText t = record t { faults = t.faults ++ no_text_line name; is_short = true }
-with_file name (Linted printed) t = record t {
+abbrev pub with_file : LintOptions → List ℕ → FileOutcome → Tally → Tally
+with_file options name (Unread reason) t = with_fault options name (unreadable_file reason) t
+with_file options name (NoText bytes) t = with_fault options name (invalid_encoding bytes (utf8_valid_len bytes)) t
+with_file options name (Linted printed) t = record t {
   lines = t.lines ++ printed.lines;
   texts = t.texts + 1;
   kinds_read = with_kind t.kinds_read printed.kind;

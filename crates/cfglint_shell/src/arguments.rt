@@ -13,9 +13,11 @@ ghost use Rattle.cfglint_shell.specs.Requests as requests;
 
 use crate::format::Format;
 use crate::linter::LintOptions;
+use crate::unit::unit_of_word;
 use crate::usage::{UsageError, ValueOption};
 use cfgprogram::KindArg;
 use cfgprogram::kinds::{YaccKind, YaccOriginalActionKind, kind_of};
+use cfgrammar::ColumnUnit;
 use finding_kinds::{FindingKind, Level, Levels};
 use std::alloc::{AllocError, Global};
 
@@ -108,6 +110,7 @@ impl<'a> Options<'a> {
                 default_kind: YaccKind::Original(YaccOriginalActionKind::NoAction),
                 levels: Levels::new(),
                 format: Format::Text,
+                columns: ColumnUnit::Characters,
             },
             stdin_name: "-",
             denies: false,
@@ -189,6 +192,7 @@ impl<'a> Options<'a> {
     }
 
     /// Takes an option with a value, which follows an `=` or is the next argument.
+    #[tactic(auto, unfolding(crate::specs::Requests::with_option))]
     fn take_option(&mut self, argument: &'a str) -> Step<'a>
         ensures { step_view (options_view self.new) result ≡ with_option (options_view self.old) argument.now }
     {
@@ -213,6 +217,7 @@ impl<'a> Options<'a> {
             ValueOption::Kind => self.take_kind(value),
             ValueOption::DefaultKind => self.take_default_kind(value),
             ValueOption::Format => self.take_format(value),
+            ValueOption::Columns => self.take_columns(value),
             ValueOption::Allow => self.take_level(value, Level::Allow),
             ValueOption::Warn => self.take_level(value, Level::Warn),
             ValueOption::Deny => self.take_level(value, Level::Deny),
@@ -256,6 +261,18 @@ impl<'a> Options<'a> {
             return Step::Stops(Stop::Wrong(UsageError::UnknownFormat(value)));
         };
         self.lint.format = format;
+        Step::Goes(Expected::Argument)
+    }
+
+    /// Takes what columns count.
+    fn take_columns(&mut self, value: &'a str) -> Step<'a>
+        ensures { step_view (options_view self.new) result
+            ≡ with_value (options_view self.old) value_option.Columns value.now }
+    {
+        let Some(unit) = unit_of_word(value) else {
+            return Step::Stops(Stop::Wrong(UsageError::UnknownUnit(value)));
+        };
+        self.lint.columns = unit;
         Step::Goes(Expected::Argument)
     }
 

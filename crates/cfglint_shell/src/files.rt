@@ -9,6 +9,7 @@ ghost use Rattle.cfglint_shell.specs.Tally.{FileOutcome, no_files, with_file};
 
 use crate::arguments::Options;
 use crate::linter::Linter;
+use crate::read_fault::ReadFault;
 use crate::tally::Tally;
 use cfgprogram::source::{Input, SourceWithReasons};
 use std::alloc::{AllocError, Global};
@@ -50,13 +51,16 @@ fn lint_file<'a, L: Linter, S: SourceWithReasons>(
         × S.fetches source.old file.now answer source.new
         × IsFileOutcome L.reports (options_view options.now)
         (name_of (options_view options.now) file.now) answer (S.reason source.new) outcome
-        × (tally.new ≡ with_file (name_of (options_view options.now) file.now) outcome tally.old)) }
+        × (tally.new ≡ with_file options.now.lint (name_of (options_view options.now) file.now) outcome tally.old)) }
     ensures err { OnErr result ((answer : Input) × S.fetches source.old file.now answer source.new) }
 {
     let name = options.name_of(file);
     match source.fetch(file) {
         Input::Bytes(bytes) => lint_bytes(alloc, linter, options, name, &bytes, tally),
-        Input::Unreadable => tally.add_unread(name, source.reason()),
+        Input::Unreadable => {
+            let fault = ReadFault::unreadable(alloc, source.reason())?;
+            tally.add_fault(alloc, &options.lint, name, &fault)
+        }
         Input::OutOfMemory => Err(AllocError),
     }
 }
@@ -73,10 +77,13 @@ fn lint_bytes<L: Linter>(
     requires { tally.old.texts < 2 ^ 64 - 1 }
     ensures { OnOk result ((outcome : FileOutcome)
         × IsPrinted L.reports (options_view options.now) name.now bytes.now outcome
-        × (tally.new ≡ with_file name.now outcome tally.old)) }
+        × (tally.new ≡ with_file options.now.lint name.now outcome tally.old)) }
 {
     match std::str::from_utf8(bytes) {
         Ok(text) => tally.add_report(&linter.lint(alloc, &options.lint, name, text)?),
-        Err(_) => tally.add_no_text(name),
+        Err(error) => {
+            let fault = ReadFault::invalid(alloc, bytes, error.valid_up_to())?;
+            tally.add_fault(alloc, &options.lint, name, &fault)
+        }
     }
 }

@@ -9,9 +9,11 @@ mod kind_counts;
 pub mod laws;
 mod linter;
 mod program;
+mod read_fault;
 mod runtime;
 mod summary;
 mod tally;
+mod unit;
 mod usage;
 
 pub use format::Format;

@@ -5,6 +5,7 @@ ghost use Rattle.std.specs.Prelude.{IfOk};
 use crate::format::Format;
 use cfgprogram::KindArg;
 use cfgprogram::kinds::YaccKind;
+use cfgrammar::ColumnUnit;
 use finding_kinds::Levels;
 use std::alloc::{AllocError, Global};
 use std::marker::Model;
@@ -20,6 +21,8 @@ pub struct LintOptions {
     pub levels: Levels,
     /// How what is reported is written.
     pub format: Format,
+    /// What the columns of the format `text` count.
+    pub columns: ColumnUnit,
 }
 
 /// What is reported about a text.

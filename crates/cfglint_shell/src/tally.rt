@@ -1,13 +1,12 @@
 //! What is reported about files, one by one.
 
-ghost use Rattle.std.specs.Prelude.{◌≡◌, ◌++◌, ◌-◌, ◌^◌, ◌<◌, ℕ, List, OnOk, string_bytes};
-ghost use Rattle.cfglint_shell.specs.Tally.{Linted, NoText, Unread, fails, no_files};
-ghost use Rattle.cfglint_shell.specs.Tally.{reason_text, status_of, unread_line, with_file};
+ghost use Rattle.std.specs.Prelude.{◌≡◌, ◌-◌, ◌^◌, ◌<◌, ℕ, List, OnOk};
+ghost use Rattle.cfglint_shell.specs.declared.linter.LintOptions as declared;
+ghost use Rattle.cfglint_shell.specs.Tally.{Linted, fails, no_files, status_of, with_fault, with_file};
 
 use crate::kind_counts::KindCounts;
-use crate::linter::Report;
-use cfgprogram::ReadError;
-use cfgrammar::Visible;
+use crate::linter::{LintOptions, Report};
+use crate::read_fault::ReadFault;
 use std::alloc::{AllocError, Global};
 use std::marker::Model;
 
@@ -64,7 +63,8 @@ impl Tally {
     /// Adds a file with what is reported about its text.
     pub(crate) fn add_report(&mut self, report: &Report) -> Result<(), AllocError>
         requires { self.old.texts < 2 ^ 64 - 1 }
-        ensures { OnOk result ((name : List ℕ) → self.new ≡ with_file name (Linted report.now) self.old) }
+        ensures { OnOk result ((options : declared.LintOptions) (name : List ℕ)
+            → self.new ≡ with_file options name (Linted report.now) self.old) }
     {
         self.lines.push_str(&report.lines)?;
         self.texts += 1;
@@ -74,20 +74,20 @@ impl Tally {
         Ok(())
     }
 
-    /// Adds a file of this name that could not be read.
-    pub(crate) fn add_unread(&mut self, name: &str, reason: ReadError) -> Result<(), AllocError>
-        ensures { OnOk result (self.new ≡ with_file name.now (Unread reason) self.old) }
+    /// Adds a file of this name that can't be read as text.
+    pub(crate) fn add_fault(
+        &mut self,
+        alloc: Global,
+        options: &LintOptions,
+        name: &str,
+        fault: &ReadFault<'_>,
+    ) -> Result<(), AllocError>
+        ensures { OnOk result (self.new ≡ with_fault options.now name.now fault.now self.old) }
     {
+        fault.push_reported(alloc, &mut self.lines, options.format, name)?;
+        fault.push_line(alloc, &mut self.faults, options.columns, name)?;
         self.is_short = true;
-        write_unread(&mut self.faults, name, reason)
-    }
-
-    /// Adds a file of this name that is not text.
-    pub(crate) fn add_no_text(&mut self, name: &str) -> Result<(), AllocError>
-        ensures { OnOk result (self.new ≡ with_file name.now NoText self.old) }
-    {
-        self.is_short = true;
-        writeln!(self.faults, "cfglint: {} is not UTF-8", Visible(name))
+        Ok(())
     }
 
     /// The status that the program ends with, with warnings denied or not.
@@ -106,26 +106,5 @@ impl Tally {
         ensures { result ≡ fails denies self.now }
     {
         self.errors > 0 || (denies && self.warnings > 0)
-    }
-}
-
-/// Writes the line about a file of this name that could not be read.
-fn write_unread(faults: &mut String, name: &str, reason: ReadError) -> Result<(), AllocError>
-    ensures { OnOk result (string_bytes faults.new ≡ string_bytes faults.old ++ unread_line name.now reason) }
-{
-    let name = Visible(name);
-    let reason = reason_text(reason);
-    writeln!(faults, "cfglint: cannot read {name}{reason}")
-}
-
-/// Why a file could not be read, if that is known.
-fn reason_text(reason: ReadError) -> &'static str
-    ensures { result.now ≡ reason_text reason }
-{
-    match reason {
-        ReadError::NotFound => ": it is not there",
-        ReadError::IsADirectory => ": it is a directory",
-        ReadError::PermissionDenied => ": permission denied",
-        ReadError::Other => "",
     }
 }

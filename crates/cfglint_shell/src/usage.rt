@@ -1,9 +1,13 @@
 //! How the program is used, and what is wrong with arguments.
 
-ghost use Rattle.std.specs.Prelude.{◌≡◌, ◌++◌, IfOk, string_bytes};
+ghost use Rattle.std.specs.Prelude.{◌≡◌, ◌++◌, IfOk, OnOk, codes, map, string_bytes};
+ghost use Rattle.std.specs.List.{flat_map};
+ghost use Rattle.cfgnear.specs.Nearest.{nearest};
 ghost use Rattle.cfglint_shell.specs.Inner.{usage_error_view};
-ghost use Rattle.cfglint_shell.specs.Requests.{option_name, option_named, usage, usage_error_text};
+ghost use Rattle.cfglint_shell.specs.Requests.{choice, listed_names, option_name, option_named, option_part, unknown_text};
+ghost use Rattle.cfglint_shell.specs.Requests.{usage, usage_error_text};
 
+use cfgnear::nearest;
 use cfgrammar::Visible;
 use std::alloc::{AllocError, Global};
 
@@ -29,6 +33,8 @@ usage: cfglint [OPTION..] [--] FILE..
   --default-kind KIND
                      The default kind, any but section: original-noaction if this option isn't given.
   --format FORMAT    text, the default, or json: a line with a JSON object for each error and warning, and no summary.
+  --columns UNIT     What a column of text counts from 1: bytes, characters, the default, or display: columns of a
+                     terminal, of which wide characters take two, and tabs those up to the next multiple of 8.
   --allow FINDING    Findings of this kind aren't reported.
   --warn FINDING     Findings of this kind are warnings.
   --deny FINDING     Findings of this kind are errors.
@@ -40,11 +46,23 @@ usage: cfglint [OPTION..] [--] FILE..
   --                 What follows are files.
   FILE               A path, or - for standard input, which can be given once.
 
-FINDING is unused-rule, unused-token, shadowed-rule, start-without-sentence, no-sentence, unusable-rule,
-unusable-production, useless-symbol, cyclic-rule, repeated-production, unused-precedence, repeated-token,
-overridden-precedence or all, which is each of them. Without these options start-without-sentence is an error; unusable-rule, unusable-production
-and useless-symbol, which only follow from a rule without a sentence, aren't reported; and the others are warnings.
-If a finding is given to several of these options, the last one wins.
+FINDING is all, for each kind, or one of these. Without these options those that say so are errors or aren't reported,
+and the others are warnings. If a finding is given to several of these options, the last one wins.
+
+  unused-rule             a rule that can't be reached from the start rule
+  unused-token            a token that can't be reached from it, and that no %prec names
+  shadowed-rule           a rule that is never used, since its name is that of a token
+  start-without-sentence  a start rule from which no sentence can be derived: an error
+  no-sentence             another rule from which no sentence can be derived
+  unusable-rule           a rule without a sentence since others have none: not reported
+  unusable-production     a production with a rule that has no sentence: not reported
+  useless-symbol          a rule or token that only unusable productions reach: not reported
+  cyclic-rule             a rule that derives itself
+  repeated-production     a production with the symbols of an earlier one of its rule
+  unused-precedence       a precedence of a token that no production needs
+  repeated-token          a token that a %token list has a second time
+  overridden-precedence   a %prec that a later one of its production overrides
+
 --kind=KIND is --kind KIND, and so on.
 
 status: 0 without errors or denied warnings; 1 with either; 2 if the arguments are wrong, a file can't be read or
@@ -57,6 +75,7 @@ pub(crate) enum ValueOption {
     Kind,
     DefaultKind,
     Format,
+    Columns,
     Allow,
     Warn,
     Deny,
@@ -72,6 +91,7 @@ impl ValueOption {
             "--kind" => ValueOption::Kind,
             "--default-kind" => ValueOption::DefaultKind,
             "--format" => ValueOption::Format,
+            "--columns" => ValueOption::Columns,
             "--allow" => ValueOption::Allow,
             "--warn" => ValueOption::Warn,
             "--deny" => ValueOption::Deny,
@@ -89,6 +109,7 @@ impl ValueOption {
             ValueOption::Kind => "--kind",
             ValueOption::DefaultKind => "--default-kind",
             ValueOption::Format => "--format",
+            ValueOption::Columns => "--columns",
             ValueOption::Allow => "--allow",
             ValueOption::Warn => "--warn",
             ValueOption::Deny => "--deny",
@@ -108,6 +129,8 @@ pub(crate) enum UsageError<'a> {
     UnknownDefaultKind(&'a str),
     /// This value of `--format` names no format.
     UnknownFormat(&'a str),
+    /// This value of `--columns` names no unit.
+    UnknownUnit(&'a str),
     /// This value of `--allow`, `--warn` or `--deny` names no kind of finding.
     UnknownFinding(&'a str),
     /// No value follows the option.
@@ -125,32 +148,18 @@ impl UsageError<'_> {
     {
         match *self {
             UsageError::UnknownOption(option) => {
-                let option = Visible(option);
-                format!(in alloc;
-                    "cfglint: unknown option '{option}': the options are {OPTIONS}\n{USAGE}"
-                )
+                unknown(alloc, "option", option, option_part(option), &OPTIONS)
             }
-            UsageError::UnknownKind(kind) => {
-                let kind = Visible(kind);
-                format!(in alloc; "cfglint: unknown kind '{kind}': the kinds are {KINDS}\n{USAGE}")
-            }
+            UsageError::UnknownKind(kind) => unknown(alloc, "kind", kind, kind, &KINDS),
             UsageError::UnknownDefaultKind(kind) => {
-                let kind = Visible(kind);
-                format!(in alloc;
-                    "cfglint: unknown default kind '{kind}': the kinds are {DEFAULT_KINDS}\n{USAGE}"
-                )
+                unknown(alloc, "default kind", kind, kind, &DEFAULT_KINDS)
             }
             UsageError::UnknownFormat(format) => {
-                let format = Visible(format);
-                format!(in alloc;
-                    "cfglint: unknown format '{format}': the formats are text, json\n{USAGE}"
-                )
+                unknown(alloc, "format", format, format, &FORMATS)
             }
+            UsageError::UnknownUnit(unit) => unknown(alloc, "unit", unit, unit, &UNITS),
             UsageError::UnknownFinding(finding) => {
-                let finding = Visible(finding);
-                format!(in alloc;
-                    "cfglint: unknown finding '{finding}': the findings are {FINDINGS}\n{USAGE}"
-                )
+                unknown(alloc, "finding", finding, finding, &FINDINGS)
             }
             UsageError::MissingValue(option) => {
                 let name = option.name();
@@ -164,20 +173,133 @@ impl UsageError<'_> {
     }
 }
 
+/// The part of an argument before its first `=`, or all of it.
+pub(crate) fn option_part(argument: &str) -> &str
+    ensures { result.now ≡ option_part argument.now }
+{
+    match argument.split_once('=') {
+        Some((name, _)) => name,
+        None => argument,
+    }
+}
+
+/// The line on a word that is none of these names, and the usage: the nearest name to `name`, or else all of them.
+fn unknown(
+    alloc: Global,
+    what: &str,
+    word: &str,
+    name: &str,
+    names: &[&str],
+) -> Result<String, AllocError>
+    ensures { IfOk result (λ text. string_bytes text
+        ≡ unknown_text what.now word.now name.now (map (λ name. name.now) names.now) ++ usage) }
+{
+    let word = Visible(word);
+    let mut text = format!(in alloc; "cfglint: unknown {what} '{word}': ")?;
+    push_choice(alloc, &mut text, what, name, names)?;
+    write!(text, "\n{USAGE}")?;
+    Ok(text)
+}
+
+/// Writes the question whether the nearest of the names is meant, or all of them if none is near.
+fn push_choice(
+    alloc: Global,
+    text: &mut String,
+    what: &str,
+    name: &str,
+    names: &[&str],
+) -> Result<(), AllocError>
+    ensures { OnOk result (string_bytes text.new ≡ string_bytes text.old
+        ++ choice what.now (map (λ name. name.now) names.now)
+        (nearest name.now (map (λ name. name.now) names.now))) }
+{
+    match nearest(alloc, name, names)? {
+        Some(near) => write!(text, "did you mean '{near}'?"),
+        None => {
+            write!(text, "the {what}s are ")?;
+            push_listed(text, names)
+        }
+    }
+}
+
+/// Writes names with commas between them.
+fn push_listed(text: &mut String, names: &[&str]) -> Result<(), AllocError>
+    ensures { OnOk result (string_bytes text.new
+        ≡ string_bytes text.old ++ listed_names (map (λ name. name.now) names.now)) }
+{
+    let [first, rest @ ..] = names else {
+        return Ok(());
+    };
+    text.push_str(first)?;
+    push_rest(text, rest)
+}
+
+/// Writes names, each after a comma.
+fn push_rest(text: &mut String, names: &[&str]) -> Result<(), AllocError>
+    ensures { OnOk result (string_bytes text.new
+        ≡ string_bytes text.old ++ flat_map (λ name. codes ", " ++ name) (map (λ name. name.now) names.now)) }
+{
+    for name in names {
+        write!(text, ", {name}")?;
+    }
+    Ok(())
+}
+
 /// The options.
-const OPTIONS: &str =
-    "--kind, --default-kind, --format, --allow, --warn, --deny, --deny-warnings, --quiet, --stdin-name, -h, --help, --version, --";
+const OPTIONS: [&str; 12] = [
+    "--kind",
+    "--default-kind",
+    "--format",
+    "--columns",
+    "--allow",
+    "--warn",
+    "--deny",
+    "--deny-warnings",
+    "--quiet",
+    "--stdin-name",
+    "--help",
+    "--version",
+];
 
 /// The values of `--kind`.
-const KINDS: &str =
-    "original-noaction, original-useraction, original-genericparsetree, grmtools, eco, section";
+const KINDS: [&str; 6] = [
+    "original-noaction",
+    "original-useraction",
+    "original-genericparsetree",
+    "grmtools",
+    "eco",
+    "section",
+];
 
 /// The values of `--default-kind`.
-const DEFAULT_KINDS: &str =
-    "original-noaction, original-useraction, original-genericparsetree, grmtools, eco";
+const DEFAULT_KINDS: [&str; 5] = [
+    "original-noaction",
+    "original-useraction",
+    "original-genericparsetree",
+    "grmtools",
+    "eco",
+];
+
+/// The values of `--format`.
+const FORMATS: [&str; 2] = ["text", "json"];
+
+/// The values of `--columns`.
+const UNITS: [&str; 3] = ["bytes", "characters", "display"];
 
 /// The values of `--allow`, `--warn` and `--deny`.
-const FINDINGS: &str =
-    "unused-rule, unused-token, shadowed-rule, start-without-sentence, no-sentence, unusable-rule, \
-    unusable-production, useless-symbol, cyclic-rule, repeated-production, unused-precedence, \
-    repeated-token, overridden-precedence, all";
+const FINDINGS: [&str; 14] = [
+    "unused-rule",
+    "unused-token",
+    "shadowed-rule",
+    "start-without-sentence",
+    "no-sentence",
+    "unusable-rule",
+    "unusable-production",
+    "useless-symbol",
+    "cyclic-rule",
+    "repeated-production",
+    "unused-precedence",
+    "repeated-token",
+    "overridden-precedence",
+    "all",
+];

@@ -1,3 +1,5 @@
+-- What the laws of this crate rest on.
+pub mod SentenceLaws
 -- Lemmas about lists and about the results of calls, for users' proofs.
 pub use Rattle.lemmas.proofs.Contained
 pub use Rattle.lemmas.proofs.Elements

@@ -146,6 +146,7 @@ pub use Rattle.cfgindex.specs.declared.idxnewtype.SIdx
 pub use Rattle.cfgindex.specs.declared.idxnewtype.TIdx
 pub use Rattle.cfgindex.specs.declared.idxnewtype.Symbol
 pub use Rattle.cfglines.specs.declared.newlinecache.FeedError
+pub use Rattle.cfgrender.specs.declared.column_unit.ColumnUnit
 pub use Rattle.cfgrender.specs.declared.source.Source
 pub use Rattle.cfgrender.specs.declared.visible.Visible as VisibleText
 pub use Rattle.cfgmarks.specs.declared.markmap.behavior.MergeBehavior

@@ -1,28 +1,47 @@
 //! Laws: functions that do nothing, whose contracts are theorems about the definitions. A caller has a theorem wherever
 //! it calls its law.
 
-// What grammars derive, and what that costs.
-pub use cfgcosts::laws::{
-    certificates_show_least, first_sentences_make_the_first, minimal_sentences_follow_chains,
-    no_minimal_sentence_begins_another, sentences_cost_their_length,
+mod sentences;
+
+// Derivations
+pub use derivation::{
+    concatenations_derive_in_parts, derivations_hold_inside, paths_are_derivations,
+    trees_are_derivations, usable_productions_hold_sentences,
 };
+pub use sentences::{derivations_are_transitive, nullable_rules_have_the_empty_sentence};
+
+// FIRST and FOLLOW
+pub use derivation::{
+    closed_sets_hold_before_derivations, closed_sets_hold_first, closed_sets_hold_follow,
+    first_is_closed, follow_is_closed, lists_begin_symbol_by_symbol,
+};
+pub use sentences::first_tokens_begin_sentences;
+
+// Cycles
 pub use cfgcycles::laws::{
     cycles_are_derivations, cyclic_rules_are_in_one_group, unit_steps_are_derivations,
 };
+pub use derivation::{derivations_show_cycles, unit_paths_are_derivations};
+
+// Costs
+pub use cfgcosts::laws::{certificates_show_least, sentences_cost_their_length};
 pub use cfggreatest::laws::{
     bounded_rules_have_a_greatest_cost, sets_that_grow_are_unbounded,
     unbounded_rules_reach_growing_cycles,
 };
 pub use derivation::{
-    a_greatest_cost_bounds, closed_sets_hold_before_derivations, closed_sets_hold_first,
-    closed_sets_hold_follow, concatenations_derive_in_parts, costliest_sentences_cost_the_greatest,
-    derivations_hold_inside, derivations_show_cycles, first_is_closed, follow_is_closed,
-    growing_cycles_are_unbounded, lists_begin_symbol_by_symbol, minimal_sentences_cost_the_least,
-    paths_are_derivations, trees_are_derivations, unit_paths_are_derivations,
-    usable_productions_hold_sentences,
+    a_greatest_cost_bounds, costliest_sentences_cost_the_greatest, growing_cycles_are_unbounded,
 };
+pub use sentences::{least_costs_are_shortest_lengths, nullable_rules_cost_nothing};
 
-// What texts say.
+// Minimal sentences
+pub use cfgcosts::laws::{
+    first_sentences_make_the_first, minimal_sentences_follow_chains,
+    no_minimal_sentence_begins_another,
+};
+pub use derivation::minimal_sentences_cost_the_least;
+
+// What texts say
 pub use cfgast::writing::{syntax_is_well_formed, written_is_tree};
 pub use cfgitems::built_is_syntax;
 pub use cfgkinds::laws::{kinds_come_back, refusals_have_offsets};
@@ -38,7 +57,10 @@ pub use cfgwords::laws::{
 };
 pub use cfgyacc::laws::texts_are_read_as_the_kind_they_name;
 
-// What `==`, order, hash and `clone` of types compare and copy.
+// Lists
+pub use sentences::lists_contain_their_elements;
+
+// What `==`, order, `hash` and `clone` of types compare and copy
 pub use cfgbase::laws::{
     locations_are_what_they_show, spans_are_their_ends, spans_kinds_are_distinct,
 };

@@ -25,4 +25,4 @@ pub use cfghints::{Hint, hint_for};
 pub use cfgindex::{PIdx, RIdx, SIdx, Storage, Symbol, TIdx, Vob, idxnewtype, storage};
 pub use cfglines::{FeedError, NewlineCache, Positions, newlinecache};
 pub use cfgmarks::markmap;
-pub use cfgrender::{Source, Visible, render, render_all};
+pub use cfgrender::{ColumnUnit, Source, Visible, render, render_all};

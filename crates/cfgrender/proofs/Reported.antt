@@ -5,8 +5,9 @@ use Rattle.std.proofs.lemmas.List.{get_or_past}
 use Rattle.std.specs.Fmt.{decimal}
 use Rattle.std.specs.Str.{IsCharBoundary}
 use Rattle.cfgbase.specs.declared.span.Span.{Span}
-use Rattle.cfglines.specs.Lines.{column, line_number}
-use Rattle.cfgrender.specs.Render.{excerpt, heading, is_offset, message_line, reported}
+use Rattle.cfglines.specs.Lines.{line_number}
+use Rattle.cfgrender.specs.declared.column_unit.ColumnUnit.{ColumnUnit}
+use Rattle.cfgrender.specs.Render.{column_in, excerpt, heading, is_offset, message_line, reported}
 use Rattle.cfgrender.specs.Visible.{visible}
 
 pub is_offset_true : (text : List ℕ) (b : ℕ) → IsCharBoundary text b → is_offset text b ≡ true
@@ -32,21 +33,21 @@ pub is_offset_false : (text : List ℕ) (b : ℕ) → (IsCharBoundary text b →
 is_offset_false text b none =
     ⊎_elim (λ h. absurd (none (is_offset_only text b h))) (λ h. h) (cases_Bool (is_offset text b))
 
-pub heading_of_offset : (name text : List ℕ) (b : ℕ) → IsCharBoundary text b → heading name text b
-    ≡ visible name ++ (codes ":" ++ (decimal (line_number text b) ++ (codes ":" ++ (decimal (column text b) ++ codes ": "))))
+pub heading_of_offset : (unit : ColumnUnit) (name text : List ℕ) (b : ℕ) → IsCharBoundary text b → heading unit name text b
+    ≡ visible name ++ (codes ":" ++ (decimal (line_number text b) ++ (codes ":" ++ (decimal (column_in unit text b) ++ codes ": "))))
 unfolding heading
-heading_of_offset name text b boundary = rw (is_offset_true text b boundary) refl
+heading_of_offset unit name text b boundary = rw (is_offset_true text b boundary) refl
 
-pub heading_of_none : (name text : List ℕ) (b : ℕ) → (IsCharBoundary text b → ⊥) → heading name text b ≡ visible name ++ codes ": "
+pub heading_of_none : (unit : ColumnUnit) (name text : List ℕ) (b : ℕ) → (IsCharBoundary text b → ⊥) → heading unit name text b ≡ visible name ++ codes ": "
 unfolding heading
-heading_of_none name text b none = rw (is_offset_false text b none) refl
+heading_of_none unit name text b none = rw (is_offset_false text b none) refl
 
-pub reported_of_offset : (name text words : List ℕ) (span : Span) → IsCharBoundary text span.start
-    → reported name text words span ≡ heading name text span.start ++ (message_line words ++ excerpt text span)
+pub reported_of_offset : (unit : ColumnUnit) (name text words : List ℕ) (span : Span) → IsCharBoundary text span.start
+    → reported unit name text words span ≡ heading unit name text span.start ++ (message_line words ++ excerpt text span)
 unfolding reported
-reported_of_offset name text words span boundary = rw (is_offset_true text span.start boundary) refl
+reported_of_offset unit name text words span boundary = rw (is_offset_true text span.start boundary) refl
 
-pub reported_of_none : (name text words : List ℕ) (span : Span) → (IsCharBoundary text span.start → ⊥)
-    → reported name text words span ≡ heading name text span.start ++ (message_line words ++ [])
+pub reported_of_none : (unit : ColumnUnit) (name text words : List ℕ) (span : Span) → (IsCharBoundary text span.start → ⊥)
+    → reported unit name text words span ≡ heading unit name text span.start ++ (message_line words ++ [])
 unfolding reported
-reported_of_none name text words span none = rw (is_offset_false text span.start none) refl
+reported_of_none unit name text words span none = rw (is_offset_false text span.start none) refl

@@ -1,5 +1,5 @@
 -- What is printed of an error: where it is and what it says, the line of the text, and carets under the span.
-use Rattle.std.specs.Prelude.{ℕ, ◌+◌, ◌-◌, Bool, ◌&&◌, ◌==◌, nat_le, nat_lt, if◌then◌else◌, List, [], ◌∷◌, ◌++◌, length, take, drop, slice_index, min, codes}
+use Rattle.std.specs.Prelude.{ℕ, ◌+◌, ◌-◌, ◌*◌, ◌/◌, Bool, false, ◌&&◌, ◌==◌, nat_le, nat_lt, if◌then◌else◌, List, [], ◌∷◌, ◌++◌, fold, length, take, drop, slice_index, min, codes, unwrap_or}
 use Rattle.std.specs.List.{count_by, flat_map, position_or_len, repeat, slice_range}
 use Rattle.std.specs.Fmt.{decimal, take_chars}
 use Rattle.std.specs.Str.{chars}
@@ -9,6 +9,9 @@ use Rattle.cfgbase.specs.declared.span.SpansKind.TheVariants.{DuplicationError, 
 use Rattle.cfglines.specs.Characters.{begins_character}
 use Rattle.cfglines.specs.Lines.{ends_crlf, line_number, line_start, line_end, column}
 use Rattle.cfgrender.specs.Visible.{shown_as, visible}
+use Rattle.cfgrender.specs.declared.column_unit.ColumnUnit.{ColumnUnit}
+use Rattle.cfgrender.specs.declared.column_unit.ColumnUnit.TheVariants.{Bytes, Characters, Display}
+use Rattle.unicode_width.specs.Width.{char_width}
 
 -- whether b is a character boundary of the text: a character begins there, or the text ends
 abbrev pub is_offset : List ℕ → ℕ → Bool
@@ -100,10 +103,29 @@ marked_line line start end = shown_line line (window_start line start) (window_e
 abbrev pub excerpt : List ℕ → Span → List ℕ
 excerpt text span = marked_line (line_at text span.start) (offset_in_line text span.start) (span.end - line_start text span.start)
 
--- what precedes a message: the text's name, and the line and the column of an offset that is a character boundary of the text
-unfoldable pub heading : List ℕ → List ℕ → ℕ → List ℕ
-heading name text b = if is_offset text b
-    then visible name ++ (codes ":" ++ (decimal (line_number text b) ++ (codes ":" ++ (decimal (column text b) ++ codes ": "))))
+-- the part of b's line before b, without the CR of a line end
+abbrev pub line_before : List ℕ → ℕ → List ℕ
+line_before text b = slice_range text (line_start text b) (min b (line_stop text b))
+
+-- the column of a terminal after a character, where so many are before it: a tab ends at the next multiple of 8
+abbrev pub after_character : ℕ → ℕ → ℕ
+after_character width c = if c == 9 then (width / 8 + 1) * 8 else width + unwrap_or (char_width false c) 0
+
+-- how many columns of a terminal show these characters
+abbrev pub display_width : List ℕ → ℕ
+display_width characters = fold after_character 0 characters
+
+-- the column of b in a unit, from 1
+abbrev pub column_in : ColumnUnit → List ℕ → ℕ → ℕ
+column_in Bytes text b = length (line_before text b) + 1
+column_in Characters text b = column text b
+column_in Display text b = display_width (chars (line_before text b)) + 1
+
+-- What precedes a message: the text's name, and the line and the column, in this unit, of an offset that is a character boundary of the
+-- text.
+unfoldable pub heading : ColumnUnit → List ℕ → List ℕ → ℕ → List ℕ
+heading unit name text b = if is_offset text b
+    then visible name ++ (codes ":" ++ (decimal (line_number text b) ++ (codes ":" ++ (decimal (column_in unit text b) ++ codes ": "))))
     else visible name ++ codes ": "
 
 -- a message as it is shown, and the end of its line
@@ -111,23 +133,28 @@ abbrev pub message_line : List ℕ → List ℕ
 message_line message = visible message ++ codes "\n"
 
 -- this message at a span: where it starts and, if that is a character boundary of the text, the excerpt
-unfoldable pub reported : List ℕ → List ℕ → List ℕ → Span → List ℕ
-reported name text words span = heading name text span.start
+unfoldable pub reported : ColumnUnit → List ℕ → List ℕ → List ℕ → Span → List ℕ
+reported unit name text words span = heading unit name text span.start
     ++ (message_line words ++ (if is_offset text span.start then excerpt text span else []))
 
 -- a note at an offset: where that is and what the note says, without the line of the text
-unfoldable pub note_line : List ℕ → List ℕ → List ℕ → ℕ → List ℕ
-note_line name text words b = heading name text b ++ (codes "note: " ++ message_line words)
+unfoldable pub note_line : ColumnUnit → List ℕ → List ℕ → List ℕ → ℕ → List ℕ
+note_line unit name text words b = heading unit name text b ++ (codes "note: " ++ message_line words)
 
 -- what the spans after the first one add: each is a duplicate's, or nothing is printed for them
-abbrev pub reported_also : SpansKind → List ℕ → List ℕ → List Span → List ℕ
-reported_also DuplicationError name text spans = flat_map (reported name text (codes "note: also here")) spans
-reported_also Error name text spans = []
+abbrev pub reported_also : ColumnUnit → SpansKind → List ℕ → List ℕ → List Span → List ℕ
+reported_also unit DuplicationError name text spans = flat_map (reported unit name text (codes "note: also here")) spans
+reported_also unit Error name text spans = []
 
--- what is printed, in a text of this name, of an error or a warning with this message, these spans, and spans of this kind
+-- What is printed, in a text of this name, of an error or a warning with this message, these spans, and spans of this kind, with columns in
+-- this unit.
+abbrev pub rendered_in : ColumnUnit → List ℕ → List ℕ → List ℕ → List Span → SpansKind → List ℕ
+rendered_in unit name text message [] kind = visible name ++ (codes ": " ++ message_line message)
+rendered_in unit name text message (span ∷ spans) kind = reported unit name text message span ++ reported_also unit kind name text spans
+
+-- the same with columns in characters
 abbrev pub rendered : List ℕ → List ℕ → List ℕ → List Span → SpansKind → List ℕ
-rendered name text message [] kind = visible name ++ (codes ": " ++ message_line message)
-rendered name text message (span ∷ spans) kind = reported name text message span ++ reported_also kind name text spans
+rendered = rendered_in Characters
 
 -- What is printed of several, one after another; `Prints` says what each prints.
 pub data RendersEach {A : Type 0} (Prints : A → List ℕ → Type 0) (spans : A → List Span) (kind : A → SpansKind) (name text : List ℕ)

@@ -30,7 +30,7 @@ pub(crate) fn push_excerpt(
 }
 
 /// Where the line of an offset starts, and where it ends without its line end.
-fn line_bytes(positions: &Positions<'_>, at: usize) -> (usize, usize)
+pub(crate) fn line_bytes(positions: &Positions<'_>, at: usize) -> (usize, usize)
     requires { at ≤ length positions.now }
     ensures value { result ≡ (line_start positions.now at, line_stop positions.now at) }
     ensures ordered { result.0 ≤ result.1 }

@@ -2,8 +2,10 @@
 
 ghost use Rattle.std.specs.Prelude.{◌≡◌, ◌++◌, ℕ, List, codes, string_bytes, IfOk, IfSome, OnOk};
 ghost use Rattle.std.specs.List.{flat_map};
-ghost use Rattle.cfgrender.specs.Render.{heading, message_line, note_line, rendered, reported, reported_also};
+ghost use Rattle.cfgrender.specs.Render.{heading, message_line, note_line, rendered_in, reported, reported_also};
+ghost use Rattle.cfgrender.specs.declared.column_unit.ColumnUnit.TheVariants.{Characters};
 
+use crate::column_unit::ColumnUnit;
 use crate::excerpt::push_excerpt;
 use crate::visible::{Visible, push_visible};
 use cfgbase::{Span, Spanned, SpansKind};
@@ -15,10 +17,11 @@ use std::alloc::{AllocError, Global};
 pub struct Source<'a> {
     name: &'a str,
     text: Positions<'a>,
+    unit: ColumnUnit,
 }
 
 impl<'a> Source<'a> {
-    /// A text of this name.
+    /// A text of this name. Columns count characters.
     ///
     /// # Errors
     ///
@@ -26,9 +29,28 @@ impl<'a> Source<'a> {
     pub fn new(alloc: Global, name: &'a str, text: &'a str) -> Result<Source<'a>, AllocError>
         ensures name { IfOk result (λ source. source.name.now ≡ name.entry.now) }
         ensures text { IfOk result (λ source. source.text ≡ text.entry.now) }
+        ensures unit { IfOk result (λ source. source.unit ≡ Characters) }
+    {
+        Source::with_columns(alloc, name, text, ColumnUnit::Characters)
+    }
+
+    /// A text of this name, with columns in this unit.
+    ///
+    /// # Errors
+    ///
+    /// `AllocError` if an allocation fails.
+    pub fn with_columns(
+        alloc: Global,
+        name: &'a str,
+        text: &'a str,
+        unit: ColumnUnit,
+    ) -> Result<Source<'a>, AllocError>
+        ensures name { IfOk result (λ source. source.name.now ≡ name.entry.now) }
+        ensures text { IfOk result (λ source. source.text ≡ text.entry.now) }
+        ensures unit { IfOk result (λ source. source.unit ≡ unit) }
     {
         let text = Positions::new(alloc, text)?;
-        Ok(Source { name, text })
+        Ok(Source { name, text, unit })
     }
 
     /// Writes an error or a warning as [`render`](crate::render) does.
@@ -44,7 +66,7 @@ impl<'a> Source<'a> {
     ) -> Result<(), AllocError>
         ensures { OnOk result ((message : List ℕ) × IfSome (E.output error.now) (λ printed. message ≡ printed)
             × (string_bytes out.new ≡ string_bytes out.old
-            ++ rendered self.now.name.now self.now.text message (E.spans error.now) (E.spanskind error.now))) }
+            ++ rendered_in self.now.unit self.now.name.now self.now.text message (E.spans error.now) (E.spanskind error.now))) }
     {
         let message = error.to_string(alloc)?;
         self.push_rendered(out, &message, error.spans(), error.spanskind())
@@ -59,7 +81,7 @@ impl<'a> Source<'a> {
     #[tactic(auto, unfolding(crate::specs::Render::note_line))]
     pub fn push_note(&self, out: &mut String, words: &str, offset: usize) -> Result<(), AllocError>
         ensures { OnOk result (string_bytes out.new
-            ≡ string_bytes out.old ++ note_line self.now.name.now self.now.text words.now offset) }
+            ≡ string_bytes out.old ++ note_line self.now.unit self.now.name.now self.now.text words.now offset) }
     {
         self.push_heading(out, offset)?;
         out.push_str("note: ")?;
@@ -75,7 +97,7 @@ impl<'a> Source<'a> {
         kind: SpansKind,
     ) -> Result<(), AllocError>
         ensures { OnOk result (string_bytes out.new ≡ string_bytes out.old
-            ++ rendered self.now.name.now self.now.text message.now spans.now kind) }
+            ++ rendered_in self.now.unit self.now.name.now self.now.text message.now spans.now kind) }
     {
         let [first, others @ ..] = spans else {
             write!(out, "{}: ", Visible(self.name))?;
@@ -93,7 +115,7 @@ impl<'a> Source<'a> {
         spans: &[Span],
     ) -> Result<(), AllocError>
         ensures { OnOk result (string_bytes out.new
-            ≡ string_bytes out.old ++ reported_also kind self.now.name.now self.now.text spans.now) }
+            ≡ string_bytes out.old ++ reported_also self.now.unit kind self.now.name.now self.now.text spans.now) }
     {
         match kind {
             SpansKind::DuplicationError => self.push_each(out, spans),
@@ -105,7 +127,7 @@ impl<'a> Source<'a> {
     fn push_each(&self, out: &mut String, spans: &[Span]) -> Result<(), AllocError>
         ensures { OnOk result (string_bytes out.new
             ≡ string_bytes out.old
-            ++ flat_map (reported self.now.name.now self.now.text (codes "note: also here")) spans.now) }
+            ++ flat_map (reported self.now.unit self.now.name.now self.now.text (codes "note: also here")) spans.now) }
     {
         for span in spans {
             self.push_reported(out, "note: also here", *span)?;
@@ -116,7 +138,7 @@ impl<'a> Source<'a> {
     /// Writes this message at a span, and the excerpt if the span starts at a character boundary.
     fn push_reported(&self, out: &mut String, words: &str, span: Span) -> Result<(), AllocError>
         ensures { OnOk result (string_bytes out.new
-            ≡ string_bytes out.old ++ reported self.now.name.now self.now.text words.now span) }
+            ≡ string_bytes out.old ++ reported self.now.unit self.now.name.now self.now.text words.now span) }
     {
         self.push_heading(out, span.start())?;
         push_line(out, words)?;
@@ -130,10 +152,10 @@ impl<'a> Source<'a> {
     /// Writes the name, and the line and the column of an offset if it is a character boundary.
     fn push_heading(&self, out: &mut String, offset: usize) -> Result<(), AllocError>
         ensures { OnOk result (string_bytes out.new
-            ≡ string_bytes out.old ++ heading self.now.name.now self.now.text offset) }
+            ≡ string_bytes out.old ++ heading self.now.unit self.now.name.now self.now.text offset) }
     {
         let name = Visible(self.name);
-        match self.text.line_and_column(offset) {
+        match self.unit.line_and_column(&self.text, offset) {
             Some((line, column)) => write!(out, "{name}:{line}:{column}: "),
             None => write!(out, "{name}: "),
         }

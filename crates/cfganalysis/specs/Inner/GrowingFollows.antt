@@ -1,6 +1,6 @@
 -- FOLLOW sets while they are computed, with the FIRST sets that they depend on. A production gives each rule in it the tokens that the
 -- rest of the production begins with and, if the rest is nullable, those that follow the production's rule.
-use Rattle.std.specs.Prelude.{◌≡◌, ◌↔◌, ◌⊎◌, ⊤, ◌<◌, ◌≤◌, ℕ, ◌+◌, Bool, false, List, [], ◌∷◌, length, IsTrue, slice_index_or}
+use Rattle.std.specs.Prelude.{◌≡◌, ◌↔◌, ◌⊎◌, ⊤, ◌<◌, ◌≤◌, ℕ, ◌+◌, Bool, false, List, [], ◌∷◌, length, IsTrue, slice_index_or, Option, None, Some}
 use Rattle.derivation.specs.Grammar.{Sym, Grammar, IsSymbolOf, Production}
 use Rattle.derivation.specs.Follow.{MayFollow}
 use Rattle.derivation.specs.FirstSets.{AreNullable, Begins}
@@ -44,6 +44,11 @@ IsOwner p r = r ≡ p.rule
 -- the rule's set grown no token
 abbrev pub HasNoMoreFollows : ℕ → FollowSets → FollowSets → Type 0
 HasNoMoreFollows r old new = (t : ℕ) → HasBit new.follows r t → HasBit old.follows r t
+
+-- the first rule's set has all of the second's
+abbrev pub Includes : Table → Option (ℕ × ℕ) → Type 0
+Includes follows None = ⊤
+Includes follows (Some (into, from)) = (t : ℕ) → HasBit follows from t → HasBit follows into t
 
 -- how many bits are on
 abbrev pub count_follows : FollowSets → ℕ

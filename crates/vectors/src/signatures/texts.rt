@@ -3,7 +3,7 @@
 use cfgrammar::header::{HeaderErrorKind, KindFault, Setting, Value};
 use cfgrammar::yacc::ast::{ASTModificationError, KindSource};
 use cfgrammar::yacc::{AssocKind, Precedence, YaccGrammarErrorKind, YaccGrammarWarning, YaccKind};
-use cfgrammar::{Location, Span, Spanned, SpansKind};
+use cfgrammar::{ColumnUnit, Location, Positions, Source, Span, Spanned, SpansKind};
 use std::alloc::{AllocError, Global};
 
 /// Whether a file named its kind.
@@ -74,4 +74,25 @@ pub fn located<'a>(
         value.primary_location(),
         YaccKind::try_from_value::<Location>(alloc, value),
     )
+}
+
+/// The line and the column of an offset in each unit.
+pub fn columns(positions: &Positions<'_>, offset: usize) -> [Option<(usize, u128)>; 3] {
+    [
+        ColumnUnit::Bytes.line_and_column(positions, offset),
+        ColumnUnit::Characters.line_and_column(positions, offset),
+        ColumnUnit::Display.line_and_column(positions, offset),
+    ]
+}
+
+/// A text whose columns are those of a unit, or count characters.
+pub fn source<'a>(
+    alloc: Global,
+    text: &'a str,
+    unit: Option<ColumnUnit>,
+) -> Result<Source<'a>, AllocError> {
+    match unit {
+        Some(unit) => Source::with_columns(alloc, "a.y", text, unit),
+        None => Source::new(alloc, "a.y", text),
+    }
 }

@@ -20,7 +20,7 @@ loop-file-preserved g c =
     rw made (record {
       linted = linted_up_to g.S.Source.fetches g.S.SourceWithReasons.reason g.L.Linter.reports (options_view c.args.options.now) files c.loop-file.file-index no_file c.loop-file-test.true
           _ _ _ _ _ answer outcome c.loop-file.invariant.linted fetched is;
-      few = omega (arith, texts-with_file (name_of (options_view c.args.options.now) (get_or files c.loop-file.file-index no_file).now) outcome c.loop-file.tally, c.loop-file.invariant.few);
+      few = omega (arith, texts-with_file (options_view c.args.options.now).lint (name_of (options_view c.args.options.now) (get_or files c.loop-file.file-index no_file).now) outcome c.loop-file.tally, c.loop-file.invariant.few);
     })
 
 pub returns-in_err-lint_file-clause-err : goal.returns-in_err-lint_file-clause-err

@@ -15,7 +15,7 @@ loop-error-preserved g c =
     let next : shown ++ c.error-item.result ∷ [] ≡ take (c.loop-error.error-index + 1) c.args.errors.now = grind (arith, common_steps) in
     let source = c.in_ok-source.ensures in
     one_more _ _ _ c.args.name.now c.args.text.now shown _ c.error-item.result reported.0 (string_bytes c.loop-error.out) _ c.loop-error.invariant reported.1 next
-    (rw (sym source.name, sym source.text) reported.2)
+    (rw (sym source.name, sym source.text, sym source.unit) reported.2)
 
 pub returns : goal.returns
 returns g c = rw (take_all c.loop-error.error-index c.args.errors.now c.loop-error-test.false) at c.loop-error.invariant

@@ -28,7 +28,7 @@ returns c =
     let shown_are = c.deref.ensures.value ∙ c.in_ok-shown.ensures in
     let are : c.in_ok-reported.reported.items ≡ noted_errors text names shown = c.in_ok-reported.ensures ∙ (λ i. noted_errors text (names_are i) (shown_are i)) in
     let many : length c.in_ok-reported.reported.items ≡ length shown = ap length are ∙ noted_length text names shown in (
-      subst (λ (all : List NotedError). AreErrorLines c.args.self.now.format name text all (string_bytes c.in_ok-lines.lines))
+      subst (λ (all : List NotedError). AreErrorLines c.args.self.now.format c.args.self.now.columns name text all (string_bytes c.in_ok-lines.lines))
           (c.deref-2.ensures.value ∙ are) c.in_ok-lines.ensures,
       omega (arith, c.len.ensures, c.in_ok-reported.reported.ok.0, many),
       refl,

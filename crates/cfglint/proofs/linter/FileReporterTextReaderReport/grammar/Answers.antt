@@ -1,9 +1,6 @@
-use Rattle.std.proofs.Common.{◌≡◌, List, length, count_by, map, string_bytes, ◌∙◌, ap, subst, arith}
+use Rattle.std.proofs.Common.{◌≡◌, List, length, count_by, string_bytes, ◌∙◌, ap, subst, arith}
 use Rattle.std.proofs.lemmas.List.Sums.{count_by-le-length}
-use Rattle.cfgjson.specs.Objects.{AreJsonLines, diagnostic_object}
-use Rattle.cfgfindings.specs.Shown.{spanskind_of}
-use Rattle.cfglint.specs.Reported.{Reported, finding_lines, finding_message, reported_by, shown_finding}
-use Rattle.cfglint.proofs.Rendered.{each_rendered, in_format}
+use Rattle.cfglint.specs.Reported.{AreFindingLines, Reported, reported_by}
 use Rattle.cfglint.proofs.linter.FileReporterTextReaderReport.grammar.Goals as goal
 
 pub returns : goal.returns
@@ -13,12 +10,8 @@ returns c =
     let all = c.in_ok-all.all.items in
     let shown : List Reported = reported_by c.args.self.now.levels all in
     let are : c.in_ok-reported.reported.items ≡ shown = c.in_ok-reported.ensures ∙ ap (reported_by c.args.self.now.levels) c.deref.ensures.value in
-    let lines = in_format c.args.self.now.format _ _ _ _
-    (λ lines. each_rendered finding_message (λ (reported : Reported). reported.finding.spans) (λ (reported : Reported). spanskind_of reported.finding.kind) name text lines
-    ∙ ap (finding_lines name text) (c.deref-2.ensures.value ∙ are))
-    (subst (λ (all : List Reported). AreJsonLines (map (λ finding. diagnostic_object name text (shown_finding finding)) all) (string_bytes c.in_ok-lines.lines))
-    (c.deref-2.ensures.value ∙ are))
-    c.in_ok-lines.ensures in
+    let lines = subst (λ (all : List Reported). AreFindingLines c.args.self.now.format c.args.self.now.columns name text all (string_bytes c.in_ok-lines.lines))
+    (c.deref-2.ensures.value ∙ are) c.in_ok-lines.ensures in
     let errors : c.error_count-errors.result ≡ count_by (λ (reported : Reported). reported.is_error) shown =
     c.error_count-errors.ensures ∙ ap (count_by (λ (reported : Reported). reported.is_error)) (c.deref-3.ensures.value ∙ are) in
     let few = count_by-le-length (λ (reported : Reported). reported.is_error) shown in

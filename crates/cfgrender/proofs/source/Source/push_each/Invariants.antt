@@ -7,4 +7,4 @@ use Rattle.cfgrender.proofs.source.Source.push_each.Given as goal
 abbrev pub invariant-loop-span : goal.invariant-loop-span
 invariant-loop-span l = string_bytes l.out
     ≡ string_bytes l.initial.out
-    ++ flat_map (reported l.self.name.now l.self.text (codes "note: also here")) (take l.span-index l.spans)
+    ++ flat_map (reported l.self.unit l.self.name.now l.self.text (codes "note: also here")) (take l.span-index l.spans)

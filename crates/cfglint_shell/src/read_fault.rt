@@ -1,0 +1,164 @@
+//! Files that can't be read as text.
+
+ghost use Rattle.std.specs.Prelude.{◌≡◌, ◌++◌, None, true, IfOk, IsUtf8, OnOk, length, string_bytes};
+ghost use Rattle.std.specs.Str.{IsValidUpTo};
+ghost use Rattle.cfgjson.specs.Objects.{json_line};
+ghost use Rattle.cfgrammar.specs.Lines.{line_number};
+ghost use Rattle.cfgrammar.specs.Render.{column_in};
+ghost use Rattle.cfglint_shell.specs.ReadFaults.{fault_line, fault_lines, invalid_encoding, reason_text};
+ghost use Rattle.cfglint_shell.specs.ReadFaults.{shown_fault, unreadable_file};
+
+use crate::format::Format;
+use cfgjson::{Diagnostic, push_line};
+use cfgprogram::ReadError;
+use cfgrammar::{ColumnUnit, Positions, Span, Visible};
+use std::alloc::{AllocError, Global};
+use std::marker::Model;
+
+/// Why a file can't be read as text: its beginning that is text, the word of the reason, and what is said of it.
+#[derive(Drop)]
+pub(crate) struct ReadFault<'a> {
+    text: &'a str,
+    kind: &'static str,
+    message: String,
+}
+
+impl<'a> Model for ReadFault<'a> {
+    ghost use Rattle.std.specs.Prelude.{string_bytes};
+    ghost use Rattle.cfglint_shell.specs.ReadFaults as faults;
+
+    ghost Value = { faults.ReadFault };
+
+    ghost view = { λ x. record { text = x.text.now; kind = x.kind.now; message = string_bytes x.message } };
+}
+
+impl<'a> ReadFault<'a> {
+    /// A file can't be read, for this reason.
+    pub(crate) fn unreadable(alloc: Global, reason: ReadError) -> Result<Self, AllocError>
+        ensures { IfOk result (λ fault. fault ≡ unreadable_file reason) }
+    {
+        let reason = reason_text(reason);
+        Ok(ReadFault {
+            text: "",
+            kind: "unreadable-file",
+            message: format!(in alloc; "Unreadable file{reason}")?,
+        })
+    }
+
+    /// The bytes of a file are UTF-8 up to here alone.
+    pub(crate) fn invalid(alloc: Global, bytes: &'a [u8], valid: usize) -> Result<Self, AllocError>
+        requires { IsValidUpTo bytes.now valid }
+        ensures { IfOk result (λ fault. fault ≡ invalid_encoding bytes.entry.now valid) }
+    {
+        let byte = bytes[valid];
+        Ok(ReadFault {
+            text: text_of(&bytes[..valid]),
+            kind: "invalid-encoding",
+            message: format!(in alloc; "Not UTF-8: found the byte 0x{byte:02X}")?,
+        })
+    }
+
+    /// Writes the line that says so of a file of this name, with its column in this unit.
+    pub(crate) fn push_line(
+        &self,
+        alloc: Global,
+        out: &mut String,
+        unit: ColumnUnit,
+        name: &str,
+    ) -> Result<(), AllocError>
+        ensures { OnOk result (string_bytes out.new ≡ string_bytes out.old ++ fault_line unit name.now self.now) }
+    {
+        let positions = Positions::new(alloc, self.text)?;
+        let name = Visible(name);
+        let (line, column) = end_of(unit, &positions);
+        writeln!(
+            out,
+            "{name}:{line}:{column}: error: {} [{}]",
+            self.message, self.kind
+        )
+    }
+
+    /// Writes what the format has of it among the lines for texts: in JSON an object.
+    pub(crate) fn push_reported(
+        &self,
+        alloc: Global,
+        out: &mut String,
+        format: Format,
+        name: &str,
+    ) -> Result<(), AllocError>
+        ensures { OnOk result (string_bytes out.new
+            ≡ string_bytes out.old ++ fault_lines format name.now self.now) }
+    {
+        match format {
+            Format::Text => Ok(()),
+            Format::Json => self.push_json(alloc, out, name),
+        }
+    }
+
+    /// Writes the JSON object that says so of a file of this name, on a line.
+    fn push_json(&self, alloc: Global, out: &mut String, name: &str) -> Result<(), AllocError>
+        ensures { OnOk result (string_bytes out.new
+            ≡ string_bytes out.old ++ json_line name.now self.now.text (shown_fault self.now)) }
+    {
+        let positions = Positions::new(alloc, self.text)?;
+        let end = self.text.len();
+        let spans = [Span::new(end, end)];
+        let shown = error_at(self.kind, &self.message, &spans);
+        push_line(alloc, out, name, &positions, &shown)
+    }
+}
+
+/// An error with this word and this text, without a note.
+fn error_at<'a>(kind: &'a str, text: &'a str, spans: &'a [Span]) -> Diagnostic<'a>
+    ensures { result ≡ record {
+      is_error = true;
+      kind = kind.now;
+      text = text.now;
+      hint = None;
+      spans = spans.now;
+    } }
+{
+    Diagnostic {
+        is_error: true,
+        kind,
+        text,
+        hint: None,
+        spans,
+    }
+}
+
+/// The text that bytes are.
+fn text_of(bytes: &[u8]) -> &str
+    requires { IsUtf8 bytes.now }
+    ensures { result.now ≡ bytes.now }
+{
+    match std::str::from_utf8(bytes) {
+        Ok(text) => text,
+        Err(_) => unreachable!(),
+    }
+}
+
+/// The line of a text's end, and its column in this unit.
+fn end_of(unit: ColumnUnit, positions: &Positions<'_>) -> (usize, u128)
+    ensures { result ≡ (
+      line_number positions.now (length positions.now),
+      column_in unit positions.now (length positions.now),
+    ) }
+{
+    match unit.line_and_column(positions, positions.text().len()) {
+        Some(end) => end,
+        None => unreachable!(),
+    }
+}
+
+/// Why a file could not be read, if that is known.
+fn reason_text(reason: ReadError) -> &'static str
+    ensures { result.now ≡ reason_text reason }
+{
+    match reason {
+        ReadError::NotFound => ": it is not there",
+        ReadError::IsADirectory => ": it is a directory",
+        ReadError::PermissionDenied => ": permission denied",
+        ReadError::Other => "",
+    }
+}

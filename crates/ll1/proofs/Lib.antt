@@ -1,0 +1,4 @@
+pub mod Used
+pub mod UsedAt
+pub mod Entries
+pub mod Listed

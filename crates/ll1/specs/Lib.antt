@@ -1,0 +1,2 @@
+pub mod Ll1
+pub mod Inner
