@@ -2,3 +2,5 @@
 pub mod Boundaries
 pub mod Suffixes
 pub mod Loops
+pub mod Named
+pub mod NestedLoop

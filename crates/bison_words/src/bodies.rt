@@ -124,7 +124,7 @@ impl<'a> Scanner<'a> {
             (repeat (prologue_piece (length self.old.text.now))) }
         ensures passed { OnOk result (Passed self.old self.new) }
     {
-        while self.prologue_piece()?.is_some() {}
+        while let Some(_piece) = self.prologue_piece()? {}
         Ok(())
     }
 
@@ -163,7 +163,7 @@ impl<'a> Scanner<'a> {
             (repeat (code_piece (length self.old.text.now))) }
         ensures passed { OnOk result (Passed self.old self.new) }
     {
-        while self.code_piece()?.is_some() {}
+        while let Some(_piece) = self.code_piece()? {}
         Ok(())
     }
 }

@@ -33,14 +33,14 @@ fn with_digit(base: usize, number: usize, b: u8) -> usize
 }
 
 /// The value of digits, or the greatest `usize` if it doesn't fit.
+#[tactic(auto, unfolding(crate::specs::Digits::number_of))]
 pub(crate) fn number_of(base: usize, digits: &str) -> usize
     ensures { result ≡ number_of base digits.now }
 {
-    let mut number = 0;
-    for b in digits.as_bytes() {
-        number = with_digit(base, number, *b);
-    }
-    number
+    digits
+        .as_bytes()
+        .iter()
+        .fold(0, |number, b| with_digit(base, number, *b))
 }
 
 impl<'a> Scanner<'a> {
