@@ -4,3 +4,4 @@ pub mod Suffixes
 pub mod Loops
 pub mod Named
 pub mod NestedLoop
+pub mod QuotedLoop
