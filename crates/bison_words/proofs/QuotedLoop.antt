@@ -1,8 +1,6 @@
 -- The loop over what is between quotes.
-use Rattle.std.proofs.Common.{◌≡◌, ℕ, ◌<◌, Bool, List, [], ◌∷◌, length, fold, Option, Some, None, Result, Ok, refl, sym, ap, subst, ◌∙◌}
+use Rattle.std.proofs.Common.{◌≡◌, ℕ, ◌<◌, Bool, List, [], ◌∷◌, length, Option, Some, None, Ok, refl, ap, subst, ◌∙◌}
 use Rattle.std.proofs.lemmas.List.Sums.{fold-append}
-use Rattle.constructs.specs.Construct.{computes}
-use Rattle.constructs.specs.Steps.{Returns}
 use Rattle.constructs.proofs.Steps.{Gathers, gathers_start, gathers_on, many_done, returns_then, turn_shorter}
 use Rattle.bison_words.specs.declared.scanner.Scanner.{Scanner}
 use Rattle.bison_words.specs.Quotes.{with_part, parts_of, quoted_part, quoted}

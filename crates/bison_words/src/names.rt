@@ -93,12 +93,7 @@ impl<'a> Scanner<'a> {
 
     /// Adds the number that begins at `start` and has these digits; no letter may follow it.
     #[tactic(auto, unfolding(crate::specs::Names::number_end))]
-    fn number_end(
-        &mut self,
-        start: &'a str,
-        base: usize,
-        digits: &str,
-    ) -> Result<bool, AllocError>
+    fn number_end(&mut self, start: &'a str, base: usize, digits: &str) -> Result<bool, AllocError>
         requires { length self.old.rest.now ≤ length start.now }
         ensures read { Builds goes_on self.old self.new result
             (number_end (length self.old.text.now) start.now base digits.now) }

@@ -1,6 +1,6 @@
 use Rattle.std.proofs.Common.{sym}
 use Rattle.bison_words.specs.Brackets.{tag_piece}
-use Rattle.bison_words.proofs.NestedLoop.{nests_start, nests_smaller, nests_on, nests_closed, nests_ended}
+use Rattle.bison_words.proofs.NestedLoop.{nests_smaller, nests_on, nests_closed, nests_ended}
 use Rattle.bison_words.proofs.scanner.Scanner.closing_tag.Goals as goal
 
 pub loop-piece-smaller : goal.loop-piece-smaller
