@@ -201,35 +201,37 @@ class Scanner:
     # ------------------------------------------------------------ literals and strings
 
     def literal(self, p):
-        value, end = self.quoted(p, b"'", 'IncompleteLiteral')
+        value, _, end = self.quoted(p, b"'", 'IncompleteLiteral')
         if len(value) != 1:
             self.fault('LongLiteral' if value else 'EmptyLiteral', p, end)
         return self.add('literal', p, end, chr(value[0]) if value else '?')
 
     def string(self, p):
-        value, end = self.quoted(p, b'"', 'IncompleteString')
-        return self.add('string', p, end, (self.spelling(p, end), value))
+        value, close, end = self.quoted(p, b'"', 'IncompleteString')
+        return self.add('string', p, end, (self.spelling(p, close), value))
 
     def translatable(self, p):
-        value, end = self.quoted(p + 2, b'")', 'IncompleteString')
-        return self.add('translatable', p, end, (self.spelling(p + 2, end - 1), value))
+        value, close, end = self.quoted(p + 2, b'")', 'IncompleteString')
+        return self.add('translatable', p, end, (self.spelling(p + 2, close), value))
 
-    def spelling(self, p, end):
-        return self.t[p + 1:end - 1].decode('utf-8', 'surrogateescape')
+    def spelling(self, p, close):
+        return self.t[p + 1:close].decode('utf-8', 'surrogateescape')
 
     def quoted(self, p, close, kind):
-        """The bytes between the quotes at p, with escapes replaced, and the offset after them or at the line end."""
+        """The bytes between the quotes at p, with escapes replaced, and the offsets of their end and after it.
+
+        Quotes that don't end go up to the line's end."""
         value, end = bytearray(), p + 1
         while end < len(self.t) and not self.at(b'\n', end):
             if self.at(close, end):
-                return value, end + len(close)
+                return value, end, end + len(close)
             if self.at(b'\\', end):
                 character, end = self.escape(end)
             else:
                 character, end = self.plain(end)
             value.append(character)
         self.fault(kind, p, p + 1)
-        return b'?', end
+        return b'?', end, end
 
     def plain(self, p):
         if self.t[p] == 0:

@@ -1,5 +1,5 @@
 -- A text may be cut where a run of one class ends.
-use Rattle.std.proofs.Common.{◌≡◌, ◌==◌, ℕ, zero, suc, ◌+◌, ◌<◌, ◌≤◌, ◌⊎◌, inl, inr, Bool, true, false, List, [], ◌∷◌, length, get_or, min, ap, ◌∙◌, sym, subst, arith, drop, length-drop}
+use Rattle.std.proofs.Common.{◌≡◌, ℕ, zero, suc, ◌+◌, ◌<◌, ◌≤◌, ◌⊎◌, inl, inr, Bool, true, false, List, length, get_or, min, ap, ◌∙◌, sym, subst, arith, drop, length-drop}
 use Rattle.std.specs.List.{prefix_len}
 use Rattle.std.specs.Str.{IsUtf8, IsCharBoundary}
 use Rattle.std.proofs.lemmas.Bool.{cases_lt}
@@ -71,11 +71,13 @@ few_boundary class most text utf8 (inr is) = after_passing (holds class) text ut
 pub character_boundary : (text : List ℕ) (n : ℕ) → 1 ≤ length text → n ≡ prefix_len is_continuation (drop 1 text) → IsCharBoundary text (1 + n)
 character_boundary text n some e =
     let less = prefix_len-le-length is_continuation (drop 1 text) in
-    let all = length-drop 1 text in
-    (omega arith, λ within high.
-      let stops : is_continuation (get_or (drop 1 text) (prefix_len is_continuation (drop 1 text)) 0) ≡ false = prefix_len_stops is_continuation (drop 1 text) 0 (omega arith) in
-      let byte : get_or (drop 1 text) (prefix_len is_continuation (drop 1 text)) 0 ≡ get_or text (1 + n) 0 = get_or-drop 1 text _ 0 ∙ ap (λ n. get_or text (1 + n) 0) (sym e) in
-      not_continuation (get_or text (1 + n) 0) (ap is_continuation (sym byte) ∙ stops) high)
+    let all = length-drop 1 text in (
+      omega arith,
+      λ within high.
+          let stops : is_continuation (get_or (drop 1 text) (prefix_len is_continuation (drop 1 text)) 0) ≡ false = prefix_len_stops is_continuation (drop 1 text) 0 (omega arith) in
+          let byte : get_or (drop 1 text) (prefix_len is_continuation (drop 1 text)) 0 ≡ get_or text (1 + n) 0 = get_or-drop 1 text _ 0 ∙ ap (λ n. get_or text (1 + n) 0) (sym e) in
+          not_continuation (get_or text (1 + n) 0) (ap is_continuation (sym byte) ∙ stops) high,
+    )
   where
     not_continuation : (b : ℕ) → is_continuation b ≡ false → 128 ≤ b → 192 ≤ b
     not_continuation b h high = grind (arith, nat_tests)

@@ -1,5 +1,5 @@
 -- Loops of the scanner over turns of a repetition.
-use Rattle.std.proofs.Common.{◌≡◌, ℕ, ◌<◌, ◌≤◌, List, length, Option, Some, None, Result, Ok, Err, refl, ◌∙◌, arith}
+use Rattle.std.proofs.Common.{◌≡◌, ℕ, ◌<◌, length, Option, Some, None, Ok, refl, ◌∙◌, arith}
 use Rattle.constructs.specs.Leaves.{Less, OneOrEnd}
 use Rattle.constructs.specs.Construct.{Construct, repeat}
 use Rattle.constructs.proofs.Steps.{Gathers, gathers_start, gathers_on, repeat_done, turn_shorter}

@@ -1,5 +1,5 @@
 -- Suffixes of a text.
-use Rattle.std.proofs.Common.{◌≡◌, ℕ, ◌+◌, ◌≤◌, ◌-◌, List, [], ◌∷◌, ◌++◌, Ok, length, take, drop, get_or, add-zero, Option, Some, refl, sym, ◌∙◌, ap, subst, arith, drop_at, length-append, length-drop, take-append-drop}
+use Rattle.std.proofs.Common.{◌≡◌, ℕ, ◌+◌, ◌≤◌, ◌-◌, List, [], ◌∷◌, ◌++◌, Ok, length, take, drop, get_or, add-zero, Some, sym, ◌∙◌, ap, subst, arith, drop_at, length-append, take-append-drop}
 use Rattle.std.specs.Str.{IsUtf8, IsCharBoundary}
 use Rattle.std.proofs.lemmas.Str.{IsCharBoundary-start}
 use Rattle.std.proofs.lemmas.List.{drop-drop, get_or-drop}

@@ -1,7 +1,7 @@
 -- Blanks: white space, commas, comments, and `#line` lines.
 use Rattle.std.specs.Prelude.{ℕ, Bool, true, false, List, [], ◌∷◌, get_or, length, ◌-◌, ◌==◌, ◌||◌, ◌&&◌, not, Option, Some, None, codes}
 use Rattle.constructs.specs.Pieces.{run, strip}
-use Rattle.constructs.specs.Construct.{Construct, ◌>>=◌, ◌>>◌, then, case_of, choice, here, again, ends, repeat, gives}
+use Rattle.constructs.specs.Construct.{then, case_of, choice, here, again, ends, repeat, gives}
 use Rattle.bison_words.specs.declared.class.Class.TheVariants.{Blank, Line, Digit}
 use Rattle.bison_words.specs.declared.words.WordFaultKind.TheVariants.{IncompleteComment}
 use Rattle.bison_words.specs.Bytes.{holds}

@@ -1,6 +1,6 @@
 -- Tags, and names in brackets.
 use Rattle.std.specs.Prelude.{ℕ, Bool, true, false, List, [], ◌&&◌, codes}
-use Rattle.constructs.specs.Construct.{Construct, ◌>>=◌, ◌>>◌, then, case_of, choice, here, again, ends, gives}
+use Rattle.constructs.specs.Construct.{◌>>=◌, ◌>>◌, then, case_of, choice, here, again, ends, gives}
 use Rattle.bison_words.specs.declared.class.Class.TheVariants.{Any, Letter, NameByte, TagByte}
 use Rattle.bison_words.specs.declared.nesting.Nesting.{Nesting}
 use Rattle.bison_words.specs.declared.nesting.Nesting.TheVariants.{Opens, Closes, Stays}
@@ -23,9 +23,9 @@ tag_piece =
 -- whether there is an identifier here
 unfoldable pub inner_name : Lax Bool
 inner_name = choice (starts_with Letter) (do
-    passes NameByte
-    gives true)
-  (gives false)
+  passes NameByte
+  gives true)
+    (gives false)
 
 -- len is the whole text's length
 module _ (len : ℕ) where
@@ -57,9 +57,9 @@ module _ (len : ℕ) where
 
   unfoldable pub name : Turn (Unit {0})
   name = here (λ start. case_of (codes "[") (here (λ opened. do
-      blank len
-      found ← inner_name
-      blank len
-      name_end start opened found
-      again tt))
+    blank len
+    found ← inner_name
+    blank len
+    name_end start opened found
+    again tt))
       ends)

@@ -1,9 +1,9 @@
 -- Code: what is between braces, in a prologue, and in the epilogue. Comments, strings and character literals in it have to end.
-use Rattle.std.specs.Prelude.{ℕ, Bool, true, false, List, [], ◌∷◌, ◌+◌, ◌-◌, ◌==◌, ◌||◌, length, take, get_or, Option, Some, None, codes, if◌then◌else◌}
+use Rattle.std.specs.Prelude.{ℕ, Bool, false, List, ◌+◌, ◌-◌, ◌==◌, ◌||◌, length, take, Option, Some, None, codes, if◌then◌else◌}
 use Rattle.std.specs.Str.{trim}
 use Rattle.constructs.specs.Pieces.{run, strip}
-use Rattle.constructs.specs.Construct.{Construct, ◌>>=◌, ◌>>◌, case_of, choice, here, again, ends, repeat, gives}
-use Rattle.bison_words.specs.declared.class.Class.TheVariants.{Any, Gap, Line, Space, Comment, CommentLine, CodeQuoted, CodeByte, Quote}
+use Rattle.constructs.specs.Construct.{◌>>=◌, ◌>>◌, case_of, choice, here, again, ends, repeat, gives}
+use Rattle.bison_words.specs.declared.class.Class.TheVariants.{Gap, Line, Space, Comment, CommentLine, CodeQuoted, CodeByte, Quote}
 use Rattle.bison_words.specs.declared.nesting.Nesting.{Nesting}
 use Rattle.bison_words.specs.declared.nesting.Nesting.TheVariants.{Opens, Lowers, Closes, Stays}
 use Rattle.bison_words.specs.declared.words.WordFaultKind.{WordFaultKind}
@@ -30,7 +30,7 @@ unfoldable pub splice : Turn (Unit {0})
 splice = case_of (codes "\\") (do
   passes Gap
   case_of (codes "\r\n") (again tt) (case_of (codes "\n") (again tt) ends))
-  ends
+    ends
 
 unfoldable pub splice_turn : Turn (Unit {0})
 splice_turn = choice is_splice splice ends
@@ -41,8 +41,8 @@ splices = repeat splice_turn
 -- a part of a line comment, up to the line's end
 unfoldable pub line_part : Turn (Unit {0})
 line_part = choice is_splice splice
-  (case_of (codes "\\") (again tt)
-  (some_or CommentLine (λ _. again tt) ends))
+    (case_of (codes "\\") (again tt)
+    (some_or CommentLine (λ _. again tt) ends))
 
 -- a part of a comment: up to a `*`, after which a `/` ends the comment
 unfoldable pub comment_part : Turn (Unit {0})
@@ -61,11 +61,11 @@ escaped_part = do
 
 unfoldable pub quotes_part : List ℕ → Turn (Unit {0})
 quotes_part close = choice (begins close) ends
-  (choice is_splice splice
-  (case_of (codes "\\") escaped_part
-  (byte_or Quote (λ _. again tt)
-  (some_or CodeQuoted (λ _. again tt)
-  ends))))
+    (choice is_splice splice
+    (case_of (codes "\\") escaped_part
+    (byte_or Quote (λ _. again tt)
+    (some_or CodeQuoted (λ _. again tt)
+    ends))))
 
 -- a `<` or a `%`, which with another character, maybe after splices, may be a brace
 unfoldable pub less_piece : TurnEnd Nesting
@@ -127,9 +127,9 @@ module _ (len : ℕ) where
 
   unfoldable pub braces : List ℕ → (List ℕ → List ℕ → Lexeme) → Turn (Unit {0})
   braces start lexeme = case_of (codes "{") (here (λ opened. do
-      closed ← closing code_piece
-      code_end start opened (lexeme opened) closed
-      again tt))
+    closed ← closing code_piece
+    code_end start opened (lexeme opened) closed
+    again tt))
       ends
 
   unfoldable pub code : Turn (Unit {0})
@@ -137,8 +137,8 @@ module _ (len : ℕ) where
 
   unfoldable pub predicate : Turn (Unit {0})
   predicate = here (λ start. case_of (codes "%?") (do
-      passes Space
-      braces start (λ opened rest. Predicate))
+    passes Space
+    braces start (λ opened rest. Predicate))
       ends)
 
   -- pieces of a prologue, up to its `%}`, which may not be in a comment or in quotes
@@ -150,7 +150,7 @@ module _ (len : ℕ) where
 
   unfoldable pub prologue : Turn (Unit {0})
   prologue = here (λ start. case_of (codes "%{") (here (λ opened. do
-      repeat prologue_piece
-      prologue_end start opened
-      again tt))
+    repeat prologue_piece
+    prologue_end start opened
+    again tt))
       ends)

@@ -1,10 +1,9 @@
 -- What is read here, as constructs. `Says` of a construct is its meaning. Nothing stops a reading: faults are items.
-use Rattle.std.specs.Prelude.{ℕ, Bool, true, false, List, []}
+use Rattle.std.specs.Prelude.{ℕ, Bool, true, false, List}
 use Rattle.std.specs.Option.{option_map_or}
 use Rattle.constructs.specs.Pieces.{starts, strip}
 use Rattle.constructs.specs.Leaves.{Gives, One, OneOrEnd, Leaves, Less, NoMore}
-use Rattle.constructs.specs.Construct.{Construct, ◌>>=◌, ◌>>◌, then, here, word_or, silently, gives, emits}
-use Rattle.cfgbase.specs.declared.span.Span.{Span}
+use Rattle.constructs.specs.Construct.{Construct, ◌>>◌, then, here, word_or, silently, gives, emits}
 use Rattle.bison_words.specs.declared.class.Class.{Class}
 use Rattle.bison_words.specs.declared.class.Class.TheVariants.{Any}
 use Rattle.bison_words.specs.declared.words.WordFaultKind.{WordFaultKind}

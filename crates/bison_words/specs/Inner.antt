@@ -3,3 +3,4 @@ pub mod Builds
 pub mod Rests
 pub mod Quotes
 pub mod Bodies
+pub mod Directives

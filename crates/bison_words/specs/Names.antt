@@ -1,9 +1,8 @@
 -- Identifiers, numbers, marks, and what can't begin a word.
-use Rattle.std.specs.Prelude.{ℕ, Bool, true, false, List, [], ◌∷◌, ◌==◌, ◌||◌, ◌&&◌, nat_lt, nat_le, codes}
+use Rattle.std.specs.Prelude.{ℕ, Bool, List, ◌==◌, ◌||◌, ◌&&◌, nat_lt, nat_le, codes}
 use Rattle.std.specs.List.{prefix_len}
-use Rattle.constructs.specs.Leaves.{One}
-use Rattle.constructs.specs.Construct.{Construct, ◌>>=◌, ◌>>◌, then, case_of, choice, here, again, ends, gives}
-use Rattle.bison_words.specs.declared.class.Class.TheVariants.{Any, Letter, NameByte, Digit, Hexadecimal, Odd, Mark}
+use Rattle.constructs.specs.Construct.{◌>>=◌, ◌>>◌, then, case_of, choice, here, again, ends, gives}
+use Rattle.bison_words.specs.declared.class.Class.TheVariants.{Any, Letter, NameByte, Digit, Hexadecimal, Odd}
 use Rattle.bison_words.specs.declared.words.WordFaultKind.TheVariants.{IllegalCharacters, IllegalIdentifier, IllegalInteger}
 use Rattle.bison_words.specs.Bytes.{holds}
 use Rattle.bison_words.specs.Words.{Identifier, Number, Colon, Semicolon, Bar, Equals}
@@ -22,8 +21,8 @@ is_colon text = begins (codes ":") text && prefix_len (holds Odd) text == 1
 module _ (len : ℕ) where
   unfoldable pub identifier : Turn (Unit {0})
   identifier = here (λ start. some_or NameByte (λ name. do
-      word_from len start (Identifier name)
-      again tt)
+    word_from len start (Identifier name)
+    again tt)
       ends)
 
   -- a number above 2147483647 is a fault, and counts all the same

@@ -1,5 +1,5 @@
 -- What is between a bracket and the one that closes it, read piece by piece. A turn's value says what a piece is for the nesting.
-use Rattle.std.specs.Prelude.{◌≡◌, ℕ, Bool, true, false, List, [], ◌∷◌, ◌++◌, ◌+◌, nat_le, Option, Some, None, Result, Ok, Err, length, if◌then◌else◌}
+use Rattle.std.specs.Prelude.{◌≡◌, ℕ, Bool, true, false, List, [], ◌++◌, ◌+◌, nat_le, Option, Some, None, Result, Ok, Err, if◌then◌else◌}
 use Rattle.constructs.specs.Read.{Read}
 use Rattle.constructs.specs.Turns.{Turn, again, ends, Turns, all_turns}
 use Rattle.constructs.specs.Construct.{Says, computes}

@@ -1,15 +1,13 @@
 -- What `nested` finds is what its pieces make of it, and nothing else is.
-use Rattle.std.proofs.Common.{◌≡◌, ℕ, zero, suc, ◌<◌, ◌≤◌, List, [], length, Option, Some, None, Result, Ok, Err, refl, ap, ◌∙◌, arith}
+use Rattle.std.proofs.Common.{◌≡◌, ℕ, zero, suc, ◌<◌, ◌≤◌, List, length, Option, Some, None, Result, Ok, Err, refl, ap, ◌∙◌, arith}
 use Rattle.constructs.specs.Graph.{IsGraph}
-use Rattle.constructs.specs.Read.{Read}
-use Rattle.constructs.specs.Turns.{Turn, again, ends, Turns, after, turns, all_turns}
+use Rattle.constructs.specs.Turns.{Turn, again, Turns, after, turns, all_turns}
 use Rattle.constructs.specs.Construct.{computes}
 use Rattle.constructs.proofs.Agree.{agree, leaves}
 use Rattle.constructs.proofs.Graphs.{Shrinks, turns_graph, turns_next}
 use Rattle.constructs.proofs.Lengths.{left_same}
 use Rattle.bison_words.specs.declared.nesting.Nesting.{Nesting}
 use Rattle.bison_words.specs.declared.nesting.Depth.{Depth}
-use Rattle.bison_words.specs.Words.{Item}
 use Rattle.bison_words.specs.Here.{Turn as Pieces}
 use Rattle.bison_words.specs.Nested.{Found, Passage, after_piece, outermost, onward, step_outcome, step_of, found_of, IsStep, step, IsNested, nothing, passage, nested}
 

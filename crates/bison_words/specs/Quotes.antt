@@ -1,7 +1,7 @@
 -- Character literals and strings. Escapes are replaced in literals; strings count as they are spelled.
 use Rattle.std.specs.Prelude.{ℕ, Bool, true, false, List, [], ◌∷◌, ◌-◌, ◌==◌, ◌&&◌, nat_lt, length, take, get_or, Option, Some, None, codes, fold, is_none, if◌then◌else◌}
 use Rattle.std.specs.List.{prefix_len}
-use Rattle.constructs.specs.Construct.{Construct, ◌>>=◌, ◌>>◌, case_of, choice, here, again, ends, many, gives}
+use Rattle.constructs.specs.Construct.{◌>>=◌, ◌>>◌, case_of, choice, here, again, ends, many, gives}
 use Rattle.bison_words.specs.declared.class.Class.{Class}
 use Rattle.bison_words.specs.declared.class.Class.TheVariants.{Hexadecimal, Octal, Quote, Quoted, Escape}
 use Rattle.bison_words.specs.declared.words.WordFaultKind.{WordFaultKind}
@@ -53,12 +53,12 @@ module _ (len : ℕ) where
 
   unfoldable pub numbered : List ℕ → Class → ℕ → ℕ → ℕ → Lax ℕ
   numbered start class base least most = choice (λ text. nat_lt (prefix_len (holds class) text) least)
-    (do
-      fault_from len start IllegalEscape
-      gives 63)
-    (do
-      digits ← few_here class most
-      numbered_value start (number_of base digits))
+      (do
+        fault_from len start IllegalEscape
+        gives 63)
+      (do
+        digits ← few_here class most
+        numbered_value start (number_of base digits))
 
   unfoldable pub illegal_escape : List ℕ → Lax ℕ
   illegal_escape start = do
@@ -107,20 +107,20 @@ module _ (len : ℕ) where
 
   unfoldable pub literal : Turn (Unit {0})
   literal = here (λ start. case_of (codes "'") (do
-      parts ← quoted (codes "'")
-      closed ← quotes_end start (codes "'") IncompleteLiteral
-      literal_word start (if_closed closed parts)
-      again tt)
+    parts ← quoted (codes "'")
+    closed ← quotes_end start (codes "'") IncompleteLiteral
+    literal_word start (if_closed closed parts)
+    again tt)
       ends)
 
   -- the string in the quotes here, of a word that begins at start
   unfoldable pub string_word : List ℕ → List ℕ → (List ℕ → Lexeme) → Turn (Unit {0})
   string_word start close lexeme = here (λ quote. case_of (codes "\"") (here (λ opened. do
-      quoted close
-      here (λ closing. do
-        quotes_end quote close IncompleteString
-        word_from len start (lexeme (before opened closing))
-        again tt)))
+    quoted close
+    here (λ closing. do
+      quotes_end quote close IncompleteString
+      word_from len start (lexeme (before opened closing))
+      again tt)))
       ends)
 
   unfoldable pub string : Turn (Unit {0})

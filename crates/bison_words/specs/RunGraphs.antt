@@ -1,5 +1,5 @@
 -- The programs of Runs find exactly what its relations say, and leave no longer rests.
-use Rattle.std.proofs.Common.{◌≡◌, ℕ, ◌+◌, ◌<◌, ◌≤◌, Bool, true, false, cond, List, [], ◌∷◌, length, min, Option, Some, None, Result, Ok, Err, refl, ap, subst, sym, ◌∙◌, arith, length-append, length-drop}
+use Rattle.std.proofs.Common.{◌≡◌, ℕ, ◌≤◌, true, cond, List, [], ◌∷◌, length, min, Some, None, Result, Ok, Err, refl, ap, subst, ◌∙◌, arith, length-drop}
 use Rattle.std.specs.List.{prefix_len}
 use Rattle.std.proofs.lemmas.Option.{some_pair_parts}
 use Rattle.lemmas.proofs.Options.{chosen}

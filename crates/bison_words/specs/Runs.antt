@@ -1,5 +1,5 @@
 -- Runs of one class of bytes, single bytes, and characters. `P text piece rest` says that the text is the piece followed by the rest.
-use Rattle.std.specs.Prelude.{◌≡◌, ℕ, Bool, true, List, [], ◌∷◌, ◌++◌, length, take, drop, min, Option, Some, None, Result, Ok, Err, if◌then◌else◌}
+use Rattle.std.specs.Prelude.{◌≡◌, ℕ, true, List, [], ◌∷◌, take, drop, min, Option, Some, None, Result, Ok, Err, if◌then◌else◌}
 use Rattle.std.specs.List.{prefix_len}
 use Rattle.constructs.specs.Pieces.{starts, IsRun, run}
 use Rattle.bison_words.specs.declared.class.Class.{Class}

@@ -1,7 +1,7 @@
 -- The words of a text, up to the second `%%` or the end, and the epilogue after that.
-use Rattle.std.specs.Prelude.{ℕ, Bool, true, false, List, [], ◌∷◌, ◌||◌, ◌&&◌, Option, Some, None, codes}
+use Rattle.std.specs.Prelude.{ℕ, Bool, false, List, ◌||◌, ◌&&◌, Option, Some, None, codes}
 use Rattle.constructs.specs.Pieces.{run, strip}
-use Rattle.constructs.specs.Construct.{Construct, ◌>>=◌, ◌>>◌, then, case_of, choice, here, again, ends, repeat, gives, emits}
+use Rattle.constructs.specs.Construct.{◌>>◌, then, case_of, choice, here, again, ends, repeat, gives, emits}
 use Rattle.bison_words.specs.declared.class.Class.TheVariants.{Space, Letter, NameByte, Digit, Mark as MarkByte}
 use Rattle.bison_words.specs.declared.directive.Directive.{Directive}
 use Rattle.bison_words.specs.declared.words.WordFaultKind.TheVariants.{IllegalCharacters, UnknownDirective}
@@ -13,7 +13,7 @@ use Rattle.bison_words.specs.Names.{is_identifier, is_colon, identifier, number,
 use Rattle.bison_words.specs.Quotes.{literal, string, translatable}
 use Rattle.bison_words.specs.Brackets.{tag, name}
 use Rattle.bison_words.specs.Code.{code, predicate, prologue, code_piece}
-use Rattle.bison_words.specs.Here.{Strict, Lax, Turn, TurnEnd, begins, starts_with, passes, some_or, word_from, odd_from}
+use Rattle.bison_words.specs.Here.{Lax, Turn, TurnEnd, begins, starts_with, passes, some_or, word_from, odd_from}
 
 -- `%?` and, maybe after blanks, a brace
 abbrev pub is_brace_left : Option (List ℕ) → Bool
@@ -58,24 +58,24 @@ module _ (len : ℕ) where
 
   unfoldable pub percent : Turn (Unit {0})
   percent = choice (begins (codes "%{")) (prologue len)
-    (choice is_predicate (predicate len)
-    directive)
+      (choice is_predicate (predicate len)
+      directive)
 
   unfoldable pub bracketed : Turn (Unit {0})
   bracketed = choice (begins (codes "'")) (literal len)
-    (choice (begins (codes "\"")) (string len)
-    (choice (begins (codes "<")) (tag len)
-    (choice (begins (codes "[")) (name len)
-    (choice (begins (codes "{")) (code len)
-    (odd len)))))
+      (choice (begins (codes "\"")) (string len)
+      (choice (begins (codes "<")) (tag len)
+      (choice (begins (codes "[")) (name len)
+      (choice (begins (codes "{")) (code len)
+      (odd len)))))
 
   unfoldable pub word : Turn (Unit {0})
   word = choice (begins (codes "%")) percent
-    (choice (begins (codes "_(\"")) (translatable len)
-    (choice is_identifier (identifier len)
-    (choice (starts_with Digit) (number len)
-    (choice is_mark (mark len)
-    bracketed))))
+      (choice (begins (codes "_(\"")) (translatable len)
+      (choice is_identifier (identifier len)
+      (choice (starts_with Digit) (number len)
+      (choice is_mark (mark len)
+      bracketed))))
 
   -- a blank and a word, unless a `%%` or the text's end follows
   unfoldable pub word_turn : Turn (Unit {0})
@@ -95,8 +95,8 @@ module _ (len : ℕ) where
   -- a `%%`, and what follows it
   unfoldable pub mark_then : Lax (Unit {0}) → Lax (Unit {0})
   mark_then c = here (λ start. case_of (codes "%%") (do
-      word_from len start Mark
-      c)
+    word_from len start Mark
+    c)
       (gives tt))
 
   unfoldable pub sections : Lax (Unit {0})

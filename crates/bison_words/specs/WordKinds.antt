@@ -1,11 +1,9 @@
 -- The kinds of pieces that words are made of. Each includes the proofs that its program finds exactly it, so this file refers to proofs.
-use Rattle.std.specs.Prelude.{◌≡◌, ℕ, Bool, true, List, [], ◌∷◌, ◌++◌, length, take, drop, min, Option, Some, None, Result, Ok, Err, if◌then◌else◌}
-use Rattle.std.specs.List.{prefix_len}
-use Rattle.constructs.specs.Pieces.{starts, IsRun, run, IsFirst, split_first}
+use Rattle.std.specs.Prelude.{ℕ, List, ◌∷◌}
+use Rattle.constructs.specs.Pieces.{IsFirst, split_first}
 use Rattle.constructs.specs.WordKind.{WordKind}
 use Rattle.constructs.specs.Silent.{PieceKind}
 use Rattle.bison_words.specs.declared.class.Class.{Class}
-use Rattle.bison_words.specs.Bytes.{holds}
 use Rattle.bison_words.specs.Runs.{Run, run_of, IsSome, some_of, IsByte, byte_of, few_of, Few, character_of, Character}
 use Rattle.bison_words.specs.RunGraphs.{run_graph, run_no_longer, some_finder, some_shorter, byte_finder, byte_shorter, first_finder, first_shorter, few_graph, few_no_longer, character_graph, character_no_longer}
 

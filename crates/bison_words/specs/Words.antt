@@ -3,7 +3,6 @@ use Rattle.std.specs.Prelude.{ℕ, List, [], ◌∷◌, Option, Some, None, leng
 use Rattle.cfgbase.specs.declared.span.Span.{Span}
 use Rattle.bison_words.specs.declared.directive.Directive.{Directive}
 use Rattle.bison_words.specs.declared.words.WordFault.{WordFault}
-use Rattle.bison_words.specs.declared.words.WordFaultKind.{WordFaultKind}
 use Rattle.bison_words.specs.declared.words.Lexeme.{Lexeme as CodeLexeme}
 use Rattle.bison_words.specs.declared.words.Lexeme.TheVariants as code
 use Rattle.bison_words.specs.declared.words.Word.{Word as CodeWord}

@@ -16,7 +16,10 @@ use std::alloc::AllocError;
 pub(crate) fn from_end(bytes: &[u8], n: usize) -> u8
     ensures { result ≡ from_end n bytes.now }
 {
-    bytes.get(bytes.len().saturating_sub(n)).copied().unwrap_or(0)
+    bytes
+        .get(bytes.len().saturating_sub(n))
+        .copied()
+        .unwrap_or(0)
 }
 
 fn ends_with_quote(line: &[u8]) -> bool

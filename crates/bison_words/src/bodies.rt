@@ -17,6 +17,7 @@ use cfgbase::Span;
 use std::alloc::AllocError;
 
 impl<'a> Scanner<'a> {
+    ghost use Rattle.bison_words.specs.Suffixes.{IsSuffix};
     ghost use Rattle.bison_words.specs.Inner.Builds.{Builds, Passed};
 
     /// Passes code up to the brace that closes it, and returns whether there is one.
@@ -36,7 +37,7 @@ impl<'a> Scanner<'a> {
 
     /// What the word is whose brace precedes `opened`, and which ends here.
     fn braces_lexeme(&self, opened: &'a str, is_predicate: bool) -> Lexeme<'a>
-        requires { length self.now.rest.now ≤ length opened.now }
+        requires { IsSuffix opened.now self.now.rest.now }
         ensures { lexeme_view result ≡ braces_lexeme (length self.now.text.now) is_predicate opened.now self.now.rest.now }
     {
         if is_predicate {
@@ -57,7 +58,8 @@ impl<'a> Scanner<'a> {
         is_predicate: bool,
         closed: bool,
     ) -> Result<(), AllocError>
-        requires { length self.old.rest.now ≤ length opened.now × length opened.now ≤ length start.now }
+        requires suffix { IsSuffix opened.now self.old.rest.now }
+        requires before { length opened.now ≤ length start.now }
         ensures read { Builds (λ x. x) self.old self.new result
             (code_end (length self.old.text.now) start.now opened.now
             (braces_lexeme (length self.old.text.now) is_predicate opened.now) closed) }
@@ -124,7 +126,7 @@ impl<'a> Scanner<'a> {
             (repeat (prologue_piece (length self.old.text.now))) }
         ensures passed { OnOk result (Passed self.old self.new) }
     {
-        while self.prologue_piece()?.is_some() {}
+        while let Some(_piece) = self.prologue_piece()? {}
         Ok(())
     }
 
@@ -163,7 +165,7 @@ impl<'a> Scanner<'a> {
             (repeat (code_piece (length self.old.text.now))) }
         ensures passed { OnOk result (Passed self.old self.new) }
     {
-        while self.code_piece()?.is_some() {}
+        while let Some(_piece) = self.code_piece()? {}
         Ok(())
     }
 }

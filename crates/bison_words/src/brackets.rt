@@ -55,12 +55,7 @@ impl<'a> Scanner<'a> {
 
     /// Adds the tag that begins at `start`, and whose `<` precedes `opened`.
     #[tactic(auto, unfolding(crate::specs::Brackets::tag_end))]
-    fn tag_end(
-        &mut self,
-        start: &'a str,
-        opened: &'a str,
-        closed: bool,
-    ) -> Result<(), AllocError>
+    fn tag_end(&mut self, start: &'a str, opened: &'a str, closed: bool) -> Result<(), AllocError>
         requires { length self.old.rest.now ≤ length opened.now × length opened.now ≤ length start.now }
         ensures read { Builds (λ x. x) self.old self.new result
             (tag_end (length self.old.text.now) start.now opened.now closed) }
@@ -110,12 +105,7 @@ impl<'a> Scanner<'a> {
 
     /// Adds the name in brackets that begins at `start`; a fault at `close` unless that is its closing bracket.
     #[tactic(auto, unfolding(crate::specs::Brackets::name_close))]
-    fn name_close(
-        &mut self,
-        start: &'a str,
-        close: &'a str,
-        proper: bool,
-    ) -> Result<(), AllocError>
+    fn name_close(&mut self, start: &'a str, close: &'a str, proper: bool) -> Result<(), AllocError>
         requires { length self.old.rest.now ≤ length start.now }
         ensures read { Builds (λ x. x) self.old self.new result
             (name_close (length self.old.text.now) start.now close.now proper) }
@@ -129,12 +119,7 @@ impl<'a> Scanner<'a> {
 
     /// Passes the bracket that closes the name that begins at `start`, and whatever precedes it.
     #[tactic(auto, unfolding(crate::specs::Brackets::name_end))]
-    fn name_end(
-        &mut self,
-        start: &'a str,
-        opened: &'a str,
-        found: bool,
-    ) -> Result<(), AllocError>
+    fn name_end(&mut self, start: &'a str, opened: &'a str, found: bool) -> Result<(), AllocError>
         requires { length self.old.rest.now ≤ length opened.now × length opened.now ≤ length start.now }
         ensures read { Builds (λ x. x) self.old self.new result
             (name_end (length self.old.text.now) start.now opened.now found) }

@@ -1,6 +1,6 @@
 //! Code: what is between braces, in a prologue, and in the epilogue.
 
-ghost use Rattle.std.specs.Prelude.{◌≡◌, ◌≤◌, length, Some, OnOk, codes};
+ghost use Rattle.std.specs.Prelude.{◌≡◌, ◌≤◌, ◌+◌, length, Some, OnOk};
 ghost use Rattle.constructs.specs.Construct.{goes_on, repeat};
 ghost use Rattle.bison_words.specs.Code.{is_line_left, is_splice, splice, splice_turn, splices, line_part, comment_part};
 ghost use Rattle.bison_words.specs.Code.{escaped_part, quotes_part, less_piece, percent_piece, without_brace};
@@ -198,7 +198,7 @@ impl<'a> Scanner<'a> {
     /// Passes what follows a `/`: a comment, if it is one.
     #[tactic(auto, unfolding(crate::specs::Code::slash_piece))]
     fn slash_piece(&mut self, start: &'a str) -> Result<Option<Nesting>, AllocError>
-        requires { 2 ≤ length start.now × length start.now ≤ length self.old.text.now }
+        requires { 1 + length self.old.rest.now ≤ length start.now × length start.now ≤ length self.old.text.now }
         ensures read { Builds (λ x. x) self.old self.new result
             (slash_piece (length self.old.text.now) start.now) }
         ensures passed { OnOk result (Passed self.old self.new) }

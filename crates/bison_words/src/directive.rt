@@ -1,7 +1,8 @@
 //! Directives, by their names.
 
-ghost use Rattle.std.specs.Prelude.{◌≡◌};
-ghost use Rattle.bison_words.specs.Directives.{directive_named, takes_equals};
+ghost use Rattle.std.specs.Prelude.{◌≡◌, map};
+ghost use Rattle.bison_words.specs.Directives.{named, directive_named, takes_equals};
+ghost use Rattle.bison_words.specs.Inner.Directives.{shown_row};
 
 /// A directive: what the name after a `%` says.
 #[derive(Clone, Copy, Debug, PartialEq, Eq)]
@@ -118,16 +119,23 @@ const SPELLINGS: [(&str, Directive); 59] = [
     ("merge", Directive::Merge),
 ];
 
-/// The directive of this name.
-pub fn directive_named(name: &str) -> Option<Directive>
-    ensures { result ≡ directive_named name.now }
+/// What the table has for this name.
+fn named(table: &[(&str, Directive)], name: &str) -> Option<Directive>
+    ensures { result ≡ named (map shown_row table.now) name.now }
 {
-    for (spelling, directive) in &SPELLINGS {
+    for (spelling, directive) in table {
         if *spelling == name {
             return Some(*directive);
         }
     }
     None
+}
+
+/// The directive of this name.
+pub fn directive_named(name: &str) -> Option<Directive>
+    ensures { result ≡ directive_named name.now }
+{
+    named(&SPELLINGS, name)
 }
 
 impl Directive {

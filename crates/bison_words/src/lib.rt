@@ -7,6 +7,7 @@ mod brackets;
 pub mod class;
 mod code;
 mod directive;
+mod laws;
 mod names;
 mod nesting;
 mod quotes;
@@ -16,5 +17,6 @@ mod text;
 mod words;
 
 pub use directive::Directive;
+pub use laws::text_words_is_graph;
 pub use text::read_words;
 pub use words::{Code, Lexeme, Word, WordFault, WordFaultKind, Words};

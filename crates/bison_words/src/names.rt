@@ -33,14 +33,14 @@ fn with_digit(base: usize, number: usize, b: u8) -> usize
 }
 
 /// The value of digits, or the greatest `usize` if it doesn't fit.
+#[tactic(auto, unfolding(crate::specs::Digits::number_of))]
 pub(crate) fn number_of(base: usize, digits: &str) -> usize
     ensures { result ≡ number_of base digits.now }
 {
-    let mut number = 0;
-    for b in digits.as_bytes() {
-        number = with_digit(base, number, *b);
-    }
-    number
+    digits
+        .as_bytes()
+        .iter()
+        .fold(0, |number, b| with_digit(base, number, *b))
 }
 
 impl<'a> Scanner<'a> {
@@ -93,12 +93,7 @@ impl<'a> Scanner<'a> {
 
     /// Adds the number that begins at `start` and has these digits; no letter may follow it.
     #[tactic(auto, unfolding(crate::specs::Names::number_end))]
-    fn number_end(
-        &mut self,
-        start: &'a str,
-        base: usize,
-        digits: &str,
-    ) -> Result<bool, AllocError>
+    fn number_end(&mut self, start: &'a str, base: usize, digits: &str) -> Result<bool, AllocError>
         requires { length self.old.rest.now ≤ length start.now }
         ensures read { Builds goes_on self.old self.new result
             (number_end (length self.old.text.now) start.now base digits.now) }

@@ -187,11 +187,7 @@ impl<'a> Scanner<'a> {
     }
 
     /// Adds a word that begins at `start` and ends here.
-    pub(crate) fn word_from(
-        &mut self,
-        start: &'a str,
-        lexeme: Lexeme<'a>,
-    ) -> Result<(), AllocError>
+    pub(crate) fn word_from(&mut self, start: &'a str, lexeme: Lexeme<'a>) -> Result<(), AllocError>
         requires { length self.old.rest.now ≤ length start.now }
         ensures read { Builds (λ x. x) self.old self.new result
             (word_from (length self.old.text.now) start.now (lexeme_view lexeme.entry)) }
@@ -262,11 +258,7 @@ impl<'a> Scanner<'a> {
     }
 
     /// The same from `start` up to here.
-    pub(crate) fn odd_from(
-        &mut self,
-        start: &'a str,
-        kind: WordFaultKind,
-    ) -> Result<(), AllocError>
+    pub(crate) fn odd_from(&mut self, start: &'a str, kind: WordFaultKind) -> Result<(), AllocError>
         requires { length self.old.rest.now ≤ length start.now }
         ensures read { Builds (λ x. x) self.old self.new result
             (odd_from (length self.old.text.now) start.now kind) }
@@ -277,11 +269,7 @@ impl<'a> Scanner<'a> {
 
     /// Adds such a fault for what begins at `start` and doesn't end, and passes the rest of the text.
     #[tactic(auto, unfolding(crate::specs::Here::unended))]
-    pub(crate) fn unended(
-        &mut self,
-        start: &'a str,
-        kind: WordFaultKind,
-    ) -> Result<(), AllocError>
+    pub(crate) fn unended(&mut self, start: &'a str, kind: WordFaultKind) -> Result<(), AllocError>
         requires { length self.old.rest.now ≤ length start.now }
         ensures read { Builds (λ x. x) self.old self.new result
             (unended (length self.old.text.now) start.now kind) }

@@ -244,7 +244,12 @@ pub fn read_words<'a>(alloc: Global, text: &'a str) -> Result<Words<'a>, AllocEr
 {
     let mut scanner = Scanner::new(alloc, text);
     scanner.text_words()?;
-    let Scanner { words, faults, epilogue, .. } = scanner;
+    let Scanner {
+        words,
+        faults,
+        epilogue,
+        ..
+    } = scanner;
     Ok(Words {
         words,
         faults,

@@ -1,8 +1,6 @@
 -- What a step of the scanner does, given what reading gives from there.
-use Rattle.std.specs.Prelude.{◌≡◌, ℕ, ◌≤◌, ◌-◌, Bool, List, [], ◌∷◌, ◌++◌, length, drop, map, Option, Some, None, option_map, Result, Ok, Err}
-use Rattle.std.specs.Prelude.{alloc_error}
+use Rattle.std.specs.Prelude.{◌≡◌, ℕ, ◌≤◌, List, [], ◌∷◌, ◌++◌, length, map, Option, Some, None, option_map, Result}
 use Rattle.std.specs.declared.alloc.AllocError.{AllocError}
-use denote.Ref.{Bor}
 use Rattle.constructs.specs.Leaves.{Gives, ValueOf, Leaves}
 use Rattle.constructs.specs.Construct.{Construct}
 use Rattle.constructs.specs.Steps as steps

@@ -3,5 +3,5 @@ use Rattle.std.specs.Prelude.{ℕ, Bool, true, false, List}
 use Rattle.bison_words.specs.Words.{Lexeme, String, Translatable}
 
 abbrev pub string_lexeme : Bool → List ℕ → Lexeme
-string_lexeme true text = Translatable text
-string_lexeme false text = String text
+string_lexeme true = Translatable
+string_lexeme false = String

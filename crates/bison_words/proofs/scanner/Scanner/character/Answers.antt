@@ -1,4 +1,3 @@
-use Rattle.std.proofs.Common.{sym}
 use Rattle.bison_words.proofs.Suffixes.{character_suffix}
 use Rattle.bison_words.proofs.scanner.Scanner.character.Goals as goal
 

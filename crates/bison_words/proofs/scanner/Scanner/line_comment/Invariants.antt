@@ -1,0 +1,10 @@
+use Rattle.std.proofs.Common.{length}
+use Rattle.bison_words.specs.Code.{line_part}
+use Rattle.bison_words.proofs.Loops.{Reads}
+use Rattle.bison_words.proofs.scanner.Scanner.line_comment.Given as goal
+
+abbrev pub invariant-loop : goal.invariant-loop
+invariant-loop l = Reads (λ _. line_part) l.fn.self l.self
+
+abbrev pub decreases-loop : goal.decreases-loop
+decreases-loop l = length l.self.rest.now

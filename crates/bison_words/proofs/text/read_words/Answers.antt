@@ -1,0 +1,6 @@
+use Rattle.std.proofs.Common.{refl}
+use Rattle.bison_words.proofs.Made.{text_read}
+use Rattle.bison_words.proofs.text.read_words.Goals as goal
+
+pub returns : goal.returns
+returns c = text_read c.args.text.now c.new-scanner.result c.text_words.new.self _ c.new-scanner.ensures.0 c.new-scanner.ensures.1 c.new-scanner.ensures.2 c.in_ok-text_words.ensures.read.2 refl
