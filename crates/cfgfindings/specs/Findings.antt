@@ -1,6 +1,7 @@
 -- The findings about a grammar without errors, given its syntax and its numbers. None are about rules and productions that the file doesn't
 -- have.
 use Rattle.std.specs.Prelude.{◌≡◌, ◌↔◌, ◌⊎◌, ℕ, ◌+◌, ◌<◌, ◌≤◌, List, [], ◌∷◌, ◌++◌, Contains, Option, Some, None, if◌then◌else◌, is_some, length, map, slice_get}
+use Rattle.std.specs.Option.{option_and_then}
 use Rattle.std.specs.List.Sorted.{IsPermutation, IsSortedByKey, IsStableByKey, IsStrictlyIncreasing}
 use Rattle.std.specs.Ordering.{nat_cmp}
 use Rattle.cfgrammar.specs.Grammar.{Sym, Rule, Token, HasProduction}
@@ -19,6 +20,13 @@ use Rattle.cfgrammar.specs.Numbered.{Numbered, core}
 use Rattle.cfgfindings.specs.SinkGroups.{DependsOn, IsInSinkGroup}
 use Rattle.cfgfindings.specs.Shown.{ShownFinding, cyclic_finding, no_sentence, offset_of, overridden_precedence, repeated, repeated_token, rule_name, shadowed_rule, start_without_sentence, unusable, unusable_rule, unused_precedence, unused_rule, unused_token, useless_rule, useless_token}
 use Rattle.cfgfindings.specs.Useless.{IsUseless}
+use Rattle.cfgfindings.specs.Words.{token_at, word_at}
+use Rattle.cfgfindings.specs.Glued.{glued}
+use Rattle.cfgfindings.specs.Needless.{ReportsUsedSymbol}
+use Rattle.cfgfindings.specs.Escapes.{escaped}
+use Rattle.cfgfindings.specs.Empty.{implicitly_empty}
+use Rattle.cfgfindings.specs.declared.words.Words.{Words}
+use Rattle.cfgfindings.specs.declared.words.Words.TheVariants.{Precedences, RepeatedTokens, Tokens}
 
 -- The findings for the numbers below this one, in order: `Reports n (Some finding)` says that this is the finding for n, and `Reports n None`
 -- that there is none.
@@ -215,8 +223,24 @@ module _ (s : Syntax) where
   ReportsUnusedPrecedence n (Some finding) = (name : List ℕ) × (span : Span) × IsUnusedPrecedence n name span × (finding ≡ unused_precedence name span)
   ReportsUnusedPrecedence n None = (name : List ℕ) (span : Span) → IsUnusedPrecedence n name span → ⊥
 
+-- the n-th word of a list directly follows the keyword of its declaration
+abbrev pub ReportsGlued : List ℕ → Syntax → Words → ℕ → Option ShownFinding → Type 0
+ReportsGlued text s words n reported = reported ≡ option_and_then (glued text) (word_at words s n)
+
+-- the n-th symbol of the `%expect-unused` lists is used
+abbrev pub ReportsNeedless : Syntax → Numbered → ℕ → Option ShownFinding → Type 0
+ReportsNeedless s g = ReportsUsedSymbol s.expect_unused g
+
+-- the name of the n-th token begins with a backslash and goes on after it
+abbrev pub ReportsEscaped : Syntax → ℕ → Option ShownFinding → Type 0
+ReportsEscaped s n reported = reported ≡ option_and_then escaped (token_at s n)
+
+-- the n-th production of the text has no symbols, and doesn't say so
+abbrev pub ReportsImplicitlyEmpty : List ℕ → Syntax → ℕ → Option ShownFinding → Type 0
+ReportsImplicitlyEmpty text s n reported = reported ≡ option_and_then (implicitly_empty text) (slice_get s.productions n)
+
 -- the findings for rules and tokens of the syntax, then those for rules, productions, precedences and declarations, one list after the other
-pub record AreReportedInTurn (s : Syntax) (g : Numbered) (reported : List ShownFinding) : Type 0 where
+pub record AreReportedInTurn (text : List ℕ) (s : Syntax) (g : Numbered) (reported : List ShownFinding) : Type 0 where
   pub unused_rules : List ShownFinding
   pub unused_tokens : List ShownFinding
   pub shadowed : List ShownFinding
@@ -228,6 +252,12 @@ pub record AreReportedInTurn (s : Syntax) (g : Numbered) (reported : List ShownF
   pub cycles : List ShownFinding
   pub repeats : List ShownFinding
   pub precedences : List ShownFinding
+  pub glued_tokens : List ShownFinding
+  pub glued_precedences : List ShownFinding
+  pub glued_repeated_tokens : List ShownFinding
+  pub needless : List ShownFinding
+  pub escapes : List ShownFinding
+  pub empty : List ShownFinding
   pub are_unused_rules : ReportsBelow (ReportsUnusedRule s) (length s.rules) unused_rules
   pub are_unused_tokens : ReportsBelow (ReportsUnusedToken s) (length s.tokens) unused_tokens
   pub are_shadowed : ReportsBelow (ReportsShadowedRule s) (length s.rules) shadowed
@@ -239,9 +269,16 @@ pub record AreReportedInTurn (s : Syntax) (g : Numbered) (reported : List ShownF
   pub are_cycles : ReportsBelow (ReportsGroup g) (length g.rules) cycles
   pub are_repeats : ReportsBelow (ReportsRepeated g) g.start_production repeats
   pub are_precedences : ReportsBelow (ReportsUnusedPrecedence s) (length s.tables.precedences) precedences
+  pub are_glued_tokens : ReportsBelow (ReportsGlued text s Tokens) (length s.tokens) glued_tokens
+  pub are_glued_precedences : ReportsBelow (ReportsGlued text s Precedences) (length s.tables.precedences) glued_precedences
+  pub are_glued_repeated_tokens : ReportsBelow (ReportsGlued text s RepeatedTokens) (length s.repeated_tokens) glued_repeated_tokens
+  pub are_needless : ReportsBelow (ReportsNeedless s g) (length s.expect_unused) needless
+  pub are_escapes : ReportsBelow (ReportsEscaped s) (length s.tokens) escapes
+  pub are_empty : ReportsBelow (ReportsImplicitlyEmpty text s) (length s.productions) empty
   pub is : reported ≡ unused_rules ++ (unused_tokens ++ (shadowed
       ++ (unproductive_rules ++ (unusable_rules ++ (unusable_productions ++ (useless_rules ++ (useless_tokens ++ (cycles ++ (repeats
-      ++ (precedences ++ (map repeated_token s.repeated_tokens ++ map overridden_precedence s.overridden_precedences)))))))))))
+      ++ (precedences ++ ((map repeated_token s.repeated_tokens ++ map overridden_precedence s.overridden_precedences)
+      ++ (glued_tokens ++ (glued_precedences ++ (glued_repeated_tokens ++ (needless ++ (escapes ++ empty))))))))))))))))
 
 -- the same findings sorted by offset; those at the same offset stay in their order
 pub record AreByOffset (reported all : List ShownFinding) : Type 0 where
@@ -249,8 +286,8 @@ pub record AreByOffset (reported all : List ShownFinding) : Type 0 where
   pub sorted : IsSortedByKey offset_of nat_cmp all
   pub stable : IsStableByKey offset_of nat_cmp reported all
 
--- all findings, each once
-pub record AreFindings (s : Syntax) (g : Numbered) (all : List ShownFinding) : Type 0 where
+-- all findings about a text, each once
+pub record AreFindings (text : List ℕ) (s : Syntax) (g : Numbered) (all : List ShownFinding) : Type 0 where
   pub reported : List ShownFinding
-  pub in_turn : AreReportedInTurn s g reported
+  pub in_turn : AreReportedInTurn text s g reported
   pub by_offset : AreByOffset reported all

@@ -4,10 +4,14 @@
 mod added;
 mod cyclic_rules;
 mod declarations;
+mod empty;
+mod escapes;
 pub mod finding;
 mod found;
+mod glued;
 mod marks;
 mod names;
+mod needless;
 mod precedences;
 mod repeats;
 mod reporter;
@@ -16,6 +20,7 @@ mod sink_groups;
 mod unproductive_rules;
 mod unused;
 mod useless;
+mod words;
 
 pub use finding::{Finding, FindingKind};
 pub use found::findings;

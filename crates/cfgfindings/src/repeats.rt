@@ -80,9 +80,10 @@ fn repeated(
     grammar.invariant_holds();
     let span = grammar.prod_span(PIdx(to_storage(number)));
     let earlier_span = grammar.prod_span(PIdx(to_storage(earlier)));
-    let text = String::from_str(
-        alloc,
-        "Repeated production: each sentence by it has two trees",
+    let rule = grammar.prod_to_rule(PIdx(to_storage(number)));
+    let name = grammar.rule_name_str(rule);
+    let text = format!(in alloc;
+        "Repeated production of rule '{name}': each sentence by it has two trees"
     )?;
     Finding::at_both(
         alloc,

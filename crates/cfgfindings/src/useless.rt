@@ -173,7 +173,7 @@ impl<'a> Reporter for UselessTokens<'a> {
 }
 
 /// A search that has reached what the start rule leads to: by all productions, or only by usable ones.
-fn searched(
+pub(crate) fn searched(
     alloc: Global,
     unproductive: &Unproductive<'_>,
     only_usable: bool,
@@ -263,7 +263,7 @@ fn reach_symbols(
 }
 
 /// The node of a symbol: the rules have the first ones.
-fn node_of(grammar: &YaccGrammar<u32>, symbol: Symbol<u32>) -> usize
+pub(crate) fn node_of(grammar: &YaccGrammar<u32>, symbol: Symbol<u32>) -> usize
     requires { IsSymbolWithin (λ s. s) grammar.now symbol }
     ensures value { result ≡ node_of grammar.now (sym_of (λ s. s) symbol) }
     ensures within { result < nodes grammar.now }

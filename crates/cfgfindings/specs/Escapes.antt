@@ -1,0 +1,18 @@
+-- Tokens that look like escapes: `'\n'` has the two characters `\` and `n`.
+use Rattle.std.specs.Prelude.{ℕ, Bool, false, ◌==◌, List, [], ◌∷◌, ◌++◌, codes, Option, None, Some, if◌then◌else◌}
+use Rattle.cfgrammar.specs.FileWords.{Word}
+use Rattle.finding_kinds.specs.declared.finding_kind.FindingKind.TheVariants.{EscapedToken}
+use Rattle.cfgfindings.specs.Shown.{ShownFinding, at_word}
+
+-- whether a name begins with a backslash and goes on after it
+abbrev pub is_escape : List ℕ → Bool
+is_escape [] = false
+is_escape (first ∷ []) = false
+is_escape (first ∷ (second ∷ rest)) = first == 92
+
+abbrev pub escaped_token : Word → ShownFinding
+escaped_token = at_word EscapedToken (codes "Token ") (codes " begins with a backslash: a quoted text has no escapes")
+
+-- the finding about a token, if its name is such a name
+abbrev pub escaped : Word → Option ShownFinding
+escaped word = if is_escape word.name then Some (escaped_token word) else None
