@@ -2,7 +2,7 @@
 use Rattle.std.specs.Prelude.{ℕ, Bool, false, ◌==◌, List, [], ◌∷◌, ◌++◌, codes, Option, None, Some, if◌then◌else◌}
 use Rattle.cfgrammar.specs.FileWords.{Word}
 use Rattle.finding_kinds.specs.declared.finding_kind.FindingKind.TheVariants.{EscapedToken}
-use Rattle.cfgfindings.specs.Shown.{ShownFinding, at_word}
+use Rattle.cfgfindings.specs.Shown.{ShownFinding}
 
 -- whether a name begins with a backslash and goes on after it
 abbrev pub is_escape : List ℕ → Bool
@@ -10,8 +10,13 @@ is_escape [] = false
 is_escape (first ∷ []) = false
 is_escape (first ∷ (second ∷ rest)) = first == 92
 
+-- that the token's name is such a name
 abbrev pub escaped_token : Word → ShownFinding
-escaped_token = at_word EscapedToken (codes "Token ") (codes " begins with a backslash: a quoted text has no escapes")
+escaped_token word = record {
+  kind = EscapedToken;
+  spans = word.span ∷ [];
+  text = codes "Token '" ++ (word.name ++ codes "' begins with a backslash: a quoted text has no escapes");
+}
 
 -- the finding about a token, if its name is such a name
 abbrev pub escaped : Word → Option ShownFinding

@@ -225,7 +225,7 @@ module _ (s : Syntax) where
 
 -- the n-th word of a list directly follows the keyword of its declaration
 abbrev pub ReportsGlued : List ℕ → Syntax → Words → ℕ → Option ShownFinding → Type 0
-ReportsGlued text s words n reported = reported ≡ option_and_then (glued text) (word_at words s n)
+ReportsGlued text s words n found = found ≡ option_and_then (glued text) (word_at words s n)
 
 -- the n-th symbol of the `%expect-unused` lists is used
 abbrev pub ReportsNeedless : Syntax → Numbered → ℕ → Option ShownFinding → Type 0
@@ -233,11 +233,11 @@ ReportsNeedless s g = ReportsUsedSymbol s.expect_unused g
 
 -- the name of the n-th token begins with a backslash and goes on after it
 abbrev pub ReportsEscaped : Syntax → ℕ → Option ShownFinding → Type 0
-ReportsEscaped s n reported = reported ≡ option_and_then escaped (token_at s n)
+ReportsEscaped s n found = found ≡ option_and_then escaped (token_at s n)
 
 -- the n-th production of the text has no symbols, and doesn't say so
 abbrev pub ReportsImplicitlyEmpty : List ℕ → Syntax → ℕ → Option ShownFinding → Type 0
-ReportsImplicitlyEmpty text s n reported = reported ≡ option_and_then (implicitly_empty text) (slice_get s.productions n)
+ReportsImplicitlyEmpty text s n found = found ≡ option_and_then (implicitly_empty text) (slice_get s.productions n)
 
 -- the findings for rules and tokens of the syntax, then those for rules, productions, precedences and declarations, one list after the other
 pub record AreReportedInTurn (text : List ℕ) (s : Syntax) (g : Numbered) (reported : List ShownFinding) : Type 0 where

@@ -1,12 +1,12 @@
 -- Symbols that `%expect-unused` names although they are used.
-use Rattle.std.specs.Prelude.{◌≡◌, ℕ, List, codes, Option, None, Some, option_map, position, slice_get, bytes_eq}
+use Rattle.std.specs.Prelude.{◌≡◌, ℕ, List, [], ◌∷◌, ◌++◌, codes, Option, None, Some, option_map, position, slice_get, bytes_eq}
 use Rattle.cfgrammar.specs.Accessors.{has_token_name}
 use Rattle.cfgrammar.specs.FileWords.{Word}
 use Rattle.cfgrammar.specs.Grammar.{HasProduction, Sym, Rule, Token}
 use Rattle.cfgrammar.specs.Numbered.{Numbered, core}
 use Rattle.cfgrammar.specs.Syntax.{Symbol, RuleSymbol, TokenSymbol}
 use Rattle.finding_kinds.specs.declared.finding_kind.FindingKind.TheVariants.{NeedlessExpectUnused}
-use Rattle.cfgfindings.specs.Shown.{ShownFinding, at_word}
+use Rattle.cfgfindings.specs.Shown.{ShownFinding}
 use Rattle.cfgfindings.specs.Useless.{IsReachable}
 
 -- the symbol of the grammar with this name
@@ -22,8 +22,16 @@ pub record IsUsedSymbol (g : Numbered) (symbol : Symbol) : Type 0 where
 
 -- that the symbol is used
 abbrev pub needless : Symbol → ShownFinding
-needless (RuleSymbol word) = at_word NeedlessExpectUnused (codes "Needless %expect-unused: rule ") (codes " is used") word
-needless (TokenSymbol word) = at_word NeedlessExpectUnused (codes "Needless %expect-unused: token ") (codes " is used") word
+needless (RuleSymbol word) = record {
+  kind = NeedlessExpectUnused;
+  spans = word.span ∷ [];
+  text = codes "Needless %expect-unused: rule '" ++ (word.name ++ codes "' is used");
+}
+needless (TokenSymbol word) = record {
+  kind = NeedlessExpectUnused;
+  spans = word.span ∷ [];
+  text = codes "Needless %expect-unused: token '" ++ (word.name ++ codes "' is used");
+}
 
 -- the n-th of these symbols is used
 pub record IsNeedless (symbols : List Symbol) (g : Numbered) (n : ℕ) (symbol : Symbol) : Type 0 where

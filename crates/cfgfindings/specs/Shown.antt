@@ -139,8 +139,7 @@ module _ (g : Numbered) where
   repeated p earlier = record {
     kind = RepeatedProduction;
     spans = production_span p ∷ (production_span earlier ∷ []);
-    text = codes "Repeated production of rule "
-        ++ (quoted (rule_name (nth_production (core g) p).rule) ++ codes ": each sentence by it has two trees");
+    text = codes "Repeated production of rule '" ++ (rule_name (nth_production (core g) p).rule ++ codes "': each sentence by it has two trees");
   }
 
 -- that the precedence of the token with this name, which is given here, is unused

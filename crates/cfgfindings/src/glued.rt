@@ -1,6 +1,6 @@
 //! Keywords of declarations that no blank parts from their first name: `%tokens` is `%token s`.
 
-ghost use Rattle.std.specs.Prelude.{◌≡◌, ◌++◌, length, option_map, List, IfOk, OnOk};
+ghost use Rattle.std.specs.Prelude.{◌≡◌, ◌==◌, ◌++◌, length, option_map, List, IfOk, OnOk};
 ghost use Rattle.std.specs.List.{ends_with};
 ghost use Rattle.cfgrammar.specs.TreeView.{syntax};
 ghost use Rattle.cfgfindings.specs.Findings.{ReportsBelow, ReportsGlued};
@@ -26,9 +26,9 @@ pub(crate) fn push_glued(
     ensures { OnOk result ((tokens precedences repeated : List ShownFinding)
         × ReportsBelow (ReportsGlued text.now (syntax ast.now) Tokens) (length (syntax ast.now).tokens) tokens
         × ReportsBelow (ReportsGlued text.now (syntax ast.now) Precedences)
-            (length (syntax ast.now).tables.precedences) precedences
+        (length (syntax ast.now).tables.precedences) precedences
         × ReportsBelow (ReportsGlued text.now (syntax ast.now) RepeatedTokens)
-            (length (syntax ast.now).repeated_tokens) repeated
+        (length (syntax ast.now).repeated_tokens) repeated
         × (all.new.items ≡ all.old.items ++ (tokens ++ (precedences ++ repeated)))) }
 {
     let tokens = GluedWords {
@@ -78,12 +78,7 @@ impl Reporter for GluedWords<'_> {
 }
 
 /// The finding that a name directly follows the keyword of its declaration, if it does.
-fn glued(
-    alloc: Global,
-    text: &str,
-    name: &str,
-    span: Span,
-) -> Result<Option<Finding>, AllocError>
+fn glued(alloc: Global, text: &str, name: &str, span: Span) -> Result<Option<Finding>, AllocError>
     ensures { IfOk result (λ found. found ≡ glued text.now (record { name = name.now; span = span })) }
 {
     let Some(keyword) = keyword_before(text, span.start()) else {

@@ -1,7 +1,7 @@
 //! Symbols that `%expect-unused` names although they are used.
 
-ghost use Rattle.std.specs.Prelude.{◌≡◌, ◌↔◌, ◌++◌, length, option_map, IfOk, IfSome, IsTrue, MatchBool, OnOk};
-ghost use Rattle.cfgrammar.specs.Accessors.{IsSymbolWithin};
+ghost use Rattle.std.specs.Prelude.{◌≡◌, ◌↔◌, ◌+◌, ◌++◌, ◌<◌, length, option_map, position, IfOk, IfSome, IsTrue, OnOk};
+ghost use Rattle.cfgrammar.specs.Accessors.{IsSymbolWithin, has_token_name};
 ghost use Rattle.cfgrammar.specs.NumberedSymbols.{sym_of};
 ghost use Rattle.cfgrammar.specs.SyntaxView.{symbol_view};
 ghost use Rattle.cfgrammar.specs.TreeView.{syntax};
@@ -12,9 +12,9 @@ use crate::finding::{Finding, FindingKind};
 use crate::reporter::{Reporter, push_reported};
 use crate::sentences::Unproductive;
 use crate::useless::{node_of, searched};
-use cfgrammar::Symbol;
 use cfgrammar::yacc::YaccGrammar;
 use cfgrammar::yacc::ast::{GrammarAST, Symbol as AstSymbol};
+use cfgrammar::{Symbol, TIdx};
 use search::Search;
 use std::alloc::{AllocError, Global};
 use std::marker::Model;
@@ -34,7 +34,15 @@ pub(crate) fn push_needless(
         return Ok(());
     }
     let used = Used::new(alloc, unproductive)?;
-    push_reported(alloc, all, &NeedlessSymbols { symbols, used: &used }, symbols.len())
+    push_reported(
+        alloc,
+        all,
+        &NeedlessSymbols {
+            symbols,
+            used: &used,
+        },
+        symbols.len(),
+    )
 }
 
 /// A grammar, and what its start rule reaches.
@@ -85,8 +93,29 @@ fn named(grammar: &YaccGrammar<u32>, symbol: &AstSymbol) -> Option<Symbol<u32>>
     ensures within { IfSome result (IsSymbolWithin (λ s. s) grammar.now) }
 {
     match symbol {
-        AstSymbol::Rule(name, _) => Some(Symbol::Rule(grammar.rule_idx(name)?)),
-        AstSymbol::Token(name, _) => Some(Symbol::Token(grammar.token_idx(name)?)),
+        AstSymbol::Rule(name, _) => match grammar.rule_idx(name) {
+            Some(rule) => Some(Symbol::Rule(rule)),
+            None => None,
+        },
+        AstSymbol::Token(name, _) => match named_token(grammar, name) {
+            Some(token) => Some(Symbol::Token(token)),
+            None => None,
+        },
+    }
+}
+
+/// The token of the grammar with this name, which isn't the end token.
+fn named_token(grammar: &YaccGrammar<u32>, name: &str) -> Option<TIdx<u32>>
+    ensures value { option_map (λ token. token.0) result ≡ position (has_token_name name.now) grammar.now.tokens }
+    ensures within { IfSome result (λ token. token.0 + 1 < length grammar.now.tokens) }
+{
+    match grammar.token_idx(name) {
+        Some(token) => {
+            // A token with a name isn't the end token.
+            let _name = grammar.token_name(token);
+            Some(token)
+        }
+        None => None,
     }
 }
 
@@ -118,13 +147,15 @@ impl Reporter for NeedlessSymbols<'_> {
 fn needless(alloc: Global, symbol: &AstSymbol) -> Result<Finding, AllocError>
     ensures { IfOk result (λ x. x ≡ needless (symbol_view symbol.now)) }
 {
-    let (text, span) = match symbol {
+    let kind = FindingKind::NeedlessExpectUnused;
+    match symbol {
         AstSymbol::Rule(name, span) => {
-            (format!(in alloc; "Needless %expect-unused: rule '{name}' is used")?, *span)
+            let text = format!(in alloc; "Needless %expect-unused: rule '{name}' is used")?;
+            Finding::at(alloc, kind, *span, text)
         }
         AstSymbol::Token(name, span) => {
-            (format!(in alloc; "Needless %expect-unused: token '{name}' is used")?, *span)
+            let text = format!(in alloc; "Needless %expect-unused: token '{name}' is used")?;
+            Finding::at(alloc, kind, *span, text)
         }
-    };
-    Finding::at(alloc, FindingKind::NeedlessExpectUnused, span, text)
+    }
 }

@@ -8,7 +8,7 @@ ghost use Rattle.cfgfindings.specs.contracts.repeats.ShapePartialEq.TheImpl.{gho
 ghost use Rattle.cfgfindings.specs.declared.repeats.Shape.{Shape};
 ghost use Rattle.cfgfindings.specs.Findings.{ReportsBelow, ReportsRepeated};
 ghost use Rattle.cfgfindings.specs.Inner.FirstProductions.{AreFirsts, production_of};
-ghost use Rattle.cfgfindings.specs.Shown.{repeated};
+ghost use Rattle.cfgfindings.specs.Shown.{repeated, rule_name};
 
 use crate::finding::{Finding, FindingKind};
 use crate::reporter::{Reporter, push_reported};
@@ -80,8 +80,7 @@ fn repeated(
     grammar.invariant_holds();
     let span = grammar.prod_span(PIdx(to_storage(number)));
     let earlier_span = grammar.prod_span(PIdx(to_storage(earlier)));
-    let rule = grammar.prod_to_rule(PIdx(to_storage(number)));
-    let name = grammar.rule_name_str(rule);
+    let name = owner_name(grammar, number);
     let text = format!(in alloc;
         "Repeated production of rule '{name}': each sentence by it has two trees"
     )?;
@@ -92,6 +91,15 @@ fn repeated(
         earlier_span,
         text,
     )
+}
+
+/// The name of the production's rule.
+fn owner_name(grammar: &YaccGrammar<u32>, number: usize) -> &str
+    requires { number < length grammar.now.productions }
+    ensures { result.now ≡ rule_name grammar.now (nth_production (core grammar.now) number).rule }
+{
+    grammar.invariant_holds();
+    grammar.rule_name_str(grammar.prod_to_rule(PIdx(to_storage(number))))
 }
 
 /// The rule and the symbols of a production.

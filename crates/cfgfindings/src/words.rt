@@ -35,8 +35,12 @@ impl Words {
 pub(crate) fn token_at(ast: &GrammarAST, number: usize) -> Option<(&str, Span)>
     ensures { option_map (λ word. record { name = word.0.now; span = word.1 }) result ≡ token_at (syntax ast.now) number }
 {
-    let name = ast.tokens().get_index(number)?;
-    let span = ast.spans().get(number)?;
+    let Some(name) = ast.tokens().get_index(number) else {
+        return None;
+    };
+    let Some(span) = ast.spans().get(number) else {
+        return None;
+    };
     Some((name.as_str(), *span))
 }
 
@@ -44,7 +48,9 @@ pub(crate) fn token_at(ast: &GrammarAST, number: usize) -> Option<(&str, Span)>
 fn precedence_at(ast: &GrammarAST, number: usize) -> Option<(&str, Span)>
     ensures { option_map (λ word. record { name = word.0.now; span = word.1 }) result ≡ precedence_at (syntax ast.now) number }
 {
-    let (name, (_, span)) = ast.precs().get_index(number)?;
+    let Some((name, (_, span))) = ast.precs().get_index(number) else {
+        return None;
+    };
     Some((name.as_str(), *span))
 }
 
@@ -52,6 +58,8 @@ fn precedence_at(ast: &GrammarAST, number: usize) -> Option<(&str, Span)>
 fn repeated_token_at(ast: &GrammarAST, number: usize) -> Option<(&str, Span)>
     ensures { option_map (λ word. record { name = word.0.now; span = word.1 }) result ≡ slice_get (syntax ast.now).repeated_tokens number }
 {
-    let (name, span) = ast.repeated_tokens().get(number)?;
+    let Some((name, span)) = ast.repeated_tokens().get(number) else {
+        return None;
+    };
     Some((name.as_str(), *span))
 }
