@@ -1,7 +1,6 @@
 -- The findings about a grammar without errors, given its syntax and its numbers. None are about rules and productions that the file doesn't
 -- have.
 use Rattle.std.specs.Prelude.{◌≡◌, ◌↔◌, ◌⊎◌, ℕ, ◌+◌, ◌<◌, ◌≤◌, List, [], ◌∷◌, ◌++◌, Contains, Option, Some, None, if◌then◌else◌, is_some, length, map, slice_get}
-use Rattle.std.specs.Option.{option_and_then}
 use Rattle.std.specs.List.Sorted.{IsPermutation, IsSortedByKey, IsStableByKey, IsStrictlyIncreasing}
 use Rattle.std.specs.Ordering.{nat_cmp}
 use Rattle.cfgrammar.specs.Grammar.{Sym, Rule, Token, HasProduction}
@@ -20,22 +19,12 @@ use Rattle.cfgrammar.specs.Numbered.{Numbered, core}
 use Rattle.cfgfindings.specs.SinkGroups.{DependsOn, IsInSinkGroup}
 use Rattle.cfgfindings.specs.Shown.{ShownFinding, cyclic_finding, no_sentence, offset_of, overridden_precedence, repeated, repeated_token, rule_name, shadowed_rule, start_without_sentence, unusable, unusable_rule, unused_precedence, unused_rule, unused_token, useless_rule, useless_token}
 use Rattle.cfgfindings.specs.Useless.{IsUseless}
-use Rattle.cfgfindings.specs.Words.{token_at, word_at}
-use Rattle.cfgfindings.specs.Glued.{glued}
+use Rattle.text_findings.specs.Glued.{ReportsGlued}
+use Rattle.text_findings.specs.Escapes.{ReportsEscaped}
+use Rattle.text_findings.specs.Empty.{ReportsImplicitlyEmpty}
+pub use Rattle.text_findings.specs.Reports.{ReportsBelow, none, reported, left}
 use Rattle.cfgfindings.specs.Needless.{ReportsUsedSymbol}
-use Rattle.cfgfindings.specs.Escapes.{escaped}
-use Rattle.cfgfindings.specs.Empty.{implicitly_empty}
-use Rattle.cfgfindings.specs.declared.words.Words.{Words}
-use Rattle.cfgfindings.specs.declared.words.Words.TheVariants.{Precedences, RepeatedTokens, Tokens}
-
--- The findings for the numbers below this one, in order: `Reports n (Some finding)` says that this is the finding for n, and `Reports n None`
--- that there is none.
-pub data ReportsBelow (Reports : ℕ → Option ShownFinding → Type 0) : ℕ → List ShownFinding → Type 0 where
-  none : ReportsBelow Reports 0 []
-  reported : {n : ℕ} {findings : List ShownFinding} {finding : ShownFinding}
-      → ReportsBelow Reports n findings → Reports n (Some finding) → ReportsBelow Reports (n + 1) (findings ++ finding ∷ [])
-  left : {n : ℕ} {findings : List ShownFinding}
-      → ReportsBelow Reports n findings → Reports n None → ReportsBelow Reports (n + 1) findings
+use Rattle.text_findings.specs.declared.words.Words.TheVariants.{Precedences, RepeatedTokens, Tokens}
 
 module _ (g : Numbered) where
   -- how many rules are added before those of the file: the start rule, and in a file with implicit tokens two more for these
@@ -223,21 +212,9 @@ module _ (s : Syntax) where
   ReportsUnusedPrecedence n (Some finding) = (name : List ℕ) × (span : Span) × IsUnusedPrecedence n name span × (finding ≡ unused_precedence name span)
   ReportsUnusedPrecedence n None = (name : List ℕ) (span : Span) → IsUnusedPrecedence n name span → ⊥
 
--- the n-th word of a list directly follows the keyword of its declaration
-abbrev pub ReportsGlued : List ℕ → Syntax → Words → ℕ → Option ShownFinding → Type 0
-ReportsGlued text s words n found = found ≡ option_and_then (glued text) (word_at words s n)
-
 -- the n-th symbol of the `%expect-unused` lists is used
 abbrev pub ReportsNeedless : Syntax → Numbered → ℕ → Option ShownFinding → Type 0
 ReportsNeedless s g = ReportsUsedSymbol s.expect_unused g
-
--- the name of the n-th token begins with a backslash and goes on after it
-abbrev pub ReportsEscaped : Syntax → ℕ → Option ShownFinding → Type 0
-ReportsEscaped s n found = found ≡ option_and_then escaped (token_at s n)
-
--- the n-th production of the text has no symbols, and doesn't say so
-abbrev pub ReportsImplicitlyEmpty : List ℕ → Syntax → ℕ → Option ShownFinding → Type 0
-ReportsImplicitlyEmpty text s n found = found ≡ option_and_then (implicitly_empty text) (slice_get s.productions n)
 
 -- the findings for rules and tokens of the syntax, then those for rules, productions, precedences and declarations, one list after the other
 pub record AreReportedInTurn (text : List ℕ) (s : Syntax) (g : Numbered) (reported : List ShownFinding) : Type 0 where

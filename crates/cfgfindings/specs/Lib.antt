@@ -1,8 +1,4 @@
 pub mod Shown
-pub mod Words
-pub mod Glued
-pub mod Escapes
-pub mod Empty
 pub mod Useless
 pub mod Needless
 pub mod SinkGroups

@@ -6,10 +6,6 @@ ghost use Rattle.cfgfindings.specs.Findings.{AreFindings};
 
 use crate::cyclic_rules::push_cycles;
 use crate::declarations::push_declarations;
-use crate::empty::push_implicitly_empty;
-use crate::escapes::push_escaped;
-use crate::finding::Finding;
-use crate::glued::push_glued;
 use crate::needless::push_needless;
 use crate::precedences::push_precedences;
 use crate::repeats::push_repeats;
@@ -20,6 +16,7 @@ use crate::useless::push_useless;
 use cfgrammar::yacc::YaccGrammar;
 use cfgrammar::yacc::ast::GrammarAST;
 use std::alloc::{AllocError, Global};
+use text_findings::{Finding, push_escaped, push_glued, push_implicitly_empty};
 
 /// The findings about a grammar without errors, by offset; those at the same offset are in the order of
 /// [`FindingKind`](crate::FindingKind). `ast` is the tree of the text, and `grammar` its numbers. Where the two say

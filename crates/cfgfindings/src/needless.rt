@@ -8,8 +8,6 @@ ghost use Rattle.cfgrammar.specs.TreeView.{syntax};
 ghost use Rattle.cfgfindings.specs.Findings.{ReportsBelow, ReportsNeedless};
 ghost use Rattle.cfgfindings.specs.Needless.{IsUsedSymbol, needless, symbol_named};
 
-use crate::finding::{Finding, FindingKind};
-use crate::reporter::{Reporter, push_reported};
 use crate::sentences::Unproductive;
 use crate::useless::{node_of, searched};
 use cfgrammar::yacc::YaccGrammar;
@@ -18,6 +16,7 @@ use cfgrammar::{Symbol, TIdx};
 use search::Search;
 use std::alloc::{AllocError, Global};
 use std::marker::Model;
+use text_findings::{Finding, FindingKind, Reporter, push_reported};
 
 /// Adds the symbols of `%expect-unused` lists that the start rule reaches to the findings.
 pub(crate) fn push_needless(

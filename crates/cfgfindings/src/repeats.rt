@@ -10,14 +10,13 @@ ghost use Rattle.cfgfindings.specs.Findings.{ReportsBelow, ReportsRepeated};
 ghost use Rattle.cfgfindings.specs.Inner.FirstProductions.{AreFirsts, production_of};
 ghost use Rattle.cfgfindings.specs.Shown.{repeated, rule_name};
 
-use crate::finding::{Finding, FindingKind};
-use crate::reporter::{Reporter, push_reported};
 use cfgrammar::laws::symbols_are_their_indices;
 use cfgrammar::storage::to_storage;
 use cfgrammar::yacc::YaccGrammar;
 use cfgrammar::{PIdx, Symbol};
 use std::alloc::{AllocError, Global};
 use std::collections::HashMap;
+use text_findings::{Finding, FindingKind, Reporter, push_reported};
 
 /// Adds the productions with the symbols of an earlier one of their rule to the findings.
 ///

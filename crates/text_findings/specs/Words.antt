@@ -5,8 +5,8 @@ use Rattle.cfgrammar.specs.FileWords.{Word}
 use Rattle.cfgrammar.specs.Span.{Span}
 use Rattle.cfgrammar.specs.Precedence.{Precedence}
 use Rattle.cfgrammar.specs.Syntax.{Syntax}
-use Rattle.cfgfindings.specs.declared.words.Words.{Words}
-use Rattle.cfgfindings.specs.declared.words.Words.TheVariants.{Precedences, RepeatedTokens, Tokens}
+use Rattle.text_findings.specs.declared.words.Words.{Words}
+use Rattle.text_findings.specs.declared.words.Words.TheVariants.{Precedences, RepeatedTokens, Tokens}
 
 -- the n-th token, where it first occurs
 abbrev pub token_at : Syntax → ℕ → Option Word

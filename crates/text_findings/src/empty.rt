@@ -4,8 +4,8 @@ ghost use Rattle.std.specs.Prelude.{◌≡◌, ◌++◌, length, IfOk, OnOk};
 ghost use Rattle.std.specs.List.{starts_with};
 ghost use Rattle.cfgrammar.specs.TreeView.{syntax};
 ghost use Rattle.cfgrammar.specs.SyntaxView.{production_view};
-ghost use Rattle.cfgfindings.specs.Findings.{ReportsBelow, ReportsImplicitlyEmpty};
-ghost use Rattle.cfgfindings.specs.Empty.{begins_at, implicitly_empty, is_implicitly_empty};
+ghost use Rattle.text_findings.specs.Reports.{ReportsBelow};
+ghost use Rattle.text_findings.specs.Empty.{ReportsImplicitlyEmpty, begins_at, implicitly_empty, is_implicitly_empty};
 
 use crate::finding::{Finding, FindingKind};
 use crate::reporter::{Reporter, push_reported};
@@ -13,7 +13,7 @@ use cfgrammar::yacc::ast::{GrammarAST, Production};
 use std::alloc::{AllocError, Global};
 
 /// Adds the productions without symbols that don't say so to the findings.
-pub(crate) fn push_implicitly_empty(
+pub fn push_implicitly_empty(
     alloc: Global,
     all: &mut Vec<Finding>,
     text: &str,
@@ -36,7 +36,7 @@ struct ImplicitlyEmpty<'a> {
 impl Reporter for ImplicitlyEmpty<'_> {
     ghost use Rattle.std.specs.Prelude.{length};
     ghost use Rattle.cfgrammar.specs.TreeView.{syntax};
-    ghost use Rattle.cfgfindings.specs.Findings.{ReportsImplicitlyEmpty};
+    ghost use Rattle.text_findings.specs.Empty.{ReportsImplicitlyEmpty};
 
     ghost count = { λ x. length (syntax x.ast.now).productions };
 

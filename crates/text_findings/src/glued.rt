@@ -3,10 +3,10 @@
 ghost use Rattle.std.specs.Prelude.{◌≡◌, ◌==◌, ◌++◌, length, option_map, List, IfOk, OnOk};
 ghost use Rattle.std.specs.List.{ends_with};
 ghost use Rattle.cfgrammar.specs.TreeView.{syntax};
-ghost use Rattle.cfgfindings.specs.Findings.{ReportsBelow, ReportsGlued};
-ghost use Rattle.cfgfindings.specs.Glued.{glued, keyword_at_end, keyword_before};
-ghost use Rattle.cfgfindings.specs.Shown.{ShownFinding};
-ghost use Rattle.cfgfindings.specs.declared.words.Words.TheVariants.{Precedences, RepeatedTokens, Tokens};
+ghost use Rattle.text_findings.specs.Reports.{ReportsBelow};
+ghost use Rattle.text_findings.specs.Glued.{ReportsGlued, glued, keyword_at_end, keyword_before};
+ghost use Rattle.text_findings.specs.Finding.{ShownFinding};
+ghost use Rattle.text_findings.specs.declared.words.Words.TheVariants.{Precedences, RepeatedTokens, Tokens};
 
 use crate::finding::{Finding, FindingKind};
 use crate::reporter::{Reporter, push_reported};
@@ -17,7 +17,7 @@ use std::alloc::{AllocError, Global};
 
 /// Adds a finding for each token, then for each precedence and for each repeated token, that directly follows the
 /// keyword of its declaration.
-pub(crate) fn push_glued(
+pub fn push_glued(
     alloc: Global,
     all: &mut Vec<Finding>,
     text: &str,
@@ -62,8 +62,8 @@ struct GluedWords<'a> {
 impl Reporter for GluedWords<'_> {
     ghost use Rattle.std.specs.Prelude.{length};
     ghost use Rattle.cfgrammar.specs.TreeView.{syntax};
-    ghost use Rattle.cfgfindings.specs.Findings.{ReportsGlued};
-    ghost use Rattle.cfgfindings.specs.Words.{word_count};
+    ghost use Rattle.text_findings.specs.Glued.{ReportsGlued};
+    ghost use Rattle.text_findings.specs.Words.{word_count};
 
     ghost count = { λ x. word_count x.words (syntax x.ast.now) };
 

@@ -1,9 +1,10 @@
 -- Productions without symbols that don't say so.
-use Rattle.std.specs.Prelude.{ℕ, Bool, ◌==◌, ◌&&◌, not, List, [], ◌∷◌, codes, drop, length, Option, None, Some, if◌then◌else◌}
+use Rattle.std.specs.Prelude.{◌≡◌, ℕ, Bool, ◌==◌, ◌&&◌, not, List, [], ◌∷◌, codes, drop, length, slice_get, Option, None, Some, if◌then◌else◌}
 use Rattle.std.specs.List.{starts_with}
-use Rattle.cfgrammar.specs.Syntax.{Production}
+use Rattle.std.specs.Option.{option_and_then}
+use Rattle.cfgrammar.specs.Syntax.{Production, Syntax}
 use Rattle.finding_kinds.specs.declared.finding_kind.FindingKind.TheVariants.{ImplicitEmpty}
-use Rattle.cfgfindings.specs.Shown.{ShownFinding}
+use Rattle.text_findings.specs.Finding.{ShownFinding}
 
 -- whether the text goes on with the word at this offset
 abbrev pub begins_at : List ℕ → ℕ → List ℕ → Bool
@@ -21,3 +22,7 @@ abbrev pub implicitly_empty : List ℕ → Production → Option ShownFinding
 implicitly_empty text production = if is_implicitly_empty text production
     then Some (record { kind = ImplicitEmpty; spans = production.span ∷ []; text = codes "Empty production without %empty" })
     else None
+
+-- the n-th production of the text has no symbols, and doesn't say so
+abbrev pub ReportsImplicitlyEmpty : List ℕ → Syntax → ℕ → Option ShownFinding → Type 0
+ReportsImplicitlyEmpty text s n found = found ≡ option_and_then (implicitly_empty text) (slice_get s.productions n)

@@ -2,14 +2,14 @@
 
 ghost use Rattle.std.specs.Prelude.{◌≡◌, option_map, slice_get};
 ghost use Rattle.cfgrammar.specs.TreeView.{syntax};
-ghost use Rattle.cfgfindings.specs.Words.{precedence_at, token_at, word_at};
+ghost use Rattle.text_findings.specs.Words.{precedence_at, token_at, word_at};
 
 use cfgrammar::Span;
 use cfgrammar::yacc::ast::GrammarAST;
 
 /// Lists of a tree's words.
 #[derive(Clone, Copy)]
-pub(crate) enum Words {
+pub enum Words {
     /// The tokens.
     Tokens,
     /// The tokens that are given a precedence.
@@ -20,7 +20,7 @@ pub(crate) enum Words {
 
 impl Words {
     /// The word with this number in the list, if it has so many.
-    pub(crate) fn get(self, ast: &GrammarAST, number: usize) -> Option<(&str, Span)>
+    pub fn get(self, ast: &GrammarAST, number: usize) -> Option<(&str, Span)>
         ensures { option_map (λ word. record { name = word.0.now; span = word.1 }) result ≡ word_at self (syntax ast.now) number }
     {
         match self {
@@ -32,7 +32,7 @@ impl Words {
 }
 
 /// The token with this number, where it first occurs.
-pub(crate) fn token_at(ast: &GrammarAST, number: usize) -> Option<(&str, Span)>
+pub fn token_at(ast: &GrammarAST, number: usize) -> Option<(&str, Span)>
     ensures { option_map (λ word. record { name = word.0.now; span = word.1 }) result ≡ token_at (syntax ast.now) number }
 {
     let Some(name) = ast.tokens().get_index(number) else {

@@ -2,8 +2,8 @@
 
 ghost use Rattle.std.specs.Prelude.{◌≡◌, ◌++◌, length, IfOk, OnOk};
 ghost use Rattle.cfgrammar.specs.TreeView.{syntax};
-ghost use Rattle.cfgfindings.specs.Findings.{ReportsBelow, ReportsEscaped};
-ghost use Rattle.cfgfindings.specs.Escapes.{escaped, is_escape};
+ghost use Rattle.text_findings.specs.Reports.{ReportsBelow};
+ghost use Rattle.text_findings.specs.Escapes.{ReportsEscaped, escaped, is_escape};
 
 use crate::finding::{Finding, FindingKind};
 use crate::reporter::{Reporter, push_reported};
@@ -13,7 +13,7 @@ use cfgrammar::yacc::ast::GrammarAST;
 use std::alloc::{AllocError, Global};
 
 /// Adds a finding for each token whose name begins with a backslash and has more characters.
-pub(crate) fn push_escaped(
+pub fn push_escaped(
     alloc: Global,
     all: &mut Vec<Finding>,
     ast: &GrammarAST,
@@ -31,7 +31,7 @@ struct EscapedTokens<'a>(&'a GrammarAST);
 impl Reporter for EscapedTokens<'_> {
     ghost use Rattle.std.specs.Prelude.{length};
     ghost use Rattle.cfgrammar.specs.TreeView.{syntax};
-    ghost use Rattle.cfgfindings.specs.Findings.{ReportsEscaped};
+    ghost use Rattle.text_findings.specs.Escapes.{ReportsEscaped};
 
     ghost count = { λ x. length (syntax x.0.now).tokens };
 

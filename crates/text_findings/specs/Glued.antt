@@ -1,9 +1,13 @@
 -- Names that directly follow the keyword of their declaration: `%tokens X` is read as `%token s X`.
-use Rattle.std.specs.Prelude.{ℕ, Bool, ◌==◌, List, [], ◌∷◌, ◌++◌, codes, take, Option, None, Some, option_map, if◌then◌else◌}
+use Rattle.std.specs.Prelude.{◌≡◌, ℕ, Bool, ◌==◌, List, [], ◌∷◌, ◌++◌, codes, take, Option, None, Some, option_map, if◌then◌else◌}
 use Rattle.std.specs.List.{ends_with}
+use Rattle.std.specs.Option.{option_and_then}
 use Rattle.cfgrammar.specs.FileWords.{Word}
+use Rattle.cfgrammar.specs.Syntax.{Syntax}
 use Rattle.finding_kinds.specs.declared.finding_kind.FindingKind.TheVariants.{GluedKeyword}
-use Rattle.cfgfindings.specs.Shown.{ShownFinding}
+use Rattle.text_findings.specs.Finding.{ShownFinding}
+use Rattle.text_findings.specs.Words.{word_at}
+use Rattle.text_findings.specs.declared.words.Words.{Words}
 
 -- whether a text ends with a word
 abbrev pub ends_in : List ℕ → List ℕ → Bool
@@ -36,3 +40,7 @@ glued_finding word keyword = record {
 -- one, so the word is then the first one of that declaration. One in quotes begins after its quote.
 abbrev pub glued : List ℕ → Word → Option ShownFinding
 glued text word = option_map (glued_finding word) (keyword_before text word.span.start)
+
+-- the n-th word of a list directly follows the keyword of its declaration
+abbrev pub ReportsGlued : List ℕ → Syntax → Words → ℕ → Option ShownFinding → Type 0
+ReportsGlued text s words n found = found ≡ option_and_then (glued text) (word_at words s n)
