@@ -35,8 +35,10 @@ usage: cfglint [OPTION..] [--] FILE..
 
 FINDING is unused-rule, unused-token, shadowed-rule, start-without-sentence, no-sentence, unusable-rule,
 unusable-production, useless-symbol, cyclic-rule, repeated-production, unused-precedence, repeated-token,
-overridden-precedence or all, which is each of them. Without these options start-without-sentence is an error; unusable-rule, unusable-production
-and useless-symbol, which only follow from a rule without a sentence, aren't reported; and the others are warnings.
+overridden-precedence, glued-keyword, needless-expect-unused, escaped-token, implicit-empty or all, which is each of
+them. Without these options start-without-sentence is an error; unusable-rule, unusable-production and useless-symbol,
+which only follow from a rule without a sentence, aren't reported, nor are escaped-token and implicit-empty; and the
+others are warnings.
 If a finding is given to several of these options, the last one wins.
 --kind=KIND is --kind KIND, and so on.
 
@@ -48,8 +50,8 @@ OPTIONS = ('--kind, --default-kind, --format, --allow, --warn, --deny, --deny-wa
 KINDS = ('original-noaction', 'original-useraction', 'original-genericparsetree', 'grmtools', 'eco', 'section')
 FINDINGS = ('unused-rule', 'unused-token', 'shadowed-rule', 'start-without-sentence', 'no-sentence', 'unusable-rule',
             'unusable-production', 'useless-symbol', 'cyclic-rule', 'repeated-production', 'unused-precedence',
-            'repeated-token', 'overridden-precedence')
-CONSEQUENCES = ('unusable-rule', 'unusable-production', 'useless-symbol')
+            'repeated-token', 'overridden-precedence', 'glued-keyword', 'needless-expect-unused', 'escaped-token', 'implicit-empty')
+ALLOWED = ('unusable-rule', 'unusable-production', 'useless-symbol', 'escaped-token', 'implicit-empty')
 LEVELS = {'--allow': None, '--warn': 'warning', '--deny': 'error'}
 VALIDATION = ('NoStartRule', 'InvalidStartRule', 'UnknownRuleRef', 'UnknownToken', 'NoPrecForToken', 'UnknownEPP')
 WORDS = {'UnknownRuleRef': 'unknown-rule', 'NoPrecForToken': 'no-precedence', 'MissingGrmtoolsSection': 'missing-section',
@@ -81,7 +83,7 @@ class Options:
     def __init__(self):
         self.kind, self.default_kind = None, 'original-noaction'
         self.denies, self.is_quiet, self.stdin_name, self.files = False, False, '-', []
-        self.levels = dict.fromkeys(FINDINGS, 'warning') | dict.fromkeys(CONSEQUENCES) | {'start-without-sentence': 'error'}
+        self.levels = dict.fromkeys(FINDINGS, 'warning') | dict.fromkeys(ALLOWED) | {'start-without-sentence': 'error'}
         self.format = 'text'
 
     def set(self, option, value):
@@ -154,7 +156,7 @@ class Tally:
         grammar = Grammar(tree)
         if not grammar.fits(GREATEST):
             return self.add_errors(options, name, t, [Fault('StorageTooSmall', (0, 0))], tree)
-        for finding in findings_of(tree, grammar, is_printed):
+        for finding in findings_of(t, tree, grammar, is_printed):
             self.add_finding(options, name, t, finding)
 
     def add_errors(self, options, name, t, errors, tree):

@@ -95,7 +95,7 @@ impl TextReader<Report> for FileReporter<'_> {
         ast: &GrammarAST,
         grammar: &YaccGrammar<u32>,
     ) -> Result<Report, AllocError> {
-        let all = findings(alloc, ast, grammar)?;
+        let all = findings(alloc, text, ast, grammar)?;
         let reported = reported_findings(alloc, &all, &self.levels)?;
         let lines = lines_of(alloc, self.format, self.name, text, &reported)?;
         let errors = error_count(&reported);

@@ -201,7 +201,7 @@ usage_error_text (UnknownOption option) = codes "cfglint: unknown option '" ++ (
 usage_error_text (UnknownKind kind) = codes "cfglint: unknown kind '" ++ (visible kind ++ codes "': the kinds are original-noaction, original-useraction, original-genericparsetree, grmtools, eco, section\n")
 usage_error_text (UnknownDefaultKind kind) = codes "cfglint: unknown default kind '" ++ (visible kind ++ codes "': the kinds are original-noaction, original-useraction, original-genericparsetree, grmtools, eco\n")
 usage_error_text (UnknownFormat format) = codes "cfglint: unknown format '" ++ (visible format ++ codes "': the formats are text, json\n")
-usage_error_text (UnknownFinding finding) = codes "cfglint: unknown finding '" ++ (visible finding ++ codes "': the findings are unused-rule, unused-token, shadowed-rule, start-without-sentence, no-sentence, unusable-rule, unusable-production, useless-symbol, cyclic-rule, repeated-production, unused-precedence, repeated-token, overridden-precedence, all\n")
+usage_error_text (UnknownFinding finding) = codes "cfglint: unknown finding '" ++ (visible finding ++ codes "': the findings are unused-rule, unused-token, shadowed-rule, start-without-sentence, no-sentence, unusable-rule, unusable-production, useless-symbol, cyclic-rule, repeated-production, unused-precedence, repeated-token, overridden-precedence, glued-keyword, needless-expect-unused, escaped-token, implicit-empty, all\n")
 usage_error_text (MissingValue option) = codes "cfglint: option '" ++ (option_name option ++ codes "' needs a value\n")
 usage_error_text NoFile = codes "cfglint: no file is given\n"
 usage_error_text StandardInputTwice = codes "cfglint: standard input is given twice\n"
@@ -210,4 +210,4 @@ abbrev pub version : List ℕ
 version = codes "cfglint 0.15.0\n"
 
 abbrev pub help : List ℕ
-help = codes "cfglint reports errors in Yacc grammar files, and warnings about their grammars.\n\nusage: cfglint [OPTION..] [--] FILE..\n\n  --kind KIND        original-noaction, original-useraction, original-genericparsetree, grmtools, eco or section\n                     (the kind that the file's section names). Without it the section names the kind; a file that\n                     names none is read as the default kind.\n  --default-kind KIND\n                     The default kind, any but section: original-noaction if this option isn't given.\n  --format FORMAT    text, the default, or json: a line with a JSON object for each error and warning, and no summary.\n  --allow FINDING    Findings of this kind aren't reported.\n  --warn FINDING     Findings of this kind are warnings.\n  --deny FINDING     Findings of this kind are errors.\n  --deny-warnings    Warnings end with status 1 too.\n  --quiet            Writes no summary.\n  --stdin-name NAME  Standard input is reported under this name.\n  -h, --help         Writes this.\n  --version          Writes the version.\n  --                 What follows are files.\n  FILE               A path, or - for standard input, which can be given once.\n\nFINDING is unused-rule, unused-token, shadowed-rule, start-without-sentence, no-sentence, unusable-rule,\nunusable-production, useless-symbol, cyclic-rule, repeated-production, unused-precedence, repeated-token,\noverridden-precedence or all, which is each of them. Without these options start-without-sentence is an error; unusable-rule, unusable-production\nand useless-symbol, which only follow from a rule without a sentence, aren't reported; and the others are warnings.\nIf a finding is given to several of these options, the last one wins.\n--kind=KIND is --kind KIND, and so on.\n\nstatus: 0 without errors or denied warnings; 1 with either; 2 if the arguments are wrong, a file can't be read or\nthe output can't be written; 3 if there is no memory left\n"
+help = codes "cfglint reports errors in Yacc grammar files, and warnings about their grammars.\n\nusage: cfglint [OPTION..] [--] FILE..\n\n  --kind KIND        original-noaction, original-useraction, original-genericparsetree, grmtools, eco or section\n                     (the kind that the file's section names). Without it the section names the kind; a file that\n                     names none is read as the default kind.\n  --default-kind KIND\n                     The default kind, any but section: original-noaction if this option isn't given.\n  --format FORMAT    text, the default, or json: a line with a JSON object for each error and warning, and no summary.\n  --allow FINDING    Findings of this kind aren't reported.\n  --warn FINDING     Findings of this kind are warnings.\n  --deny FINDING     Findings of this kind are errors.\n  --deny-warnings    Warnings end with status 1 too.\n  --quiet            Writes no summary.\n  --stdin-name NAME  Standard input is reported under this name.\n  -h, --help         Writes this.\n  --version          Writes the version.\n  --                 What follows are files.\n  FILE               A path, or - for standard input, which can be given once.\n\nFINDING is unused-rule, unused-token, shadowed-rule, start-without-sentence, no-sentence, unusable-rule,\nunusable-production, useless-symbol, cyclic-rule, repeated-production, unused-precedence, repeated-token,\noverridden-precedence, glued-keyword, needless-expect-unused, escaped-token, implicit-empty or all, which is each of\nthem. Without these options start-without-sentence is an error; unusable-rule, unusable-production and useless-symbol,\nwhich only follow from a rule without a sentence, aren't reported, nor are escaped-token and implicit-empty; and the\nothers are warnings.\nIf a finding is given to several of these options, the last one wins.\n--kind=KIND is --kind KIND, and so on.\n\nstatus: 0 without errors or denied warnings; 1 with either; 2 if the arguments are wrong, a file can't be read or\nthe output can't be written; 3 if there is no memory left\n"

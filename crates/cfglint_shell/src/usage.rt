@@ -42,8 +42,10 @@ usage: cfglint [OPTION..] [--] FILE..
 
 FINDING is unused-rule, unused-token, shadowed-rule, start-without-sentence, no-sentence, unusable-rule,
 unusable-production, useless-symbol, cyclic-rule, repeated-production, unused-precedence, repeated-token,
-overridden-precedence or all, which is each of them. Without these options start-without-sentence is an error; unusable-rule, unusable-production
-and useless-symbol, which only follow from a rule without a sentence, aren't reported; and the others are warnings.
+overridden-precedence, glued-keyword, needless-expect-unused, escaped-token, implicit-empty or all, which is each of
+them. Without these options start-without-sentence is an error; unusable-rule, unusable-production and useless-symbol,
+which only follow from a rule without a sentence, aren't reported, nor are escaped-token and implicit-empty; and the
+others are warnings.
 If a finding is given to several of these options, the last one wins.
 --kind=KIND is --kind KIND, and so on.
 
@@ -180,4 +182,5 @@ const DEFAULT_KINDS: &str =
 const FINDINGS: &str =
     "unused-rule, unused-token, shadowed-rule, start-without-sentence, no-sentence, unusable-rule, \
     unusable-production, useless-symbol, cyclic-rule, repeated-production, unused-precedence, \
-    repeated-token, overridden-precedence, all";
+    repeated-token, overridden-precedence, glued-keyword, needless-expect-unused, escaped-token, \
+    implicit-empty, all";
