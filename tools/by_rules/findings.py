@@ -15,11 +15,16 @@ class Finding:
         return 'DuplicationError' if self.kind in several else 'Error'
 
 
-def findings_of(tree, grammar, is_printed):
-    """The findings of a tree and its numbered grammar. Of several shortest cycles of a rule the first that is printed is taken, and
+# the keywords of lists of names
+KEYWORDS = (b'%token', b'%left', b'%right', b'%nonassoc', b'%avoid_insert', b'%implicit_tokens')
+
+
+def findings_of(t, tree, grammar, is_printed):
+    """The findings of a text, its tree and its numbered grammar. Of several shortest cycles of a rule the first that is printed is taken, and
     any if none is."""
     found = (unused(tree) + shadowed(tree) + unproductive(tree, grammar) + useless(grammar) + cycles(grammar, is_printed) + repeats(grammar)
-             + idle(tree) + declared_again(tree) + overridden(tree))
+             + idle(tree) + declared_again(tree) + overridden(tree) + glued(t, tree) + needless(tree, grammar) + escapes(tree)
+             + implicitly_empty(t, tree))
     return sorted(found, key=lambda finding: finding.spans[0][0])
 
 
@@ -136,8 +141,8 @@ def repeats(grammar):
     for p in grammar.productions[:grammar.start_production]:
         twin = first.setdefault((p.rule, tuple(p.symbols)), p)
         if twin is not p:
-            text = 'Repeated production: each sentence by it has two trees'
-            found.append(Finding('RepeatedProduction', [p.span, twin.span], text))
+            text = "Repeated production of rule '%s': each sentence by it has two trees"
+            found.append(Finding('RepeatedProduction', [p.span, twin.span], text % grammar.rules[p.rule].name))
     return found
 
 
@@ -160,3 +165,36 @@ def overridden(tree):
     """Tokens of `%prec`s that a later one of their production overrides."""
     text = "Overridden precedence: a later %%prec of the production counts, and not that of token '%s'"
     return [Finding('OverriddenPrecedence', [span], text % n) for n, span in tree.overridden]
+
+
+def glued(t, tree):
+    """Tokens, precedences and repeated tokens that come right after the keyword of their declaration."""
+    words = [*tree.tokens.items(), *((n, span) for n, (_, _, span) in tree.precedences.items()), *tree.declared_again]
+    found = [(keyword.decode(), n, span) for n, span in words for keyword in KEYWORDS if t[:span[0]].endswith(keyword)]
+    return [Finding('GluedKeyword', [span], "'%s%s' is read as '%s %s'" % (keyword, n, keyword, n)) for keyword, n, span in found]
+
+
+def needless(tree, grammar):
+    """Symbols of `%expect-unused` lists that the start rule reaches."""
+    used = {(what, grammar.rules[index].name if what == 'rule' else token_name(grammar, index))
+            for what, index in reached(grammar.productions)}
+    words = [('token' if is_token else 'rule', n, span) for is_token, n, span in tree.unused]
+    return [Finding('NeedlessExpectUnused', [span], "Needless %%expect-unused: %s '%s' is used" % (what, n))
+            for what, n, span in words if (what, n) in used]
+
+
+def token_name(grammar, index):
+    """The name of a token, or None of the end token."""
+    return grammar.tokens[index][0] if index < len(grammar.tokens) else None
+
+
+def escapes(tree):
+    """Tokens whose names begin with a backslash and go on after it."""
+    text = "Token '%s' begins with a backslash: a quoted text has no escapes"
+    return [Finding('EscapedToken', [span], text % n) for n, span in tree.tokens.items() if n[0] == '\\' and len(n) > 1]
+
+
+def implicitly_empty(t, tree):
+    """Productions without symbols whose text begins neither with `%empty` nor with `%prec`."""
+    return [Finding('ImplicitEmpty', [p.span], 'Empty production without %empty') for p in tree.productions
+            if not p.symbols and not t.startswith((b'%empty', b'%prec'), p.span[0])]

@@ -51,6 +51,10 @@ and the others are warnings. If a finding is given to several of these options, 
   unused-precedence       a precedence of a token that no production needs
   repeated-token          a token that a %token list has a second time
   overridden-precedence   a %prec that a later one of its production overrides
+  glued-keyword           a name that directly follows a keyword, as in %tokens X
+  needless-expect-unused  a symbol of an %expect-unused that is used
+  escaped-token           a token whose name begins with a backslash: not reported
+  implicit-empty          an empty production without %empty: not reported
 
 --kind=KIND is --kind KIND, and so on.
 
@@ -62,8 +66,8 @@ OPTIONS = ('--kind', '--default-kind', '--format', '--columns', '--allow', '--wa
 KINDS = ('original-noaction', 'original-useraction', 'original-genericparsetree', 'grmtools', 'eco', 'section')
 FINDINGS = ('unused-rule', 'unused-token', 'shadowed-rule', 'start-without-sentence', 'no-sentence', 'unusable-rule',
             'unusable-production', 'useless-symbol', 'cyclic-rule', 'repeated-production', 'unused-precedence',
-            'repeated-token', 'overridden-precedence')
-CONSEQUENCES = ('unusable-rule', 'unusable-production', 'useless-symbol')
+            'repeated-token', 'overridden-precedence', 'glued-keyword', 'needless-expect-unused', 'escaped-token', 'implicit-empty')
+ALLOWED = ('unusable-rule', 'unusable-production', 'useless-symbol', 'escaped-token', 'implicit-empty')
 LEVELS = {'--allow': None, '--warn': 'warning', '--deny': 'error'}
 VALIDATION = ('NoStartRule', 'InvalidStartRule', 'UnknownRuleRef', 'UnknownToken', 'NoPrecForToken', 'UnknownEPP')
 WORDS = {'UnknownRuleRef': 'unknown-rule', 'NoPrecForToken': 'no-precedence', 'MissingGrmtoolsSection': 'missing-section',
@@ -96,7 +100,7 @@ class Options:
     def __init__(self):
         self.kind, self.default_kind = None, 'original-noaction'
         self.denies, self.is_quiet, self.stdin_name, self.files = False, False, '-', []
-        self.levels = dict.fromkeys(FINDINGS, 'warning') | dict.fromkeys(CONSEQUENCES) | {'start-without-sentence': 'error'}
+        self.levels = dict.fromkeys(FINDINGS, 'warning') | dict.fromkeys(ALLOWED) | {'start-without-sentence': 'error'}
         self.format, self.columns = 'text', 'characters'
 
     def set(self, option, value):
@@ -176,7 +180,7 @@ class Tally:
         grammar = Grammar(tree)
         if not grammar.fits(GREATEST):
             return self.add_errors(options, name, t, [Fault('StorageTooSmall', (0, 0))], tree)
-        for finding in findings_of(tree, grammar, is_printed):
+        for finding in findings_of(t, tree, grammar, is_printed):
             self.add_finding(options, name, t, finding)
 
     def add_errors(self, options, name, t, errors, tree):

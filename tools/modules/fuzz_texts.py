@@ -4,9 +4,11 @@ import os
 
 KINDS = ('original-noaction', 'original-useraction', 'original-genericparsetree', 'grmtools', 'eco', 'section')
 NAMES = ('A', 'B', 'C', 'D', 'E', 'S', 'a', 'b', 'x', 'T', 'a.b', '_', 'Ab_1', 'Ab_2', 'expect', 'exptec', '~', '^')
-TOKENS = ("'x'", '"y"', "'+'", "'a'", '"a"', "'''", '""x"', "'é'", '"日"', "'𝄞'", "'/*'", "'%%'", "'\r'", "'\x1b'", "'\x7f\u0085'", 'Ab_1', 'a', 'b', 'T', 'x')
+TOKENS = ("'x'", '"y"', "'+'", "'a'", '"a"', "'''", '""x"', "'é'", '"日"', "'𝄞'", "'/*'", "'%%'", "'\r'", "'\x1b'", "'\x7f\u0085'", 'Ab_1', 'a', 'b', 'T', 'x',
+          r"'\n'", r"'\'", r'"\x41"')
 KEYWORDS = ('%token', '%start', '%left', '%right', '%nonassoc', '%epp', '%expect', '%expect-rr', '%expect-unused',
-            '%avoid_insert', '%implicit_tokens', '%actiontype', '%parse-param', '%parse-generics', '%prec', '%empty', '%%')
+            '%avoid_insert', '%implicit_tokens', '%actiontype', '%parse-param', '%parse-generics', '%prec', '%empty', '%%',
+            '%perc', '%prc', '%emtpy')
 KIND_OF = {'%actiontype': 'original', '%implicit_tokens': 'eco'}
 MARKS = ('%', ':', '::', ';', '|', '{', '}', '->', "'", '"', '\\', '/', '*', '//', '/*', '*/', ',', '(', ')', '[', ']', '!', '-')
 BLANKS = (' ', ' ', ' ', '\n', '\t', '\r\n', '\r', '  ', '/* c */', '// c\n', '// c\r\n', '/*\n*/', '/*/*/', '// é\r', '', '')
@@ -41,7 +43,7 @@ class Texts:
         ty, kind, text = self.made()
         if ty == 'row' and self.random.random() < 0.25:
             options = (f'--kind {kind} ', ''), ('--format=json ', ''), ('', '--warn=useless-symbol --warn=unusable-production ',
-                                                                       '--warn unusable-rule --deny no-sentence ')
+                                                                       '--warn unusable-rule --deny no-sentence ', '--warn all ')
             return 'lint', ''.join(map(self.random.choice, options)) + '-', text
         return ty, kind, text
 
@@ -143,7 +145,7 @@ class Texts:
             '%epp': lambda: self.token() + ' ' + self.random.choice(("'p'", '"q\\"r"', "''")),
             '%actiontype': lambda: 'Vec<u8>', '%parse-param': lambda: 'p: &T', '%parse-generics': lambda: "'a, T",
         }.get(keyword, lambda: ' '.join([self.token(), *self.some(3, self.token)]))
-        return keyword + ' ' + what() + self.random.choice(('\n', '\n', '\n', '\r\n', '\r', ' // c\n', '/*\n*/', ' '))
+        return keyword + self.random.choice((' ',) * 9 + ('',)) + what() + self.random.choice(('\n', '\n', '\n', '\r\n', '\r', ' // c\n', '/*\n*/', ' '))
 
     def symbol(self):
         return self.name() if self.random.random() < 0.5 else self.token()

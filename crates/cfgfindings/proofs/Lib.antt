@@ -13,3 +13,4 @@ pub mod Texts
 pub mod UnproductiveRules
 pub mod Unusable
 pub mod UsedRules
+pub mod UsedSymbols

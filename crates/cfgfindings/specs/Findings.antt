@@ -19,15 +19,12 @@ use Rattle.cfgrammar.specs.Numbered.{Numbered, core}
 use Rattle.cfgfindings.specs.SinkGroups.{DependsOn, IsInSinkGroup}
 use Rattle.cfgfindings.specs.Shown.{ShownFinding, cyclic_finding, no_sentence, offset_of, overridden_precedence, repeated, repeated_token, rule_name, shadowed_rule, start_without_sentence, unusable, unusable_rule, unused_precedence, unused_rule, unused_token, useless_rule, useless_token}
 use Rattle.cfgfindings.specs.Useless.{IsUseless}
-
--- The findings for the numbers below this one, in order: `Reports n (Some finding)` says that this is the finding for n, and `Reports n None`
--- that there is none.
-pub data ReportsBelow (Reports : ℕ → Option ShownFinding → Type 0) : ℕ → List ShownFinding → Type 0 where
-  none : ReportsBelow Reports 0 []
-  reported : {n : ℕ} {findings : List ShownFinding} {finding : ShownFinding}
-      → ReportsBelow Reports n findings → Reports n (Some finding) → ReportsBelow Reports (n + 1) (findings ++ finding ∷ [])
-  left : {n : ℕ} {findings : List ShownFinding}
-      → ReportsBelow Reports n findings → Reports n None → ReportsBelow Reports (n + 1) findings
+use Rattle.text_findings.specs.Glued.{ReportsGlued}
+use Rattle.text_findings.specs.Escapes.{ReportsEscaped}
+use Rattle.text_findings.specs.Empty.{ReportsImplicitlyEmpty}
+pub use Rattle.text_findings.specs.Reports.{ReportsBelow, none, reported, left}
+use Rattle.cfgfindings.specs.Needless.{ReportsUsedSymbol}
+use Rattle.text_findings.specs.declared.words.Words.TheVariants.{Precedences, RepeatedTokens, Tokens}
 
 module _ (g : Numbered) where
   -- how many rules are added before those of the file: the start rule, and in a file with implicit tokens two more for these
@@ -215,8 +212,12 @@ module _ (s : Syntax) where
   ReportsUnusedPrecedence n (Some finding) = (name : List ℕ) × (span : Span) × IsUnusedPrecedence n name span × (finding ≡ unused_precedence name span)
   ReportsUnusedPrecedence n None = (name : List ℕ) (span : Span) → IsUnusedPrecedence n name span → ⊥
 
+-- the n-th symbol of the `%expect-unused` lists is used
+abbrev pub ReportsNeedless : Syntax → Numbered → ℕ → Option ShownFinding → Type 0
+ReportsNeedless s g = ReportsUsedSymbol s.expect_unused g
+
 -- the findings for rules and tokens of the syntax, then those for rules, productions, precedences and declarations, one list after the other
-pub record AreReportedInTurn (s : Syntax) (g : Numbered) (reported : List ShownFinding) : Type 0 where
+pub record AreReportedInTurn (text : List ℕ) (s : Syntax) (g : Numbered) (reported : List ShownFinding) : Type 0 where
   pub unused_rules : List ShownFinding
   pub unused_tokens : List ShownFinding
   pub shadowed : List ShownFinding
@@ -228,6 +229,12 @@ pub record AreReportedInTurn (s : Syntax) (g : Numbered) (reported : List ShownF
   pub cycles : List ShownFinding
   pub repeats : List ShownFinding
   pub precedences : List ShownFinding
+  pub glued_tokens : List ShownFinding
+  pub glued_precedences : List ShownFinding
+  pub glued_repeated_tokens : List ShownFinding
+  pub needless : List ShownFinding
+  pub escapes : List ShownFinding
+  pub empty : List ShownFinding
   pub are_unused_rules : ReportsBelow (ReportsUnusedRule s) (length s.rules) unused_rules
   pub are_unused_tokens : ReportsBelow (ReportsUnusedToken s) (length s.tokens) unused_tokens
   pub are_shadowed : ReportsBelow (ReportsShadowedRule s) (length s.rules) shadowed
@@ -239,9 +246,16 @@ pub record AreReportedInTurn (s : Syntax) (g : Numbered) (reported : List ShownF
   pub are_cycles : ReportsBelow (ReportsGroup g) (length g.rules) cycles
   pub are_repeats : ReportsBelow (ReportsRepeated g) g.start_production repeats
   pub are_precedences : ReportsBelow (ReportsUnusedPrecedence s) (length s.tables.precedences) precedences
+  pub are_glued_tokens : ReportsBelow (ReportsGlued text s Tokens) (length s.tokens) glued_tokens
+  pub are_glued_precedences : ReportsBelow (ReportsGlued text s Precedences) (length s.tables.precedences) glued_precedences
+  pub are_glued_repeated_tokens : ReportsBelow (ReportsGlued text s RepeatedTokens) (length s.repeated_tokens) glued_repeated_tokens
+  pub are_needless : ReportsBelow (ReportsNeedless s g) (length s.expect_unused) needless
+  pub are_escapes : ReportsBelow (ReportsEscaped s) (length s.tokens) escapes
+  pub are_empty : ReportsBelow (ReportsImplicitlyEmpty text s) (length s.productions) empty
   pub is : reported ≡ unused_rules ++ (unused_tokens ++ (shadowed
       ++ (unproductive_rules ++ (unusable_rules ++ (unusable_productions ++ (useless_rules ++ (useless_tokens ++ (cycles ++ (repeats
-      ++ (precedences ++ (map repeated_token s.repeated_tokens ++ map overridden_precedence s.overridden_precedences)))))))))))
+      ++ (precedences ++ ((map repeated_token s.repeated_tokens ++ map overridden_precedence s.overridden_precedences)
+      ++ (glued_tokens ++ (glued_precedences ++ (glued_repeated_tokens ++ (needless ++ (escapes ++ empty))))))))))))))))
 
 -- the same findings sorted by offset; those at the same offset stay in their order
 pub record AreByOffset (reported all : List ShownFinding) : Type 0 where
@@ -249,8 +263,8 @@ pub record AreByOffset (reported all : List ShownFinding) : Type 0 where
   pub sorted : IsSortedByKey offset_of nat_cmp all
   pub stable : IsStableByKey offset_of nat_cmp reported all
 
--- all findings, each once
-pub record AreFindings (s : Syntax) (g : Numbered) (all : List ShownFinding) : Type 0 where
+-- all findings about a text, each once
+pub record AreFindings (text : List ℕ) (s : Syntax) (g : Numbered) (all : List ShownFinding) : Type 0 where
   pub reported : List ShownFinding
-  pub in_turn : AreReportedInTurn s g reported
+  pub in_turn : AreReportedInTurn text s g reported
   pub by_offset : AreByOffset reported all

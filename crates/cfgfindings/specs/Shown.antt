@@ -1,4 +1,4 @@
--- A finding as plain data, as callers see a `Finding`; and the texts of findings.
+-- The texts and the spans of findings.
 use Rattle.std.specs.Prelude.{ℕ, ◌+◌, List, [], ◌∷◌, ◌++◌, drop, map, take, codes, slice_get, unwrap_or}
 use Rattle.std.specs.List.{flat_map}
 use Rattle.std.specs.Option.{option_map_or}
@@ -6,33 +6,13 @@ use Rattle.cfgrammar.specs.FileWords.{Word}
 use Rattle.cfgrammar.specs.Grammar.{Sym, Rule, Token}
 use Rattle.cfgrammar.specs.UnitStep.{UnitStep}
 use Rattle.cfgrammar.specs.Span.{Span}
-use Rattle.cfgrammar.specs.SpansKind.{SpansKind}
-use Rattle.cfgrammar.specs.SpansKind.TheVariants.{DuplicationError, Error}
 use Rattle.cfgrammar.specs.Check.{nowhere}
 use Rattle.cfgrammar.specs.Numbered.{Numbered, core}
 use Rattle.cfgrammar.specs.Accessors.{production_part, rule_part, sym_name}
 use Rattle.cfgrammar.specs.Openings.{nth_production}
+pub use Rattle.text_findings.specs.Finding.{ShownFinding, offset_of, spanskind_of}
 use Rattle.finding_kinds.specs.declared.finding_kind.FindingKind.{FindingKind}
 use Rattle.finding_kinds.specs.declared.finding_kind.FindingKind.TheVariants.{CyclicRule, NoSentence, OverriddenPrecedence, RepeatedProduction, RepeatedToken, ShadowedRule, StartWithoutSentence, UnusableProduction, UnusableRule, UnusedPrecedence, UnusedRule, UnusedToken, UselessSymbol}
-
--- the kind of finding, its spans and its text
-pub record ShownFinding : Type 0 where
-  pub kind : FindingKind
-  pub spans : List Span
-  pub text : List ℕ
-
--- which spans are shown: all (`DuplicationError`) for the kinds whose findings may be about several places, else the first (`Error`)
-abbrev pub spanskind_of : FindingKind → SpansKind
-spanskind_of ShadowedRule = DuplicationError
-spanskind_of StartWithoutSentence = DuplicationError
-spanskind_of NoSentence = DuplicationError
-spanskind_of CyclicRule = DuplicationError
-spanskind_of RepeatedProduction = DuplicationError
-spanskind_of _ = Error
-
--- the offset of a finding, in bytes: the start of its first span
-abbrev pub offset_of : ShownFinding → ℕ
-offset_of finding = option_map_or (λ (span : Span). span.start) (slice_get finding.spans 0) 0
 
 -- the name in quotes
 abbrev pub quoted : List ℕ → List ℕ
@@ -139,7 +119,7 @@ module _ (g : Numbered) where
   repeated p earlier = record {
     kind = RepeatedProduction;
     spans = production_span p ∷ (production_span earlier ∷ []);
-    text = codes "Repeated production: each sentence by it has two trees";
+    text = codes "Repeated production of rule '" ++ (rule_name (nth_production (core g) p).rule ++ codes "': each sentence by it has two trees");
   }
 
 -- that the precedence of the token with this name, which is given here, is unused

@@ -13,8 +13,6 @@ ghost use Rattle.cfgfindings.specs.Inner.CyclicRules.{AreOwnGroups, IsSomeStep};
 ghost use Rattle.cfgfindings.specs.Shown.{cyclic_finding, rule_span, step_text, nullable};
 
 use crate::added::rules_added;
-use crate::finding::{Finding, FindingKind};
-use crate::reporter::{Reporter, push_reported};
 use cfgrammar::laws::unit_steps_are_derivations;
 use cfgrammar::storage::to_storage;
 use cfgrammar::yacc::YaccGrammar;
@@ -24,6 +22,7 @@ use cfgrammar::yacc::cycles::{
 use cfgrammar::{PIdx, RIdx, Span, Symbol};
 use std::alloc::{AllocError, Global};
 use std::marker::Model;
+use text_findings::{Finding, FindingKind, Reporter, push_reported};
 
 /// Adds the groups of cyclic rules to the findings, each with a shortest path of steps from its first rule of the file
 /// to itself.

@@ -5,10 +5,10 @@ ghost use Rattle.cfgrammar.specs.SyntaxView.{named_view};
 ghost use Rattle.cfgrammar.specs.TreeView.{syntax};
 ghost use Rattle.cfgfindings.specs.Shown.{at_word, overridden_precedence, repeated_token};
 
-use crate::finding::{Finding, FindingKind};
 use cfgrammar::Span;
 use cfgrammar::yacc::ast::GrammarAST;
 use std::alloc::{AllocError, Global};
+use text_findings::{Finding, FindingKind};
 
 /// Adds a finding for each token that a `%token` list has again, and then for each `%prec` that a later one overrides.
 pub(crate) fn push_declarations(

@@ -6,7 +6,7 @@ ghost use Rattle.cfgfindings.specs.Findings.{AreFindings};
 
 use crate::cyclic_rules::push_cycles;
 use crate::declarations::push_declarations;
-use crate::finding::Finding;
+use crate::needless::push_needless;
 use crate::precedences::push_precedences;
 use crate::repeats::push_repeats;
 use crate::sentences::{Unproductive, push_unusable};
@@ -16,19 +16,22 @@ use crate::useless::push_useless;
 use cfgrammar::yacc::YaccGrammar;
 use cfgrammar::yacc::ast::GrammarAST;
 use std::alloc::{AllocError, Global};
+use text_findings::{Finding, push_escaped, push_glued, push_implicitly_empty};
 
 /// The findings about a grammar without errors, by offset; those at the same offset are in the order of
-/// [`FindingKind`](crate::FindingKind). `ast` is the tree of the text, and `grammar` its numbers.
+/// [`FindingKind`](crate::FindingKind). `ast` is the tree of the text, and `grammar` its numbers. Where the two say
+/// nothing, as of the words of the file, the text decides.
 ///
 /// # Errors
 ///
 /// Out of memory.
 pub fn findings(
     alloc: Global,
+    text: &str,
     ast: &GrammarAST,
     grammar: &YaccGrammar<u32>,
 ) -> Result<Vec<Finding>, AllocError>
-    ensures { IfOk result (λ all. AreFindings (syntax ast.now) grammar.now all.items) }
+    ensures { IfOk result (λ all. AreFindings text.now (syntax ast.now) grammar.now all.items) }
 {
     let mut all = Vec::new(alloc);
     push_unused(alloc, &mut all, ast)?;
@@ -40,6 +43,10 @@ pub fn findings(
     push_repeats(alloc, &mut all, grammar)?;
     push_precedences(alloc, &mut all, ast)?;
     push_declarations(alloc, &mut all, ast)?;
+    push_glued(alloc, &mut all, text, ast)?;
+    push_needless(alloc, &mut all, ast, &unproductive)?;
+    push_escaped(alloc, &mut all, ast)?;
+    push_implicitly_empty(alloc, &mut all, text, ast)?;
     all.sort_by_key(|finding| finding.offset())?;
     Ok(all)
 }

@@ -4,18 +4,17 @@
 mod added;
 mod cyclic_rules;
 mod declarations;
-pub mod finding;
 mod found;
 mod marks;
 mod names;
+mod needless;
 mod precedences;
 mod repeats;
-mod reporter;
 mod sentences;
 mod sink_groups;
 mod unproductive_rules;
 mod unused;
 mod useless;
 
-pub use finding::{Finding, FindingKind};
 pub use found::findings;
+pub use text_findings::{Finding, FindingKind};

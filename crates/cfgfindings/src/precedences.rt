@@ -8,12 +8,11 @@ ghost use Rattle.cfgrammar.specs.TreeView.{syntax};
 ghost use Rattle.cfgfindings.specs.Findings.{IsUsed, ReportsBelow, ReportsUnusedPrecedence};
 ghost use Rattle.cfgfindings.specs.Inner.Marks.{AreMarked, Marks, precedence_keys, production_names, token_names};
 
-use crate::finding::{Finding, FindingKind};
-use crate::reporter::{Reporter, push_reported};
 use cfgrammar::yacc::ast::{GrammarAST, Production, Symbol};
 use cfgrammar::{Span, Vob};
 use indexmap::IndexMap;
 use std::alloc::{AllocError, Global};
+use text_findings::{Finding, FindingKind, Reporter, push_reported};
 
 /// Adds the tokens that are given a precedence but aren't used to the findings.
 ///

@@ -8,16 +8,15 @@ ghost use Rattle.cfgfindings.specs.contracts.repeats.ShapePartialEq.TheImpl.{gho
 ghost use Rattle.cfgfindings.specs.declared.repeats.Shape.{Shape};
 ghost use Rattle.cfgfindings.specs.Findings.{ReportsBelow, ReportsRepeated};
 ghost use Rattle.cfgfindings.specs.Inner.FirstProductions.{AreFirsts, production_of};
-ghost use Rattle.cfgfindings.specs.Shown.{repeated};
+ghost use Rattle.cfgfindings.specs.Shown.{repeated, rule_name};
 
-use crate::finding::{Finding, FindingKind};
-use crate::reporter::{Reporter, push_reported};
 use cfgrammar::laws::symbols_are_their_indices;
 use cfgrammar::storage::to_storage;
 use cfgrammar::yacc::YaccGrammar;
 use cfgrammar::{PIdx, Symbol};
 use std::alloc::{AllocError, Global};
 use std::collections::HashMap;
+use text_findings::{Finding, FindingKind, Reporter, push_reported};
 
 /// Adds the productions with the symbols of an earlier one of their rule to the findings.
 ///
@@ -80,9 +79,9 @@ fn repeated(
     grammar.invariant_holds();
     let span = grammar.prod_span(PIdx(to_storage(number)));
     let earlier_span = grammar.prod_span(PIdx(to_storage(earlier)));
-    let text = String::from_str(
-        alloc,
-        "Repeated production: each sentence by it has two trees",
+    let name = owner_name(grammar, number);
+    let text = format!(in alloc;
+        "Repeated production of rule '{name}': each sentence by it has two trees"
     )?;
     Finding::at_both(
         alloc,
@@ -91,6 +90,15 @@ fn repeated(
         earlier_span,
         text,
     )
+}
+
+/// The name of the production's rule.
+fn owner_name(grammar: &YaccGrammar<u32>, number: usize) -> &str
+    requires { number < length grammar.now.productions }
+    ensures { result.now ≡ rule_name grammar.now (nth_production (core grammar.now) number).rule }
+{
+    grammar.invariant_holds();
+    grammar.rule_name_str(grammar.prod_to_rule(PIdx(to_storage(number))))
 }
 
 /// The rule and the symbols of a production.

@@ -10,14 +10,13 @@ ghost use Rattle.cfgfindings.specs.Inner.Reached.{IsFollowedAt};
 ghost use Rattle.cfgfindings.specs.Inner.Unproductive.{UnproductiveOrNot};
 ghost use Rattle.cfgfindings.specs.Shown.{ShownFinding};
 
-use crate::finding::{Finding, FindingKind};
-use crate::reporter::{Reporter, push_reported};
 use cfgrammar::laws::usable_productions_hold_sentences;
 use cfgrammar::storage::to_storage;
 use cfgrammar::yacc::YaccGrammar;
 use cfgrammar::{PIdx, RIdx, Symbol, Vob};
 use std::alloc::{AllocError, Global};
 use std::marker::Model;
+use text_findings::{Finding, FindingKind, Reporter, push_reported};
 
 /// Adds the productions of the file that can't be used to the findings.
 pub(crate) fn push_unusable(

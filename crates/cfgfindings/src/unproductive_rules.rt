@@ -13,9 +13,7 @@ ghost use Rattle.cfgfindings.specs.Shown.{ShownFinding, rule_span};
 
 use crate::added::rules_added;
 use crate::cyclic_rules::name_spans;
-use crate::finding::{Finding, FindingKind};
 use crate::names::is_start;
-use crate::reporter::{Reporter, push_reported};
 use crate::sentences::Unproductive;
 use crate::sink_groups::SinkGroups;
 use cfgrammar::RIdx;
@@ -23,6 +21,7 @@ use cfgrammar::storage::to_storage;
 use cfgrammar::yacc::YaccGrammar;
 use cfgrammar::yacc::ast::GrammarAST;
 use std::alloc::{AllocError, Global};
+use text_findings::{Finding, FindingKind, Reporter, push_reported};
 
 /// Adds the unproductive start rule and the sink groups to the findings, and then the other unproductive rules of
 /// the file.

@@ -9,14 +9,13 @@ ghost use Rattle.cfgfindings.specs.Inner.Marks.{rule_keys};
 ghost use Rattle.cfgfindings.specs.Inner.Shadowing.{GivesWay};
 ghost use Rattle.cfgfindings.specs.Shown.{ShownFinding};
 
-use crate::finding::{Finding, FindingKind};
 use crate::marks::{contained_rules, requested_tokens};
 use crate::names::{is_declared, is_start, token_index};
-use crate::reporter::{Reporter, push_reported};
 use cfgrammar::yacc::ast::GrammarAST;
 use cfgrammar::{Span, Vob};
 use std::alloc::{AllocError, Global};
 use std::marker::Model;
+use text_findings::{Finding, FindingKind, Reporter, push_reported};
 
 /// Adds the unused rules to the findings, then the unused tokens, and then the shadowed rules.
 ///

@@ -13,8 +13,6 @@ ghost use Rattle.cfgfindings.specs.Shown.{ShownFinding};
 ghost use Rattle.cfgfindings.specs.Useless.{IsUseless};
 
 use crate::added::rules_added;
-use crate::finding::{Finding, FindingKind};
-use crate::reporter::{Reporter, push_reported};
 use crate::sentences::Unproductive;
 use cfgrammar::laws::usable_productions_hold_sentences;
 use cfgrammar::storage::to_storage;
@@ -23,6 +21,7 @@ use cfgrammar::{PIdx, RIdx, Span, Symbol, TIdx};
 use search::{Bits, Edges, Search};
 use std::alloc::{AllocError, Global};
 use std::marker::Model;
+use text_findings::{Finding, FindingKind, Reporter, push_reported};
 
 /// Adds the rules of the file that are reached only through unusable productions to the findings, and then such tokens.
 /// There are none if all rules are productive, or the start rule isn't.
@@ -173,7 +172,7 @@ impl<'a> Reporter for UselessTokens<'a> {
 }
 
 /// A search that has reached what the start rule leads to: by all productions, or only by usable ones.
-fn searched(
+pub(crate) fn searched(
     alloc: Global,
     unproductive: &Unproductive<'_>,
     only_usable: bool,
@@ -263,7 +262,7 @@ fn reach_symbols(
 }
 
 /// The node of a symbol: the rules have the first ones.
-fn node_of(grammar: &YaccGrammar<u32>, symbol: Symbol<u32>) -> usize
+pub(crate) fn node_of(grammar: &YaccGrammar<u32>, symbol: Symbol<u32>) -> usize
     requires { IsSymbolWithin (λ s. s) grammar.now symbol }
     ensures value { result ≡ node_of grammar.now (sym_of (λ s. s) symbol) }
     ensures within { result < nodes grammar.now }

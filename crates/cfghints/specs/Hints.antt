@@ -1,14 +1,16 @@
 -- The note on an error: what was found where the error is, and what may be there.
 use Rattle.std.specs.Prelude.{ℕ, Bool, false, ◌==◌, ◌&&◌, ◌||◌, not, if◌then◌else◌, List, [], ◌∷◌, ◌++◌, take, drop, slice_get, Option, Some, None, is_some, codes}
-use Rattle.std.specs.List.{prefix_len}
+use Rattle.std.specs.List.{find, prefix_len}
 use Rattle.std.specs.Option.{option_map_or}
+use Rattle.std.specs.Str.{bytes_eq}
 use Rattle.cfgbase.specs.declared.span.Span.{Span}
 use Rattle.cfglines.specs.Characters.{begins_character}
 use Rattle.cfgrender.specs.Render.{is_offset}
 use Rattle.constructs.specs.Pieces.{starts, strip}
 use Rattle.cfgwords.specs.declared.bytes.ByteClass.TheVariants as bytes
 use Rattle.cfgwords.specs.Bytes.{holds}
-use Rattle.cfgerrors.specs.Errors.{ErrorKind, GrammarError, UnknownDeclaration, IllegalString, ProductionNotTerminated, MissingColon, MissingRightArrow, IllegalName, IllegalInteger, UnknownSymbol, IncompleteAction, IncompleteComment, IncompleteRule, PrematureEnd, NoStartRule, ReachedEOL, InvalidString}
+use Rattle.cfgerrors.specs.HeaderErrors.{ShownErrorKind, InvalidEntry}
+use Rattle.cfgerrors.specs.Errors.{ErrorKind, GrammarError, UnknownDeclaration, IllegalString, ProductionNotTerminated, MissingColon, MissingRightArrow, IllegalName, IllegalInteger, UnknownSymbol, Header, IncompleteAction, IncompleteComment, IncompleteRule, PrematureEnd, NoStartRule, ReachedEOL, InvalidString}
 
 -- whether a byte belongs to the piece that begins with the first byte: to a `%` and the letters, digits, `-`, `_` and `%` after it, to a
 -- name, to a number, or to one character
@@ -61,22 +63,55 @@ byte_advice first =
     if first == 60 then codes ": tags such as <value> aren't read"
     else if holds bytes.Digit first then codes ", expected a name or a quoted text: numbers of tokens aren't read"
     else if first == 58 then codes ": a ';' may be missing before this rule, or '%%' before the first one"
-    else if holds bytes.Quote first then codes ": a quoted text isn't empty, ends on its line and has no escapes"
+    else if holds bytes.Quote first then codes ", which no quote closes on this line: one may be missing, or one too many, since a quoted text isn't empty and has no escapes"
     else if first == 37 then codes ", expected a name or a quoted text: a ';' or the end of a line may be missing before it, and in a rule only %prec and %empty are read"
     else if first == 46 then codes ", expected a name without dots or a quoted text"
     else codes ", expected a name or a quoted text"
+
+-- whether a byte belongs to no piece of a production without quotes: a blank, a quote, `|`, `;` or `:`
+abbrev pub ends_piece : ℕ → Bool
+ends_piece byte = holds bytes.Blank byte || holds bytes.Quote byte || byte == 124 || byte == 59 || byte == 58
+
+abbrev pub is_quote : Option ℕ → Bool
+is_quote byte = option_map_or (holds bytes.Quote) byte false
+
+-- whether a text begins with bytes that are no quotes, and a quote follows them directly: it closes nothing, as that of `]'`
+abbrev pub quote_follows : List ℕ → Bool
+quote_follows [] = false
+quote_follows (first ∷ rest) = not (ends_piece first) && is_quote (find ends_piece rest)
+
+-- whether a text begins nearly as `%prec`, or as `%empty`
+abbrev pub is_nearly_prec : List ℕ → Bool
+is_nearly_prec text = not (begins_with (codes "%prec") text) && (begins_with (codes "%pr") text || begins_with (codes "%pe") text)
+
+abbrev pub is_nearly_empty : List ℕ → Bool
+is_nearly_empty text = not (begins_with (codes "%empty") text) && begins_with (codes "%em") text
 
 -- what to say where no token was found, where the text goes on like this: after `::=`, and at the type of a rule before which no `;` is
 unfoldable pub token_advice : List ℕ → List ℕ
 token_advice text =
     if begins_with (codes ":=") text then codes ": only one ':' is between a rule's name and its productions"
     else if begins_with (codes "->") text then codes ": a ';' may be missing before this rule"
+    else if quote_follows text then codes ", expected a name or a quoted text: a quote may be missing before it, since one is right after it"
+    else if is_nearly_prec text then codes ", expected a name or a quoted text: did you mean '%prec'?"
+    else if is_nearly_empty text then codes ", expected a name or a quoted text: did you mean '%empty'?"
     else byte_advice (first_byte text)
 
 -- what to say where no colon was found: a type is there only in files of the kind Grmtools
 unfoldable pub colon_advice : List ℕ → List ℕ
 colon_advice text =
     if begins_with (codes "->") text then codes ": rules have types only in files of the kind Grmtools" else codes ", expected ':'"
+
+-- the note on the value of a section's key `yacckind`, or at its start, where the section has no such key
+unfoldable pub kind_note : ℕ → List ℕ → List ℕ
+kind_note start text =
+    if start == 0 then codes "the section has no key yacckind, and so names no kind"
+    else found_note text (codes ", expected a kind, without quotes: Grmtools, Eco, Original(NoAction), Original(UserAction) or Original(GenericParseTree)")
+
+-- the note on an error of this kind in a section
+abbrev pub section_note : ShownErrorKind → ℕ → List ℕ → Option (List ℕ)
+section_note (InvalidEntry what) start text = if bytes_eq what (codes "yacckind") then Some (kind_note start text) else None
+section_note _ start text = None
 
 -- the note on an error of this kind, if it doesn't depend on the text
 abbrev pub plain_note : ErrorKind → Option (List ℕ)
@@ -100,6 +135,7 @@ note MissingRightArrow start text = Some (found_note text (codes ", expected '->
 note IllegalName start text = Some (found_note text (codes ", expected the name of a rule"))
 note IllegalInteger start text = Some (found_note text (codes ", expected a number up to 18446744073709551615"))
 note UnknownSymbol start text = Some (found_note text (codes ", expected a name or a quoted text"))
+note (Header kind spanskind) start text = section_note kind start text
 note kind start text = plain_note kind
 
 -- the note on an error of this kind with this first span

@@ -1,13 +1,17 @@
 //! The note on an error.
 
 ghost use Rattle.std.specs.Prelude.{◌≡◌, ◌++◌};
+ghost use Rattle.std.specs.List.{find};
 ghost use Rattle.cfgerrors.specs.Errors.{kind_view};
+ghost use Rattle.cfgerrors.specs.HeaderErrors.{error_kind_view};
 ghost use Rattle.cfghints.specs.Hints.{begins_keyword, begins_with, first_byte, found, found_note, hint_text, note};
 ghost use Rattle.cfghints.specs.Hints.{byte_advice, colon_advice, declaration_note, plain_note, token_advice};
+ghost use Rattle.cfghints.specs.Hints.{ends_piece, is_nearly_empty, is_nearly_prec, is_quote, kind_note, quote_follows};
+ghost use Rattle.cfghints.specs.Hints.{section_note};
 
 use crate::found::Found;
 use cfgbase::Spanned;
-use cfgerrors::{YaccGrammarError, YaccGrammarErrorKind};
+use cfgerrors::{HeaderErrorKind, YaccGrammarError, YaccGrammarErrorKind};
 use cfgwords::bytes::ByteClass;
 use cfgwords::run::starts;
 use constructs::after_word;
@@ -104,9 +108,36 @@ fn note<'a>(kind: &YaccGrammarErrorKind, start: usize, text: &'a str) -> Option<
         YaccGrammarErrorKind::IllegalName => ", expected the name of a rule",
         YaccGrammarErrorKind::IllegalInteger => ", expected a number up to 18446744073709551615",
         YaccGrammarErrorKind::UnknownSymbol => ", expected a name or a quoted text",
+        YaccGrammarErrorKind::Header(section, _) => return section_note(section, start, text),
         other => return plain_note(other),
     };
     Some(Hint::found(text, end))
+}
+
+/// The note on an error of this kind in a section: there is one if the section names no kind, or a wrong one.
+fn section_note<'a>(kind: &HeaderErrorKind, start: usize, text: &'a str) -> Option<Hint<'a>>
+    ensures { result ≡ section_note (error_kind_view kind.now) start text.entry.now }
+{
+    match kind {
+        HeaderErrorKind::InvalidEntry("yacckind") => Some(kind_note(start, text)),
+        _ => None,
+    }
+}
+
+/// The note on the value of a section's key `yacckind`, or on the section if it has no such key.
+#[tactic(auto, unfolding(crate::specs::Hints::kind_note))]
+fn kind_note<'a>(start: usize, text: &'a str) -> Hint<'a>
+    ensures { result ≡ kind_note start text.entry.now }
+{
+    if start == 0 {
+        Hint::plain("the section has no key yacckind, and so names no kind")
+    } else {
+        Hint::found(
+            text,
+            ", expected a kind, without quotes: Grmtools, Eco, Original(NoAction), Original(UserAction) or \
+             Original(GenericParseTree)",
+        )
+    }
 }
 
 /// The note on an error of this kind, if it doesn't depend on the text.
@@ -174,6 +205,12 @@ fn token_advice(text: &str) -> &'static str
         ": only one ':' is between a rule's name and its productions"
     } else if begins_with(text, "->") {
         ": a ';' may be missing before this rule"
+    } else if quote_follows(text) {
+        ", expected a name or a quoted text: a quote may be missing before it, since one is right after it"
+    } else if is_nearly_prec(text) {
+        ", expected a name or a quoted text: did you mean '%prec'?"
+    } else if is_nearly_empty(text) {
+        ", expected a name or a quoted text: did you mean '%empty'?"
     } else {
         byte_advice(first_byte(text))
     }
@@ -191,7 +228,8 @@ fn byte_advice(first: u8) -> &'static str
     } else if first == b':' {
         ": a ';' may be missing before this rule, or '%%' before the first one"
     } else if ByteClass::Quote.holds(first) {
-        ": a quoted text isn't empty, ends on its line and has no escapes"
+        ", which no quote closes on this line: one may be missing, or one too many, since a quoted text isn't empty \
+         and has no escapes"
     } else if first == b'%' {
         ", expected a name or a quoted text: a ';' or the end of a line may be missing before it, and in a rule \
          only %prec and %empty are read"
@@ -200,6 +238,58 @@ fn byte_advice(first: u8) -> &'static str
     } else {
         ", expected a name or a quoted text"
     }
+}
+
+/// Whether the text begins with bytes that are no quotes, and a quote follows them directly.
+fn quote_follows(text: &str) -> bool
+    ensures { result ≡ quote_follows text.now }
+{
+    match text.as_bytes() {
+        [] => false,
+        [first, rest @ ..] => !ends_piece(*first) && is_quote(first_end(rest)),
+    }
+}
+
+/// The first byte that ends a piece, if there is one.
+fn first_end(bytes: &[u8]) -> Option<u8>
+    ensures { result ≡ find ends_piece bytes.now }
+{
+    bytes.iter().copied().find(|byte| ends_piece(*byte))
+}
+
+/// Whether this is a quote.
+fn is_quote(byte: Option<u8>) -> bool
+    ensures { result ≡ is_quote byte }
+{
+    match byte {
+        Some(byte) => ByteClass::Quote.holds(byte),
+        None => false,
+    }
+}
+
+/// Whether a byte belongs to no piece of a production without quotes: a blank, a quote, `|`, `;` or `:`.
+fn ends_piece(byte: u8) -> bool
+    ensures { result ≡ ends_piece byte }
+{
+    ByteClass::Blank.holds(byte)
+        || ByteClass::Quote.holds(byte)
+        || byte == b'|'
+        || byte == b';'
+        || byte == b':'
+}
+
+/// Whether the text begins nearly as `%prec`.
+fn is_nearly_prec(text: &str) -> bool
+    ensures { result ≡ is_nearly_prec text.now }
+{
+    !begins_with(text, "%prec") && (begins_with(text, "%pr") || begins_with(text, "%pe"))
+}
+
+/// Whether the text begins nearly as `%empty`.
+fn is_nearly_empty(text: &str) -> bool
+    ensures { result ≡ is_nearly_empty text.now }
+{
+    !begins_with(text, "%empty") && begins_with(text, "%em")
 }
 
 /// Whether the text begins with the word.

@@ -134,7 +134,7 @@ module _ (format : Format) (unit : ColumnUnit) (name text : List ℕ) where
 
   -- the findings about its grammar, given its syntax and its numbers, with these levels; those that are no errors are warnings
   abbrev pub ReportsFindings : Levels → Syntax → Numbered → Printed → Type 0
-  ReportsFindings levels s g reported = (all : List ShownFinding) × AreFindings s g all
+  ReportsFindings levels s g reported = (all : List ShownFinding) × AreFindings text s g all
       × AreFindingLines (reported_by levels all) reported.lines
       × (reported.errors ≡ count_by (λ (finding : Reported). finding.is_error) (reported_by levels all))
       × (reported.errors + reported.warnings ≡ length (reported_by levels all))

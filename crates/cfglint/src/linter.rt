@@ -96,7 +96,7 @@ impl TextReader<Report> for FileReporter<'_> {
         ast: &GrammarAST,
         grammar: &YaccGrammar<u32>,
     ) -> Result<Report, AllocError> {
-        let all = findings(alloc, ast, grammar)?;
+        let all = findings(alloc, text, ast, grammar)?;
         let reported = reported_findings(alloc, &all, &self.levels)?;
         let lines = self.finding_lines(alloc, text, &reported)?;
         let errors = error_count(&reported);

@@ -62,6 +62,10 @@ and the others are warnings. If a finding is given to several of these options, 
   unused-precedence       a precedence of a token that no production needs
   repeated-token          a token that a %token list has a second time
   overridden-precedence   a %prec that a later one of its production overrides
+  glued-keyword           a name that directly follows a keyword, as in %tokens X
+  needless-expect-unused  a symbol of an %expect-unused that is used
+  escaped-token           a token whose name begins with a backslash: not reported
+  implicit-empty          an empty production without %empty: not reported
 
 --kind=KIND is --kind KIND, and so on.
 
@@ -287,7 +291,7 @@ const FORMATS: [&str; 2] = ["text", "json"];
 const UNITS: [&str; 3] = ["bytes", "characters", "display"];
 
 /// The values of `--allow`, `--warn` and `--deny`.
-const FINDINGS: [&str; 14] = [
+const FINDINGS: [&str; 18] = [
     "unused-rule",
     "unused-token",
     "shadowed-rule",
@@ -301,5 +305,9 @@ const FINDINGS: [&str; 14] = [
     "unused-precedence",
     "repeated-token",
     "overridden-precedence",
+    "glued-keyword",
+    "needless-expect-unused",
+    "escaped-token",
+    "implicit-empty",
     "all",
 ];

@@ -3,7 +3,7 @@ use Rattle.std.specs.Prelude.{ℕ, ◌==◌, List, [], ◌∷◌, Option, if◌t
 use Rattle.std.specs.List.{find}
 use Rattle.std.specs.Str.{bytes_eq}
 use Rattle.finding_kinds.specs.declared.finding_kind.FindingKind.{FindingKind}
-use Rattle.finding_kinds.specs.declared.finding_kind.FindingKind.TheVariants.{UnusedRule, UnusedToken, ShadowedRule, StartWithoutSentence, NoSentence, UnusableRule, UnusableProduction, UselessSymbol, CyclicRule, RepeatedProduction, UnusedPrecedence, RepeatedToken, OverriddenPrecedence}
+use Rattle.finding_kinds.specs.declared.finding_kind.FindingKind.TheVariants.{UnusedRule, UnusedToken, ShadowedRule, StartWithoutSentence, NoSentence, UnusableRule, UnusableProduction, UselessSymbol, CyclicRule, RepeatedProduction, UnusedPrecedence, RepeatedToken, OverriddenPrecedence, GluedKeyword, NeedlessExpectUnused, EscapedToken, ImplicitEmpty}
 use Rattle.finding_kinds.specs.declared.levels.Level.{Level}
 use Rattle.finding_kinds.specs.declared.levels.Level.TheVariants.{Allow, Warn, Deny}
 use Rattle.finding_kinds.specs.declared.levels.Levels.{Levels}
@@ -23,11 +23,16 @@ word_of RepeatedProduction = codes "repeated-production"
 word_of UnusedPrecedence = codes "unused-precedence"
 word_of RepeatedToken = codes "repeated-token"
 word_of OverriddenPrecedence = codes "overridden-precedence"
+word_of GluedKeyword = codes "glued-keyword"
+word_of NeedlessExpectUnused = codes "needless-expect-unused"
+word_of EscapedToken = codes "escaped-token"
+word_of ImplicitEmpty = codes "implicit-empty"
 
 -- the kinds, in order
 abbrev pub kinds : List FindingKind
 kinds = UnusedRule ∷ UnusedToken ∷ ShadowedRule ∷ StartWithoutSentence ∷ NoSentence ∷ UnusableRule ∷ UnusableProduction
-    ∷ UselessSymbol ∷ CyclicRule ∷ RepeatedProduction ∷ UnusedPrecedence ∷ RepeatedToken ∷ OverriddenPrecedence ∷ []
+    ∷ UselessSymbol ∷ CyclicRule ∷ RepeatedProduction ∷ UnusedPrecedence ∷ RepeatedToken ∷ OverriddenPrecedence
+    ∷ GluedKeyword ∷ NeedlessExpectUnused ∷ EscapedToken ∷ ImplicitEmpty ∷ []
 
 -- the kind that a word names
 abbrev pub finding_named : List ℕ → Option FindingKind
@@ -48,14 +53,20 @@ number RepeatedProduction = 9
 number UnusedPrecedence = 10
 number RepeatedToken = 11
 number OverriddenPrecedence = 12
+number GluedKeyword = 13
+number NeedlessExpectUnused = 14
+number EscapedToken = 15
+number ImplicitEmpty = 16
 
--- A start rule without a sentence is an error, and every other finding is a warning, except for those that only follow from a rule without a
--- sentence: they aren't reported.
+-- A start rule without a sentence is an error, and every other finding is a warning, except for two groups that aren't reported: those that
+-- only follow from a rule without a sentence, and those about a style that many files have.
 abbrev pub default_level : FindingKind → Level
 default_level StartWithoutSentence = Deny
 default_level UnusableRule = Allow
 default_level UnusableProduction = Allow
 default_level UselessSymbol = Allow
+default_level EscapedToken = Allow
+default_level ImplicitEmpty = Allow
 default_level _ = Warn
 
 abbrev pub default_levels : Levels

@@ -34,10 +34,18 @@ pub enum FindingKind {
     RepeatedToken,
     /// A later `%prec` of its production counts, and not this one.
     OverriddenPrecedence,
+    /// No blank is between a declaration's keyword and its first name, so the two look like another keyword.
+    GluedKeyword,
+    /// An `%expect-unused` list has the symbol, which is reachable from the start rule.
+    NeedlessExpectUnused,
+    /// The token's name begins with a backslash: a quoted text has no escapes.
+    EscapedToken,
+    /// The production has no symbols, and no `%empty` says so.
+    ImplicitEmpty,
 }
 
 /// The kinds, in order.
-pub(crate) const KINDS: [FindingKind; 13] = [
+pub(crate) const KINDS: [FindingKind; 17] = [
     FindingKind::UnusedRule,
     FindingKind::UnusedToken,
     FindingKind::ShadowedRule,
@@ -51,6 +59,10 @@ pub(crate) const KINDS: [FindingKind; 13] = [
     FindingKind::UnusedPrecedence,
     FindingKind::RepeatedToken,
     FindingKind::OverriddenPrecedence,
+    FindingKind::GluedKeyword,
+    FindingKind::NeedlessExpectUnused,
+    FindingKind::EscapedToken,
+    FindingKind::ImplicitEmpty,
 ];
 
 impl FindingKind {
@@ -79,6 +91,10 @@ impl FindingKind {
             FindingKind::UnusedPrecedence => "unused-precedence",
             FindingKind::RepeatedToken => "repeated-token",
             FindingKind::OverriddenPrecedence => "overridden-precedence",
+            FindingKind::GluedKeyword => "glued-keyword",
+            FindingKind::NeedlessExpectUnused => "needless-expect-unused",
+            FindingKind::EscapedToken => "escaped-token",
+            FindingKind::ImplicitEmpty => "implicit-empty",
         }
     }
 

@@ -19,12 +19,13 @@ pub enum Level {
 /// The level of each kind of finding.
 #[derive(Clone, Copy, Debug)]
 pub struct Levels {
-    by_kind: [Level; 13],
+    by_kind: [Level; 17],
 }
 
 impl Levels {
-    /// A start rule without a sentence is an error, and every other finding is a warning, except for those that only
-    /// follow from a rule without a sentence: they aren't reported.
+    /// A start rule without a sentence is an error, and every other finding is a warning, except for two groups that
+    /// aren't reported: those that only follow from a rule without a sentence, and those about a style that many files
+    /// have.
     pub fn new() -> Self
         ensures { result ≡ default_levels }
     {
@@ -33,6 +34,8 @@ impl Levels {
         levels.set(FindingKind::UnusableRule, Level::Allow);
         levels.set(FindingKind::UnusableProduction, Level::Allow);
         levels.set(FindingKind::UselessSymbol, Level::Allow);
+        levels.set(FindingKind::EscapedToken, Level::Allow);
+        levels.set(FindingKind::ImplicitEmpty, Level::Allow);
         levels
     }
 
@@ -41,7 +44,7 @@ impl Levels {
         ensures { result ≡ all_levels level }
     {
         Levels {
-            by_kind: [level; 13],
+            by_kind: [level; 17],
         }
     }
 

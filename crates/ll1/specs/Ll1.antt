@@ -26,6 +26,18 @@ pub record IsEntry (g : Grammar) (r t p : ℕ) : Type 0 where
 abbrev pub IsLl1 : Grammar → Type 0
 IsLl1 g = (r t p q : ℕ) → r < g.rules → t < g.tokens → IsEntry g r t p → IsEntry g r t q → p ≡ q
 
+-- of two productions of rule r: no token is in FIRST of both, at most one is nullable, and if the second is, no token is in FIRST of the first
+-- and in FOLLOW of r
+pub record AreApart (g : Grammar) (r : ℕ) (a b : List Sym) : Type 0 where
+  pub first : (t : ℕ) → t < g.tokens → FirstOf (HasProduction g) a t → FirstOf (HasProduction g) b t → ⊥
+  pub nullable : Derives (HasProduction g) a [] → Derives (HasProduction g) b [] → ⊥
+  pub follow : Derives (HasProduction g) b [] → (t : ℕ) → t < g.tokens → FirstOf (HasProduction g) a t → MayFollow g r t → ⊥
+
+-- the three conditions of section 4.4.3
+abbrev pub MeetsConditions : Grammar → Type 0
+MeetsConditions g = (p q : ℕ) → p < length g.productions → q < length g.productions → p ≢ q → (nth_production g p).rule ≡ (nth_production g q).rule
+    → AreApart g (nth_production g p).rule (nth_production g p).symbols (nth_production g q).symbols
+
 -- the entry [r, t] has no production, this one alone, or at least these two
 abbrev pub IsDecision : {S : Type 0} → (S → ℕ) → Grammar → ℕ → ℕ → Decision S → Type 0
 IsDecision number g r t NoProduction = (p : ℕ) → IsEntry g r t p → ⊥

@@ -6,12 +6,14 @@ pub mod reachable;
 
 ghost use Rattle.std.specs.Prelude.{◌≡◌, ◌↔◌, ◌<◌, ℕ, length, map, IfOk, IsTrue};
 ghost use Rattle.cfgrammar.specs.Firsts.{AreFirsts, IsAmongFirsts, IsNullableRule};
+ghost use Rattle.cfgrammar.specs.Follow.{MayFollow};
 ghost use Rattle.cfgrammar.specs.Follows.{AreFollows};
+ghost use Rattle.cfgrammar.specs.Grammar.{Grammar, IsGrammar};
 ghost use Rattle.cfgrammar.specs.Numbered.{core};
 ghost use Rattle.cfgrammar.specs.NumberedSymbols.{sym_of};
 ghost use Rattle.cfgrammar.specs.Openings.{nth_production};
 ghost use Rattle.cfgrammar.specs.Table.{HasBit};
-ghost use Rattle.ll1.specs.Ll1.{IsDecision, IsEntry, IsLl1};
+ghost use Rattle.ll1.specs.Ll1.{IsDecision, IsEntry, IsLl1, MeetsConditions};
 ghost use Rattle.ll1.specs.Inner.Sets.{IsUsedBySets};
 
 use cfgrammar::laws::{lists_begin_symbol_by_symbol, tokens_are_their_numbers};
@@ -31,6 +33,14 @@ pub enum Decision<S> {
     /// At least two productions are used, which these are two of: the grammar isn't LL(1).
     Conflict(PIdx<S>, PIdx<S>),
 }
+
+/// If some token follows each rule, a grammar is LL(1) exactly if any two productions of a rule meet the three
+/// conditions of Aho, Lam, Sethi and Ullman, 4.4.3.
+pub fn tables_meet_the_conditions()
+    ensures { (g : Grammar) → IsGrammar g
+        → ((r : ℕ) → r < g.rules → (t : ℕ) × (t < g.tokens) × MayFollow g r t)
+        → IsLl1 g ↔ MeetsConditions g }
+{}
 
 /// Whether a grammar is LL(1): at no token two productions of a rule are used.
 ///

@@ -2,7 +2,7 @@ use Rattle.std.proofs.Common.{◌≡◌, ◌++◌, List, [], nat_cmp, length, ma
 use Rattle.std.specs.List.Sorted.{IsPermutation, IsStableByKey}
 use Rattle.std.proofs.lemmas.Fn.{always_returns_same}
 use Rattle.cfgrammar.specs.Numbered.{Numbered}
-use Rattle.cfgfindings.specs.Findings.{ReportsBelow, ReportsNoSentence, ReportsUnusable, ReportsUnusableRule, ReportsUselessRule, ReportsUselessToken}
+use Rattle.cfgfindings.specs.Findings.{ReportsBelow, ReportsNeedless, ReportsNoSentence, ReportsUnusable, ReportsUnusableRule, ReportsUselessRule, ReportsUselessToken}
 use Rattle.cfgfindings.specs.Shown.{ShownFinding, offset_of, overridden_precedence, repeated_token}
 use Rattle.cfgrammar.specs.TreeView.{syntax}
 use Rattle.cfgfindings.proofs.found.findings.Goals as goal
@@ -15,6 +15,14 @@ joined a0 a1 a2 a3 a4 a5 a6 a7 a8 n t h w v u x y l r p d e0 e1 e2 e3 e4 e5 e6 e
     e8 ∙ ap (λ z. z ++ d) (e7 ∙ ap (λ z. z ++ p) (e6 ∙ ap (λ z. z ++ r) (e5 ∙ ap (λ z. z ++ l) (e4 ∙ ap (λ z. z ++ (x ++ y)) (e3 ∙ ap (λ z. z ++ u) (e2 ∙ ap (λ z. z ++ (w ++ v)) (e1 ∙ ap (λ z. z ++ (n ++ (t ++ h))) e0))))))) in
     all ∙ simp append_assoc
 
+-- the lists that come last
+joined_last : (a7 a8 a9 a10 a11 a12 d t p r n e m : List ShownFinding) → a8 ≡ a7 ++ d → a9 ≡ a8 ++ (t ++ (p ++ r)) → a10 ≡ a9 ++ n → a11 ≡ a10 ++ e → a12 ≡ a11 ++ m
+    → a12 ≡ a7 ++ (d ++ (t ++ (p ++ (r ++ (n ++ (e ++ m))))))
+joined_last a7 a8 a9 a10 a11 a12 d t p r n e m e8 e9 e10 e11 e12 =
+    let all : a12 ≡ ((((a7 ++ d) ++ (t ++ (p ++ r))) ++ n) ++ e) ++ m =
+    e12 ∙ ap (λ z. z ++ m) (e11 ∙ ap (λ z. z ++ e) (e10 ∙ ap (λ z. z ++ n) (e9 ∙ ap (λ z. z ++ (t ++ (p ++ r))) e8))) in
+    all ∙ simp append_assoc
+
 pub returns : goal.returns
 returns c =
     let (rules, tokens, shadowed, are_rules, are_tokens, are_shadowed, unused_is) = c.in_ok-push_unused.ensures in
@@ -24,16 +32,24 @@ returns c =
     let (cycles, are_cycles, cycles_is) = c.in_ok-push_cycles.ensures in
     let (repeats, are_repeats, repeats_is) = c.in_ok-push_repeats.ensures in
     let (precedences, are_precedences, precedences_is) = c.in_ok-push_precedences.ensures in
+    let (glued_tokens, glued_precedences, glued_repeated, are_glued_tokens, are_glued_precedences, are_glued_repeated, glued_is) = c.in_ok-push_glued.ensures in
+    let (needless, are_needless, needless_is) = c.in_ok-push_needless.ensures in
+    let (escapes, are_escapes, escapes_is) = c.in_ok-push_escaped.ensures in
+    let (empty, are_empty, empty_is) = c.in_ok-push_implicitly_empty.ensures in
     let seen : c.in_ok-unproductive.unproductive ≡ c.args.grammar.now = c.in_ok-unproductive.ensures in
     let declared = map repeated_token (syntax c.args.ast.now).repeated_tokens ++ map overridden_precedence (syntax c.args.ast.now).overridden_precedences in
-    let before = c.push_declarations.new.all.items in
+    let last = declared ++ (glued_tokens ++ (glued_precedences ++ (glued_repeated ++ (needless ++ (escapes ++ empty))))) in
+    let before = c.push_implicitly_empty.new.all.items in
     let after = c.sort_by_key.new.self.items in
     let reported : List ShownFinding = rules ++ (tokens ++ (shadowed
-    ++ (unproductive_rules ++ (unusable_rules ++ (unusable_productions ++ (useless_rules ++ (useless_tokens ++ (cycles ++ (repeats ++ (precedences ++ declared)))))))))) in
+    ++ (unproductive_rules ++ (unusable_rules ++ (unusable_productions ++ (useless_rules ++ (useless_tokens ++ (cycles ++ (repeats ++ (precedences ++ last)))))))))) in
+    let last_is = joined_last c.push_precedences.new.all.items c.push_declarations.new.all.items c.push_glued.new.all.items c.push_needless.new.all.items
+    c.push_escaped.new.all.items before declared glued_tokens glued_precedences glued_repeated needless escapes empty
+    c.in_ok-push_declarations.ensures glued_is needless_is escapes_is empty_is in
     let is : before ≡ reported = joined c.new-all.result.items c.push_unused.new.all.items c.push_unproductive.new.all.items c.push_unusable.new.all.items
     c.push_useless.new.all.items c.push_cycles.new.all.items c.push_repeats.new.all.items c.push_precedences.new.all.items before
-    rules tokens shadowed unproductive_rules unusable_rules unusable_productions useless_rules useless_tokens cycles repeats precedences declared
-    c.new-all.ensures.items unused_is unproductive_is unusable_is useless_is cycles_is repeats_is precedences_is c.in_ok-push_declarations.ensures in
+    rules tokens shadowed unproductive_rules unusable_rules unusable_productions useless_rules useless_tokens cycles repeats precedences last
+    c.new-all.ensures.items unused_is unproductive_is unusable_is useless_is cycles_is repeats_is precedences_is last_is in
     let sorted = c.in_ok-sort_by_key.ensures.sorted offset_of (always_returns_same _ _ _ (λ a r f called. search rules)) in
     let stable = c.in_ok-sort_by_key.ensures.stable offset_of (always_returns_same _ _ _ (λ a r f called. search rules)) in
     record {
@@ -50,6 +66,12 @@ returns c =
         cycles = cycles;
         repeats = repeats;
         precedences = precedences;
+        glued_tokens = glued_tokens;
+        glued_precedences = glued_precedences;
+        glued_repeated_tokens = glued_repeated;
+        needless = needless;
+        escapes = escapes;
+        empty = empty;
         are_unused_rules = are_rules;
         are_unused_tokens = are_tokens;
         are_shadowed = are_shadowed;
@@ -61,6 +83,12 @@ returns c =
         are_cycles = are_cycles;
         are_repeats = are_repeats;
         are_precedences = are_precedences;
+        are_glued_tokens = are_glued_tokens;
+        are_glued_precedences = are_glued_precedences;
+        are_glued_repeated_tokens = are_glued_repeated;
+        are_needless = subst (λ (g : Numbered). ReportsBelow (ReportsNeedless (syntax c.args.ast.now) g) (length (syntax c.args.ast.now).expect_unused) needless) seen are_needless;
+        are_escapes = are_escapes;
+        are_empty = are_empty;
         is = refl;
       };
       by_offset = record {

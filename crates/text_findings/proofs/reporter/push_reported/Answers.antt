@@ -1,8 +1,8 @@
 use Rattle.std.proofs.Common.{◌≡◌, ◌++◌, List, [], ◌∷◌, sym, subst, ap, ◌∙◌, append-nil, append_assoc}
-use Rattle.cfgfindings.specs.Findings.{none, reported, left}
-use Rattle.cfgfindings.specs.Shown.{ShownFinding}
-use Rattle.cfgfindings.proofs.reporter.push_reported.Goals as goal
-use Rattle.cfgfindings.proofs.reporter.push_reported.Goals.{in-Some+in_ok-push, in_default}
+use Rattle.text_findings.specs.Reports.{none, reported, left}
+use Rattle.text_findings.specs.Finding.{ShownFinding}
+use Rattle.text_findings.proofs.reporter.push_reported.Goals as goal
+use Rattle.text_findings.proofs.reporter.push_reported.Goals.{in-Some+in_ok-push, in_default}
 
 pub loop-number-init : goal.loop-number-init
 loop-number-init g c = ([], none, sym (append-nil c.args.all.now.items))

@@ -1,7 +1,7 @@
 //! Findings about a grammar, and where they are.
 
 ghost use Rattle.std.specs.Prelude.{◌≡◌, [], ◌∷◌, IfOk, Some, string_bytes};
-ghost use Rattle.cfgfindings.specs.Shown.{offset_of};
+ghost use Rattle.text_findings.specs.Finding.{offset_of};
 
 use cfgrammar::{Span, Spanned, SpansKind};
 pub use finding_kinds::FindingKind;
@@ -19,7 +19,7 @@ pub struct Finding {
 
 impl Model for Finding {
     ghost use Rattle.std.specs.Prelude.{string_bytes};
-    ghost use Rattle.cfgfindings.specs.Shown.{ShownFinding};
+    ghost use Rattle.text_findings.specs.Finding.{ShownFinding};
 
     ghost Value = { ShownFinding };
 
@@ -28,14 +28,14 @@ impl Model for Finding {
 
 impl Finding {
     /// A finding of this kind, with its spans and its text.
-    pub(crate) fn new(kind: FindingKind, spans: Vec<Span>, text: String) -> Finding
+    pub fn new(kind: FindingKind, spans: Vec<Span>, text: String) -> Finding
         ensures { result ≡ record { kind = kind; spans = spans.items; text = string_bytes text } }
     {
         Finding { kind, spans, text }
     }
 
     /// A finding at one span.
-    pub(crate) fn at(
+    pub fn at(
         alloc: Global,
         kind: FindingKind,
         span: Span,
@@ -49,7 +49,7 @@ impl Finding {
     }
 
     /// A finding at two spans, in this order.
-    pub(crate) fn at_both(
+    pub fn at_both(
         alloc: Global,
         kind: FindingKind,
         span: Span,
@@ -69,7 +69,7 @@ impl Finding {
     }
 
     /// Its offset in bytes: the start of its first span.
-    pub(crate) fn offset(&self) -> usize
+    pub fn offset(&self) -> usize
         ensures { result ≡ offset_of self.now }
     {
         match self.spans.first() {
@@ -104,7 +104,7 @@ impl fmt::Display for Finding {
 }
 
 impl Spanned for Finding {
-    ghost use Rattle.cfgfindings.specs.Shown.{spanskind_of};
+    ghost use Rattle.text_findings.specs.Finding.{spanskind_of};
 
     ghost spans = { λ x. x.spans };
 

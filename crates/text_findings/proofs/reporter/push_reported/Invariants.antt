@@ -1,7 +1,7 @@
 use Rattle.std.proofs.Common.{◌≡◌, ◌++◌, List}
-use Rattle.cfgfindings.specs.Findings.{ReportsBelow}
-use Rattle.cfgfindings.specs.Shown.{ShownFinding}
-use Rattle.cfgfindings.proofs.reporter.push_reported.Given as goal
+use Rattle.text_findings.specs.Reports.{ReportsBelow}
+use Rattle.text_findings.specs.Finding.{ShownFinding}
+use Rattle.text_findings.proofs.reporter.push_reported.Given as goal
 
 -- the findings for the things so far come after the earlier findings
 abbrev pub invariant-loop-number : goal.invariant-loop-number

@@ -1,15 +1,15 @@
 //! Findings about numbered things: rules, productions, precedences.
 
 ghost use Rattle.std.specs.Prelude.{◌≡◌, ◌++◌, ◌≤◌, OnOk};
-ghost use Rattle.cfgfindings.specs.Findings.{ReportsBelow};
+ghost use Rattle.text_findings.specs.Reports.{ReportsBelow};
 
 use crate::finding::Finding;
 use std::alloc::{AllocError, Global};
 
 /// Reports on numbered things.
-pub(crate) trait Reporter {
+pub trait Reporter {
     ghost use Rattle.std.specs.Prelude.{◌<◌, ℕ, Option, IfOk};
-    ghost use Rattle.cfgfindings.specs.Shown.{ShownFinding};
+    ghost use Rattle.text_findings.specs.Finding.{ShownFinding};
 
     // How many things there are.
     ghost count: { Self → ℕ };
@@ -28,7 +28,7 @@ pub(crate) trait Reporter {
 }
 
 /// Adds the findings for the first `count` things to `all`, in order.
-pub(crate) fn push_reported<T: Reporter>(
+pub fn push_reported<T: Reporter>(
     alloc: Global,
     all: &mut Vec<Finding>,
     reporter: &T,

@@ -1,0 +1,6 @@
+pub mod Finding
+pub mod Reports
+pub mod Words
+pub mod Glued
+pub mod Escapes
+pub mod Empty

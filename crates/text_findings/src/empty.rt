@@ -1,0 +1,86 @@
+//! Productions without symbols that don't say so.
+
+ghost use Rattle.std.specs.Prelude.{◌≡◌, ◌++◌, length, IfOk, OnOk};
+ghost use Rattle.std.specs.List.{starts_with};
+ghost use Rattle.cfgrammar.specs.TreeView.{syntax};
+ghost use Rattle.cfgrammar.specs.SyntaxView.{production_view};
+ghost use Rattle.text_findings.specs.Reports.{ReportsBelow};
+ghost use Rattle.text_findings.specs.Empty.{ReportsImplicitlyEmpty, begins_at, implicitly_empty, is_implicitly_empty};
+
+use crate::finding::{Finding, FindingKind};
+use crate::reporter::{Reporter, push_reported};
+use cfgrammar::yacc::ast::{GrammarAST, Production};
+use std::alloc::{AllocError, Global};
+
+/// Adds the productions without symbols that don't say so to the findings.
+pub fn push_implicitly_empty(
+    alloc: Global,
+    all: &mut Vec<Finding>,
+    text: &str,
+    ast: &GrammarAST,
+) -> Result<(), AllocError>
+    ensures { OnOk result ((reported : _) × ReportsBelow (ReportsImplicitlyEmpty text.now (syntax ast.now))
+        (length (syntax ast.now).productions) reported × (all.new.items ≡ all.old.items ++ reported)) }
+{
+    let reporter = ImplicitlyEmpty { text, ast };
+    push_reported(alloc, all, &reporter, ast.prods().len())
+}
+
+/// Reports productions without symbols that don't say so.
+#[derive(Drop)]
+struct ImplicitlyEmpty<'a> {
+    text: &'a str,
+    ast: &'a GrammarAST,
+}
+
+impl Reporter for ImplicitlyEmpty<'_> {
+    ghost use Rattle.std.specs.Prelude.{length};
+    ghost use Rattle.cfgrammar.specs.TreeView.{syntax};
+    ghost use Rattle.text_findings.specs.Empty.{ReportsImplicitlyEmpty};
+
+    ghost count = { λ x. length (syntax x.ast.now).productions };
+
+    ghost reports = { λ x. ReportsImplicitlyEmpty x.text.now (syntax x.ast.now) };
+
+    fn report(&self, alloc: Global, number: usize) -> Result<Option<Finding>, AllocError> {
+        match self.ast.prods().get(number) {
+            Some(production) => implicitly_empty(alloc, self.text, production),
+            None => Ok(None),
+        }
+    }
+}
+
+/// The finding that a production has no symbols and doesn't say so, if that is true.
+fn implicitly_empty(
+    alloc: Global,
+    text: &str,
+    production: &Production,
+) -> Result<Option<Finding>, AllocError>
+    ensures { IfOk result (λ found. found ≡ implicitly_empty text.now (production_view production.now)) }
+{
+    if !is_implicitly_empty(text, production) {
+        return Ok(None);
+    }
+    let span = production.prod_span;
+    let said = String::from_str(alloc, "Empty production without %empty")?;
+    Ok(Some(Finding::at(alloc, FindingKind::ImplicitEmpty, span, said)?))
+}
+
+/// Whether a production has no symbols, and its text begins neither with `%empty` nor with `%prec`.
+fn is_implicitly_empty(text: &str, production: &Production) -> bool
+    ensures { result ≡ is_implicitly_empty text.now (production_view production.now) }
+{
+    let start = production.prod_span.start();
+    production.symbols.is_empty()
+        && !begins_at(text, start, "%empty")
+        && !begins_at(text, start, "%prec")
+}
+
+/// Whether the text goes on with the word at this offset.
+fn begins_at(text: &str, offset: usize, word: &str) -> bool
+    ensures { result ≡ begins_at text.now offset word.now }
+{
+    let bytes = text.as_bytes();
+    let (_, rest) = bytes.split_at(bytes.len().min(offset));
+    rest.starts_with(word.as_bytes())
+}

@@ -1,0 +1,16 @@
+//! Findings, how they are reported number by number, and those about the words of a text.
+#![tactic(auto)]
+
+mod empty;
+mod escapes;
+pub mod finding;
+mod glued;
+pub mod reporter;
+mod words;
+
+pub use empty::push_implicitly_empty;
+pub use escapes::push_escaped;
+pub use finding::{Finding, FindingKind};
+pub use glued::push_glued;
+pub use reporter::{Reporter, push_reported};
+pub use words::Words;
