@@ -6,3 +6,4 @@ pub mod Here
 pub mod Inner
 pub mod Items
 pub mod Rules
+pub mod Sorts

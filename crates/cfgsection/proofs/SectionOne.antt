@@ -4,6 +4,7 @@ use Rattle.cfgbase.specs.declared.span.Span.{Span}
 use Rattle.constructs.specs.Construct.{computes}
 use Rattle.constructs.specs.Read.{Read}
 use Rattle.constructs.proofs.Agree.{agree}
+use Rattle.constructs.proofs.Steps.{noted_after}
 use Rattle.cfgsection.specs.SectionGrammar.{Entry, Fault, section}
 use Rattle.cfgsection.specs.SectionReads.{IsSection, HasOneSection, end_of, entry_view, unless_errors, section_answer, section_of, errors_view}
 use Rattle.cfgsection.specs.SectionErrors.{section_errors}

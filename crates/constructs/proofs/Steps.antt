@@ -71,7 +71,7 @@ module _ {Reader Fixed Stop Made Item Fault : Type 0} (R : ReaderKind Reader Fix
       let items = (computes c (R.rest now)).items in
       subst (λ o. Returns R view now next result (recover_outcome items o (λ fault. computes (d fault) (R.rest now)))) (sym outcome)
       (returns_after now stopped again next items (computes (d fault) (R.rest now)) made grown view result fixed
-        (subst (λ text. Returns R view again next result (computes (d fault) text)) rest builds))
+      (subst (λ text. Returns R view again next result (computes (d fault) text)) rest builds))
 
   -- the turns of a loop with a test
   module _ {A : Type 0} (test : List ℕ → Bool) (d : Fixed → Construct Item Fault Less (One A)) (now : Reader) where

@@ -2,9 +2,10 @@
 
 ghost use Rattle.std.specs.Prelude.{◌≡◌, IfOk, map};
 ghost use Rattle.bison_words.specs.Words.{lexeme_view, word_view};
-ghost use Rattle.bison_tree.specs.Sorts.{directive_sort, lexeme_sort, sorts_of};
+ghost use Rattle.bison_reader.specs.Sorts.{directive_sort, lexeme_sort, sorts_of};
 
-use bison_reader::{Associativity, Declaration, Modifier, Sort};
+use crate::item::Associativity;
+use crate::sort::{Declaration, Modifier, Sort};
 use bison_words::{Directive, Lexeme, Word};
 use std::alloc::{AllocError, Global};
 
@@ -48,7 +49,7 @@ fn directive_sort(directive: Directive) -> Sort
 
 /// The sort of a word.
 pub fn sort_of(lexeme: Lexeme<'_>) -> Sort
-    ensures { result ≡ lexeme_sort (lexeme_view lexeme) }
+    ensures { result ≡ lexeme_sort (lexeme_view lexeme.entry) }
 {
     match lexeme {
         Lexeme::Identifier(_) => Sort::Identifier,

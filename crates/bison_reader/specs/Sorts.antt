@@ -6,6 +6,8 @@ use Rattle.bison_words.specs.Words as words
 use Rattle.bison_words.specs.Words.{Lexeme, Word, word_in}
 use Rattle.bison_words.specs.declared.directive.Directive.{Directive}
 use Rattle.bison_words.specs.declared.directive.Directive.TheVariants as directives
+use Rattle.bison_reader.specs.FileGrammar.{items_of}
+use Rattle.bison_reader.specs.Items.{Item}
 use Rattle.bison_reader.specs.declared.item.Associativity.TheVariants.{Left, Right, Nonassoc, OnlyPrecedence}
 use Rattle.bison_reader.specs.declared.sort.Declaration.TheVariants as declarations
 use Rattle.bison_reader.specs.declared.sort.Modifier.TheVariants as modifiers
@@ -77,9 +79,13 @@ lexeme_sort words.End = sorts.End
 abbrev pub sorts_of : List Word → List Sort
 sorts_of = map (λ word. lexeme_sort word.lexeme)
 
--- the words of a text, its faults and its epilogue, as items
+-- what is read of a text: its words, the faults in them and its epilogue, as items
 abbrev pub scanned : List ℕ → List words.Item
 scanned text = (computes (text_words (length text)) text).items
 
 abbrev pub words_in : List ℕ → List Word
 words_in text = filter_map word_in (scanned text)
+
+-- what the words of a text say
+abbrev pub items_in : List ℕ → List Item
+items_in text = items_of (sorts_of (words_in text))
