@@ -1,5 +1,5 @@
 -- A text's section has exactly one reading: the one that the functions on lists compute.
-use Rattle.std.proofs.Common.{◌≡◌, ℕ, Bool, List, [], ◌∷◌, ◌++◌, length, map, fold, Result, Ok, Err, Bor, Vec, Global, refl, sym, ◌∙◌, ap, ap₂}
+use Rattle.std.proofs.Common.{◌≡◌, ℕ, Bool, List, [], ◌∷◌, ◌++◌, length, map, Result, Ok, Err, Bor, Vec, Global, refl, sym, ◌∙◌, ap, ap₂}
 use Rattle.cfgbase.specs.declared.span.Span.{Span}
 use Rattle.constructs.specs.Construct.{computes}
 use Rattle.constructs.specs.Read.{Read}
