@@ -50,7 +50,7 @@ module _ (P : ℕ → List Sym → Type 0) where
   pub first_begins : (r t : ℕ) → ((q : ℕ) → Path P r q → Productive P q) → First P r t ↔ ((w : List ℕ) × Sentence P r (t ∷ w))
   first_begins r t productive = (
     (λ (rest, d). let (w, e) = tokens_derived rest (λ q k. productive q (rules_after r t rest d q k)) in
-    (w, derives_trans P d (derives_left P (Token t ∷ []) e))),
+        (w, derives_trans P d (derives_left P (Token t ∷ []) e))),
     (λ (w, s). (map Token w, s)),
   )
 
