@@ -134,6 +134,13 @@ impl<'a, S: Storage, T: Tables<S>> SentenceGenerator<'a, S, T> {
         self.tables.invariant_holds();
     }
 
+    /// The number of rules, as of the grammar.
+    pub fn rules_len(&self) -> RIdx<S>
+        ensures { S.number result.0 ≡ self.now.grammar.rules }
+    {
+        self.tables.rules_len()
+    }
+
     /// What each token costs, which is at least 1.
     pub fn token_costs(&self) -> &[u8]
         ensures costs { result.now ≡ self.now.costs }

@@ -1,2 +1,3 @@
 pub mod SymbolCopies
 pub mod BitWords
+pub mod Inner

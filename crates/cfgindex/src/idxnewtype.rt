@@ -16,6 +16,13 @@ impl<T: Storage> RIdx<T> {
         let RIdx(index) = *self;
         index
     }
+
+    /// The index as a number.
+    pub fn as_usize(&self) -> usize
+        ensures { result ≡ T.number self.now.0 }
+    {
+        self.0.to_usize()
+    }
 }
 
 impl<T: Storage> From<RIdx<T>> for usize {
@@ -45,6 +52,13 @@ impl<T: Storage> PIdx<T> {
     {
         let PIdx(index) = *self;
         index
+    }
+
+    /// The index as a number.
+    pub fn as_usize(&self) -> usize
+        ensures { result ≡ T.number self.now.0 }
+    {
+        self.0.to_usize()
     }
 }
 
@@ -76,6 +90,13 @@ impl<T: Storage> SIdx<T> {
         let SIdx(index) = *self;
         index
     }
+
+    /// The index as a number.
+    pub fn as_usize(&self) -> usize
+        ensures { result ≡ T.number self.now.0 }
+    {
+        self.0.to_usize()
+    }
 }
 
 impl<T: Storage> From<SIdx<T>> for usize {
@@ -105,6 +126,13 @@ impl<T: Storage> TIdx<T> {
     {
         let TIdx(index) = *self;
         index
+    }
+
+    /// The index as a number.
+    pub fn as_usize(&self) -> usize
+        ensures { result ≡ T.number self.now.0 }
+    {
+        self.0.to_usize()
     }
 }
 

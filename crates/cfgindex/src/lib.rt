@@ -10,4 +10,4 @@ pub mod vob;
 pub use idxnewtype::{PIdx, RIdx, SIdx, Symbol, TIdx};
 pub use list_table::ListTable;
 pub use storage::{Storage, to_storage};
-pub use vob::Vob;
+pub use vob::{IterSetBits, Vob};

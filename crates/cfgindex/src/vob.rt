@@ -1,14 +1,17 @@
 //! Lists of bits.
 
-ghost use Rattle.std.specs.Prelude.{◌≡◌, ◌≢◌, ◌<◌, ◌==◌, ◌↔◌, ◌||◌, ◌-◌, ◌^◌};
-ghost use Rattle.std.specs.Prelude.{ℕ, Bool, List, Some, false, if◌then◌else◌, length, map, not, replicate};
-ghost use Rattle.std.specs.Prelude.{slice_get, slice_set, IfOk, IsTrue, MatchBool};
+ghost use Rattle.std.specs.Prelude.{◌≡◌, ◌≢◌, ◌<◌, ◌≤◌, ◌==◌, ◌↔◌, ◌||◌, ◌-◌, ◌^◌};
+ghost use Rattle.std.specs.Prelude.{ℕ, Bool, List, Some, count_by, false, if◌then◌else◌, length, map, not};
+ghost use Rattle.std.specs.Prelude.{replicate, slice_get, slice_set, IfOk, IsTrue, MatchBool};
 ghost use Rattle.std.specs.Bool.{beq};
 ghost use Rattle.std.specs.Cmp.{bool_eq_equiv, partial_equiv_from_equiv};
 ghost use Rattle.std.specs.Cmp.Lexicographic.{lists_equiv, lists_per, pointwise};
 ghost use Rattle.std.specs.Int.{bit_at};
+ghost use Rattle.std.specs.Iterator.{YieldsFirst, item_count};
 ghost use Rattle.std.specs.List.{zip};
+ghost use Rattle.lemmas.specs.Lists.{positions};
 ghost use Rattle.cfgindex.specs.BitWords.{AreJoined, AreWords, bits_of};
+ghost use Rattle.cfgindex.specs.Inner.SetBits.{IsNextSetBit};
 
 use std::alloc::{AllocError, Global};
 use std::marker::Model;
@@ -93,6 +96,42 @@ impl Vob {
         }
     }
 
+    /// The positions of the bits that are on, in increasing order.
+    pub fn iter_set_bits(&self) -> IterSetBits<'_>
+        ensures { result ≡ positions (λ b. b) self.now }
+    {
+        IterSetBits {
+            bits: self,
+            from: 0,
+        }
+    }
+
+    /// How many bits are on.
+    pub fn count(&self) -> usize
+        ensures { result ≡ count_by (λ b. b) self.now }
+    {
+        let mut count = 0;
+        for i in 0..self.len() {
+            if self.get(i).unwrap_or(false) {
+                count += 1;
+            }
+        }
+        count
+    }
+
+    /// The position of the first bit at `from` or after it that is on.
+    fn next_set_bit(&self, from: usize) -> Option<usize>
+        requires { from ≤ length self.now }
+        ensures { IsNextSetBit self.now from result }
+    {
+        for i in from..self.len() {
+            if self.get(i).unwrap_or(false) {
+                return Some(i);
+            }
+        }
+        None
+    }
+
     /// Sets the bit at `i` to `bit`, and returns whether that changed it.
     pub fn set(&mut self, i: usize, bit: bool) -> bool
         requires { i < length self.old }
@@ -133,6 +172,43 @@ impl Vob {
         ensures changed { MatchBool result (self.new ≢ self.old) (self.new ≡ self.old) }
     {
         or_words(self.words.as_mut_slice(), words)
+    }
+}
+
+/// The positions of the bits of a list that are on, in increasing order.
+#[derive(Drop)]
+pub struct IterSetBits<'a> {
+    bits: &'a Vob,
+    from: usize,
+}
+
+impl<'a> Model for IterSetBits<'a> {
+    ghost use Rattle.std.specs.Prelude.{ℕ, ◌≤◌, List, length};
+    ghost use Rattle.cfgindex.specs.Inner.SetBits.{set_bits_from};
+
+    ghost Value = { List ℕ };
+
+    ghost view = { λ x. set_bits_from x.bits.now x.from };
+
+    ghost invariant = { λ x. x.from ≤ length x.bits.now };
+}
+
+impl<'a> Iterator for IterSetBits<'a> {
+    type Item = usize;
+
+    ghost next_gives = { YieldsFirst (λ s. s) };
+
+    ghost remaining = { item_count (λ s. s) };
+
+    fn next(&mut self) -> Option<usize> {
+        let bits = self.bits;
+        let len = bits.len();
+        let Some(i) = bits.next_set_bit(self.from) else {
+            self.from = len;
+            return None;
+        };
+        self.from = i + 1;
+        Some(i)
     }
 }
 

@@ -22,7 +22,9 @@ pub mod yacc;
 
 pub use cfgbase::{Location, Span, Spanned, SpansKind, span};
 pub use cfghints::{Hint, hint_for};
-pub use cfgindex::{PIdx, RIdx, SIdx, Storage, Symbol, TIdx, Vob, idxnewtype, storage};
+pub use cfgindex::{
+    IterSetBits, PIdx, RIdx, SIdx, Storage, Symbol, TIdx, Vob, idxnewtype, storage,
+};
 pub use cfglines::{FeedError, NewlineCache, Positions, newlinecache};
 pub use cfgmarks::markmap;
 pub use cfgrender::{Source, Visible, render, render_all};
