@@ -4,7 +4,7 @@ ghost use Rattle.std.specs.Prelude.{◌≡◌};
 ghost use Rattle.bison_words.specs.Bytes.{is_odd, is_escape};
 
 /// A class of bytes, decided by ASCII bytes.
-#[derive(Clone, Copy, Debug, PartialEq, Eq)]
+#[derive(Clone, Copy)]
 pub enum Class {
     /// Any byte.
     Any,

@@ -4,7 +4,7 @@ ghost use Rattle.std.specs.Prelude.{◌≡◌, ◌+◌, ◌<◌, ◌^◌};
 ghost use Rattle.bison_words.specs.Nested.{after_piece, outermost};
 
 /// What a piece of code, or of a tag, is for the nesting of brackets.
-#[derive(Clone, Copy, Debug, PartialEq, Eq)]
+#[derive(Clone, Copy)]
 pub enum Nesting {
     /// It opens a bracket.
     Opens,
@@ -16,7 +16,7 @@ pub enum Nesting {
 }
 
 /// How many brackets were opened, and by how many the depth was lowered.
-#[derive(Clone, Copy, Debug, PartialEq, Eq)]
+#[derive(Clone, Copy)]
 pub struct Depth {
     pub opened: usize,
     pub lowered: usize,
