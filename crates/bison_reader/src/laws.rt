@@ -1,17 +1,10 @@
 //! Laws of the grammar of files.
 
-ghost use Rattle.std.specs.Prelude.{ℕ, List};
+ghost use Rattle.std.specs.Prelude.{List};
 ghost use Rattle.constructs.specs.Construct.{Says, computes};
 ghost use Rattle.constructs.specs.Graph.{IsGraph};
 ghost use Rattle.bison_reader.specs.FileGrammar.{file};
-ghost use Rattle.bison_words.specs.TextWords.{text_words};
 ghost use Rattle.bison_reader.specs.declared.sort.Sort.{Sort};
-
-/// A text has exactly one reading as words, and the plain program gives it.
-#[tactic(auto, using(constructs::proofs::Agree::agree))]
-pub fn words_are_graph()
-    ensures { (len : ℕ) → IsGraph (Says (text_words len)) (computes (text_words len)) }
-{}
 
 /// Words of any sorts have exactly one reading as a file, and the plain program gives it.
 #[tactic(auto, using(constructs::proofs::Agree::agree))]
