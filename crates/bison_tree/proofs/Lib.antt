@@ -1,0 +1,4 @@
+pub mod Adds
+pub mod Once
+pub mod Taken
+pub mod Whole

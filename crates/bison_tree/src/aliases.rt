@@ -1,0 +1,115 @@
+//! Strings that are other names of tokens.
+
+ghost use Rattle.std.specs.Prelude.{◌≡◌, [], map, fold, filter_map, IfOk, OnOk};
+ghost use Rattle.std.specs.String.{string_bytes};
+ghost use Rattle.bison_reader.specs.Items.{item_view};
+ghost use Rattle.bison_words.specs.Words.{word_view};
+ghost use Rattle.bison_tree.specs.Inner.Views.{IsConsistent, aliases_view};
+ghost use Rattle.bison_tree.specs.Names.{alias_in, aliases_of, called, is_taken, name_at, names_of, with_alias};
+
+use crate::names::own_names;
+use crate::sets::{add_name, has_name};
+use bison_reader::Item;
+use bison_words::Word;
+use indexmap::{IndexMap, IndexSet};
+use std::alloc::{AllocError, Global};
+
+/// Strings that are other names of tokens, each with its token, and these tokens.
+#[derive(Drop)]
+pub(crate) struct Aliases {
+    of_strings: IndexMap<String, String>,
+    tokens: IndexSet<String>,
+}
+
+/// The name at an index; an empty one, if there is none.
+pub(crate) fn name_at<'a>(names: &'a [String], word: usize) -> &'a str
+    ensures { result.now ≡ name_at (map string_bytes names.now) word }
+{
+    match names.get(word) {
+        Some(name) => name.as_str(),
+        None => "",
+    }
+}
+
+impl Aliases {
+    fn new(alloc: Global) -> Self
+        ensures none { aliases_view result ≡ [] }
+        ensures consistent { IsConsistent result }
+    {
+        Aliases {
+            of_strings: IndexMap::new(alloc),
+            tokens: IndexSet::new(alloc),
+        }
+    }
+
+    /// Whether the string or the token has another name already.
+    fn is_taken(&self, string: &str, token: &str) -> bool
+        requires { IsConsistent self.now }
+        ensures { result ≡ is_taken (aliases_view self.now) (string.now, token.now) }
+    {
+        self.of_strings.contains_key(string) || has_name(&self.tokens, token)
+    }
+
+    /// Makes the string another name of the token, unless one of the two has another already.
+    fn give(&mut self, alloc: Global, string: &str, token: &str) -> Result<(), AllocError>
+        requires { IsConsistent self.old }
+        ensures given { OnOk result (aliases_view self.new ≡ with_alias (aliases_view self.old) (string.now, token.now)) }
+        ensures consistent { OnOk result (IsConsistent self.new) }
+    {
+        if self.is_taken(string, token) {
+            return Ok(());
+        }
+        add_name(alloc, &mut self.tokens, token)?;
+        self.of_strings
+            .insert(String::from_str(alloc, string)?, String::from_str(alloc, token)?)?;
+        Ok(())
+    }
+
+    /// What a name is called: a string that is another name of a token is called by the token's name.
+    fn called<'a>(&'a self, name: &'a str) -> &'a str
+        ensures { result.now ≡ called (aliases_view self.now) name.now }
+    {
+        match self.of_strings.get(name) {
+            Some(token) => token.as_str(),
+            None => name,
+        }
+    }
+}
+
+/// The aliases that items give.
+fn aliases_of(alloc: Global, own: &[String], items: &[Item]) -> Result<Aliases, AllocError>
+    ensures { IfOk result (λ aliases. aliases_view aliases
+        ≡ aliases_of (map string_bytes own.now) (map item_view items.now)) }
+{
+    let mut aliases = Aliases::new(alloc);
+    for item in items {
+        if let Item::Alias { token, string } = item {
+            aliases.give(alloc, name_at(own, *string), name_at(own, *token))?;
+        }
+    }
+    Ok(aliases)
+}
+
+/// The names of words, by the names that they have by themselves.
+fn called(alloc: Global, aliases: &Aliases, own: &[String]) -> Result<Vec<String>, AllocError>
+    ensures { IfOk result (λ names. map string_bytes names.items
+        ≡ map (called (aliases_view aliases.now)) (map string_bytes own.now)) }
+{
+    let mut names = Vec::new(alloc);
+    for name in own {
+        names.push(String::from_str(alloc, aliases.called(name.as_str()))?)?;
+    }
+    Ok(names)
+}
+
+/// The name of each word.
+#[tactic(auto, unfolding(crate::specs::Names::names_of))]
+pub(crate) fn names_of(alloc: Global, words: &[Word<'_>], items: &[Item]) -> Result<Vec<String>, AllocError>
+    ensures { IfOk result (λ names. map string_bytes names.items
+        ≡ names_of (map word_view words.now) (map item_view items.now)) }
+{
+    let own = own_names(alloc, words)?;
+    let aliases = aliases_of(alloc, own.as_slice(), items)?;
+    let names = called(alloc, &aliases, own.as_slice())?;
+    Ok(names)
+}
