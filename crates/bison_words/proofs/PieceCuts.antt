@@ -1,11 +1,10 @@
 -- A text may be cut after each piece that is read of it, and pieces between cuts are pieces of the text.
-use Rattle.std.proofs.Common.{◌≡◌, ℕ, suc, ◌+◌, ◌-◌, ◌<◌, Bool, true, List, [], ◌∷◌, ◌++◌, length, take, drop, min, Ok, refl, sym, ap, subst, ◌∙◌, arith, drop_at, take_at, append_assoc, length-append, take-append-drop}
+use Rattle.std.proofs.Common.{◌≡◌, ℕ, suc, ◌+◌, ◌-◌, ◌<◌, Bool, true, List, [], ◌∷◌, ◌++◌, length, take, drop, min, Ok, refl, sym, ap, subst, ◌∙◌, arith, drop_at, take_at, append_assoc, length-append, ltb-true, take-append-drop}
 use Rattle.std.specs.Prelude.{nat_lt}
 use Rattle.std.specs.List.{prefix_len, list_all}
 use Rattle.std.specs.Str.{IsUtf8, IsCharBoundary}
 use Rattle.std.proofs.Math.Nat.{min_comm}
 use Rattle.std.proofs.lemmas.Bool.{and_parts}
-use Rattle.std.proofs.lemmas.Bool.Decides.{nat_tests}
 use Rattle.std.proofs.lemmas.Str.{IsUtf8-drop}
 use Rattle.constructs.specs.Pieces.{IsRun, IsFirst}
 use Rattle.constructs.proofs.Lengths.{left_same}
@@ -24,7 +23,7 @@ abbrev pub is_ascii_word : List ℕ → Bool
 is_ascii_word word = list_all (λ b. nat_lt b 128) word
 
 pub word_cut : (word text rest : List ℕ) → is_ascii_word word ≡ true → text ≡ word ++ rest → IsCut text rest
-word_cut word text rest ascii e = cut_same text (word ++ rest) rest e (cut_word (λ b. nat_lt b 128) (λ b h. grind (arith, nat_tests)) word rest ascii)
+word_cut word text rest ascii e = cut_same text (word ++ rest) rest e (cut_word (λ b. nat_lt b 128) (λ b h. ltb-true b 128 h) word rest ascii)
 
 drop_cut : (n : ℕ) (text : List ℕ) → (IsUtf8 text → IsCharBoundary text n) → IsCut text (drop n text)
 drop_cut n text boundary = record { piece = take n text; whole = sym (take-append-drop n text); utf8 = λ u. IsUtf8-drop text n u (boundary u) }
@@ -35,10 +34,8 @@ run_cut class text word rest is =
     subst (IsCut text) same (drop_cut (prefix_len (holds class) text) text (run_boundary class text))
 
 pub byte_cut : (class : Class) (text : List ℕ) (byte : ℕ) (rest : List ℕ) → IsByte class text byte rest → IsCut text rest
-byte_cut class text byte rest is = cut_same text (byte ∷ rest) rest is.whole (cut_byte byte rest (ascii byte (and_parts (nat_lt byte 128) (holds class byte) is.is_of).0))
-  where
-    ascii : (b : ℕ) → nat_lt b 128 ≡ true → b < 128
-    ascii b h = grind (arith, nat_tests)
+byte_cut class text byte rest is =
+    cut_same text (byte ∷ rest) rest is.whole (cut_byte byte rest (ltb-true byte 128 (and_parts (nat_lt byte 128) (holds class byte) is.is_of).0))
 
 pub first_cut : (b : ℕ) (needle text body rest : List ℕ) → b < 128 → is_ascii_word (b ∷ needle) ≡ true → IsFirst (b ∷ needle) text body rest → IsCut text rest
 first_cut b needle text body rest small ascii is =

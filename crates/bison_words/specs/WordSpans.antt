@@ -32,7 +32,7 @@ abbrev pub is_fault : Lexeme → Bool
 is_fault Fault = true
 is_fault _ = false
 
--- the words that have no fault in place of them
+-- the words that aren't faults
 abbrev pub without_faults : List Word → List Word
 without_faults words = filter (λ word. not (is_fault word.lexeme)) words
 
@@ -41,8 +41,8 @@ abbrev pub AreInOrder : List Word → Type 0
 AreInOrder [] = ⊤
 AreInOrder (word ∷ words) = All (λ later. word.span.end ≤ later.span.start) words × AreInOrder words
 
--- A name's bracket that isn't closed comes after the comment in it that doesn't end, so words that are faults may be out of order; and so may
--- faults.
+-- Words that are faults may be out of order, and so may faults: where a bracket and a comment inside it both don't end, the comment's fault
+-- comes first.
 pub record AreInText (text : List ℕ) (read : CodeWords) : Type 0 where
   pub words : All (IsWordAt text) (map word_view read.words.items)
   pub faults : All (λ fault. IsPiece text fault.span) read.faults.items
