@@ -26,8 +26,8 @@ pub struct FileText<'a> {
 }
 
 /// Reads a text as a Yacc or Bison file. The text has exactly one reading. No fault stops it: faults in words are among
-/// those of the words, and words that can't be where they are are items. Each span of a word is a piece of the text, and
-/// words that aren't faults come in the text's order.
+/// those of the words, and words that can't be where they are are items. Each span of a word is a piece of the text,
+/// and words that aren't faults come in the text's order.
 ///
 /// # Errors
 ///

@@ -1,5 +1,5 @@
 -- What reading a construct leads to. A state is the rest of the text, and the offset where the last word so far ends that isn't a fault.
-use Rattle.std.proofs.Common.{◌≡◌, ℕ, ◌≤◌, Bool, false, List, [], ◌∷◌, ◌++◌, fold, Option, Some, None, Result, Ok, Err, cond, sym, subst}
+use Rattle.std.proofs.Common.{◌≡◌, ℕ, ◌≤◌, Bool, true, false, List, [], ◌∷◌, ◌++◌, fold, Option, Some, None, Result, Ok, Err, cond, sym, subst}
 use Rattle.std.proofs.lemmas.List.Sums.{fold-append}
 use Rattle.constructs.specs.Read as read
 use Rattle.constructs.specs.Read.{Read, prefixed, Exactly, Then, on, off, Case, begins, other, Choice, where_true, where_false, WordOr, found, missing}
@@ -83,13 +83,17 @@ module _ {whole : List ℕ} {A : Type 0} {done : ℕ} {U : A → List ℕ → �
       go r (begins rest e g) = (p rest e).ends r g
       go r (other none h) = q.ends r h
 
-  pub choice_gets : {test : List ℕ → Bool} {text : List ℕ} {G H : List ℕ → Read Item ⊥ A → Type 0}
-      → Gets whole (G text) done U → Gets whole (H text) done U → Gets whole (Choice test G H text) done U
-  choice_gets {test = test} {text = text} {G = G} {H = H} p q = record { ends = go }
+  pub test_gets : {test : List ℕ → Bool} {text : List ℕ} {G H : List ℕ → Read Item ⊥ A → Type 0}
+      → (test text ≡ true → Gets whole (G text) done U) → Gets whole (H text) done U → Gets whole (Choice test G H text) done U
+  test_gets {test = test} {text = text} {G = G} {H = H} p q = record { ends = go }
     where
       go : (r : Read Item ⊥ A) → Choice test G H text r → Ends whole U done r
-      go r (where_true e g) = p.ends r g
+      go r (where_true e g) = (p e).ends r g
       go r (where_false e h) = q.ends r h
+
+  pub choice_gets : {test : List ℕ → Bool} {text : List ℕ} {G H : List ℕ → Read Item ⊥ A → Type 0}
+      → Gets whole (G text) done U → Gets whole (H text) done U → Gets whole (Choice test G H text) done U
+  choice_gets p q = test_gets (λ _. p) q
 
   pub word_gets : {W B : Type 0} {text : List ℕ} {Word : List ℕ → W → List ℕ → Type 0} {value : List ℕ → W → List ℕ → B}
       {G : B → List ℕ → Read Item ⊥ A → Type 0} {H : List ℕ → Read Item ⊥ A → Type 0}

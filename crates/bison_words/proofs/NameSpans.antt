@@ -1,41 +1,54 @@
 -- Where identifiers, numbers, marks and what can't begin a word are.
-use Rattle.std.proofs.Common.{◌≡◌, ℕ, ◌<◌, Bool, true, List, ◌∷◌, [], length, refl, ap, arith}
+use Rattle.std.proofs.Common.{◌≡◌, ℕ, Bool, true, List, [], ◌∷◌, length, Option, refl, sym, ap, ◌∙◌}
 use Rattle.std.specs.Str.{IsUtf8}
+use Rattle.std.proofs.lemmas.Bool.{and_parts}
 use Rattle.constructs.specs.Pieces.{starts, IsRun}
+use Rattle.constructs.specs.Read.{Read, Choice}
 use Rattle.constructs.specs.Construct.{Says}
-use Rattle.bison_words.specs.declared.class.Class.TheVariants.{NameByte, Hexadecimal}
+use Rattle.bison_words.specs.declared.class.Class.TheVariants.{Letter, NameByte, Hexadecimal}
 use Rattle.bison_words.specs.declared.words.WordFaultKind.TheVariants.{IllegalCharacters, IllegalIdentifier, IllegalInteger}
 use Rattle.bison_words.specs.Bytes.{holds}
 use Rattle.bison_words.specs.Runs.{IsSome}
-use Rattle.bison_words.specs.Words.{Identifier, Number, Colon, Semicolon, Bar, Equals, span_between}
-use Rattle.bison_words.specs.Names.{identifier, number_word, number_end, hexadecimal, number, mark, odd}
+use Rattle.bison_words.specs.Words.{Item, Identifier, Number, Colon, Semicolon, Bar, Equals, span_between}
+use Rattle.bison_words.specs.Here.{starts_with}
+use Rattle.bison_words.specs.Names.{is_identifier, identifier, number_word, number_end, hexadecimal, number, mark, odd}
 use Rattle.bison_words.specs.WordSpans.{IsNameAt}
 use Rattle.cfgwords.proofs.Cuts.{IsCut}
-use Rattle.bison_words.proofs.Leads.{Gets, Leads, gives_gets, word_gets}
+use Rattle.bison_words.proofs.Leads.{Gets, Leads, gives_gets, test_gets, word_gets}
 use Rattle.bison_words.proofs.Passing.{gives_leads, then_leads, choice_leads, run_leads, passes_leads}
 use Rattle.bison_words.proofs.PieceCuts.{run_cut, covers}
 use Rattle.bison_words.proofs.States.{From, Ready, from_on, from_start, again_gets, case_from, some_from, byte_from, fault_from_leads, word_from_gets, word_leads, odd_leads}
 
-some_bytes : (test : ℕ → Bool) (text name rest : List ℕ) → starts test text ≡ true → IsRun test text name rest → 0 < length name
-some_bytes test text [] rest begins run = absurd (cc (begins, ap (starts test) run.whole, run.longest))
-some_bytes test text (b ∷ name) rest begins run = omega arith
+-- a run begins with what its text begins with
+run_begins : (test first : ℕ → Bool) (text name rest : List ℕ) → starts test text ≡ true → IsRun test text name rest
+    → starts first text ≡ true → starts first name ≡ true
+run_begins test first text [] rest begins run letter = absurd (cc (begins, ap (starts test) run.whole, run.longest))
+run_begins test first text (b ∷ name) rest begins run letter = ap (starts first) (sym run.whole) ∙ letter
 
-name_at : (whole text name rest : List ℕ) → IsCut whole text → IsSome NameByte text name rest → IsNameAt whole (span_between (length whole) text rest) name
-name_at whole text name rest cut is = record {
-  some = some_bytes (holds NameByte) text name rest is.begins is.run;
+name_at : (whole text name rest : List ℕ) → IsCut whole text → is_identifier text ≡ true → IsSome NameByte text name rest
+    → IsNameAt whole (span_between (length whole) text rest) name
+unfolding is_identifier
+name_at whole text name rest cut identifier is = record {
+  begins = run_begins (holds NameByte) (holds Letter) text name rest is.begins is.run (and_parts (starts_with Letter text) _ identifier).0;
   bytes = is.run.passes;
   is_covered = covers whole text name rest cut is.run.whole;
 }
 
 module _ (whole : List ℕ) (utf8 : IsUtf8 whole) where
-  pub identifier_leads : Leads whole (Ready whole) (Ready whole) (Says (identifier (length whole)))
+  identifier_gets : (text : List ℕ) (done : ℕ) → Ready whole text done → is_identifier text ≡ true
+      → Gets whole (Says (identifier (length whole)) text) done (λ _. Ready whole)
   unfolding identifier
-  identifier_leads = record {
-    gets = λ text done ready. word_gets
-        (λ name rest is. again_gets (word_from_gets whole utf8 text done (Identifier name) ready rest done
-        (from_on text rest done (from_start text ready.cut) (run_cut NameByte text name rest is.run)) (name_at whole text name rest ready.cut is)))
-        (gives_gets ready);
-  }
+  identifier_gets text done ready is_one = word_gets
+      (λ name rest is. again_gets
+      (word_from_gets whole utf8 text done (Identifier name) ready rest done
+      (from_on text rest done (from_start text ready.cut) (run_cut NameByte text name rest is.run))
+      (name_at whole text name rest ready.cut is_one is)))
+      (gives_gets ready)
+
+  -- an identifier, or another word
+  pub identifier_leads : {H : List ℕ → Read Item ⊥ (Option (Unit {0})) → Type 0} → Leads whole (Ready whole) (Ready whole) H
+      → Leads whole (Ready whole) (Ready whole) (Choice is_identifier (Says (identifier (length whole))) H)
+  identifier_leads p = record { gets = λ text done ready. test_gets (λ is_one. identifier_gets text done ready is_one) (p.gets text done ready) }
 
   module _ (start : List ℕ) (before : ℕ) (ready : Ready whole start before) where
     number_word_leads : (number : ℕ) → Leads whole (From whole start before) (Ready whole) (Says (number_word (length whole) start number))

@@ -67,7 +67,7 @@ module _ (whole : List ℕ) (utf8 : IsUtf8 whole) where
   unfolding word
   any_word_leads = choice_leads percent_leads
       (choice_leads (translatable_leads whole utf8)
-      (choice_leads (identifier_leads whole utf8)
+      (identifier_leads whole utf8
       (choice_leads (number_leads whole utf8)
       (choice_leads (mark_leads whole utf8)
       bracketed_leads))))

@@ -1,9 +1,10 @@
 -- Where the words of a text are, and where the faults in them are.
-use Rattle.std.specs.Prelude.{◌≡◌, ℕ, ◌-◌, ◌<◌, ◌≤◌, ⊤, Bool, true, false, not, List, [], ◌∷◌, length, take, drop, map, filter, All}
+use Rattle.std.specs.Prelude.{◌≡◌, ℕ, ◌-◌, ◌≤◌, ⊤, Bool, true, false, not, List, [], ◌∷◌, take, drop, map, filter, All}
 use Rattle.std.specs.List.{list_all}
+use Rattle.constructs.specs.Pieces.{starts}
 use Rattle.cfgbase.specs.declared.span.Span.{Span}
 use Rattle.cfgwords.specs.TextSpans.{IsPiece, IsWithin}
-use Rattle.bison_words.specs.declared.class.Class.TheVariants.{NameByte}
+use Rattle.bison_words.specs.declared.class.Class.TheVariants.{Letter, NameByte}
 use Rattle.bison_words.specs.declared.words.Words.{Words as CodeWords}
 use Rattle.bison_words.specs.Bytes.{holds}
 use Rattle.bison_words.specs.Words.{Lexeme, Identifier, Code, Fault, Word, word_view}
@@ -12,9 +13,9 @@ use Rattle.bison_words.specs.Words.{Lexeme, Identifier, Code, Fault, Word, word_
 abbrev pub covered : List ℕ → Span → List ℕ
 covered text span = take (span.end - span.start) (drop span.start text)
 
--- A name is what its span covers: letters, digits, `_`, `.` and `-`.
+-- A name is what its span covers: a letter, `_` or `.`, and then letters, digits, `_`, `.` and `-`.
 pub record IsNameAt (text : List ℕ) (span : Span) (name : List ℕ) : Type 0 where
-  pub some : 0 < length name
+  pub begins : starts (holds Letter) name ≡ true
   pub bytes : list_all (holds NameByte) name ≡ true
   pub is_covered : covered text span ≡ name
 

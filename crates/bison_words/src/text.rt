@@ -235,8 +235,8 @@ impl<'a> Scanner<'a> {
     }
 }
 
-/// Reads the words of a text, the faults in them, and what follows the second `%%`. Each span is a piece of the text, and
-/// words that aren't faults come in the text's order.
+/// Reads the words of a text, the faults in them, and what follows the second `%%`. Each span is a piece of the text,
+/// and words that aren't faults come in the text's order.
 ///
 /// # Errors
 ///
