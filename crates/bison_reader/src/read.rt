@@ -6,6 +6,7 @@ ghost use Rattle.bison_reader.specs.FileGrammar.{file, items_of};
 ghost use Rattle.bison_reader.specs.Inner.Builds.{items_read};
 ghost use Rattle.bison_reader.specs.Items.{item_view};
 ghost use Rattle.bison_reader.specs.Sorts.{items_in, scanned};
+ghost use Rattle.bison_words.specs.WordSpans.{AreInText};
 ghost use Rattle.bison_words.specs.Words.{IsWords};
 
 use crate::item::Item;
@@ -25,13 +26,15 @@ pub struct FileText<'a> {
 }
 
 /// Reads a text as a Yacc or Bison file. The text has exactly one reading. No fault stops it: faults in words are among
-/// those of the words, and words that can't be where they are are items.
+/// those of the words, and words that can't be where they are are items. Each span of a word is a piece of the text,
+/// and words that aren't faults come in the text's order.
 ///
 /// # Errors
 ///
 /// `AllocError` if an allocation fails.
 pub fn read_text<'a>(alloc: Global, text: &'a str) -> Result<FileText<'a>, AllocError>
     ensures words { IfOk result (λ file. IsWords (scanned text.now) file.words) }
+    ensures in_text { IfOk result (λ file. AreInText text.now file.words) }
     ensures items { IfOk result (λ file. map item_view file.items.items ≡ items_in text.now) }
 {
     let words = read_words(alloc, text)?;

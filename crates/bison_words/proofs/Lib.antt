@@ -1,8 +1,21 @@
 -- Lemmas of this crate's proofs.
+pub mod BlankFaults
 pub mod Boundaries
+pub mod CodeFaults
+pub mod CodeSpans
+pub mod ItemSpans
+pub mod Leads
 pub mod Loops
 pub mod Made
+pub mod NameSpans
 pub mod Named
+pub mod NestedLeads
 pub mod NestedLoop
+pub mod Passing
+pub mod PieceCuts
+pub mod QuoteFaults
+pub mod QuoteSpans
 pub mod QuotedLoop
+pub mod States
 pub mod Suffixes
+pub mod TextWordSpans

@@ -26,10 +26,10 @@ unfolding emits_all
 emits_all_reads [] closed rest = refl
 emits_all_reads (item ∷ items) closed rest = ap (prefixed (item ∷ [])) (emits_all_reads items closed rest)
 
-abbrev read_of : Passage → Read Item ⊥ Bool
+abbrev pub read_of : Passage → Read Item ⊥ Bool
 read_of p = record { items = p.found.items; outcome = Ok (p.found.closed, p.rest) }
 
-closing_reads : (piece : Pieces Nesting) (text : List ℕ) → computes (closing piece) text ≡ read_of (passage piece text outermost)
+pub closing_reads : (piece : Pieces Nesting) (text : List ℕ) → computes (closing piece) text ≡ read_of (passage piece text outermost)
 unfolding closing
 closing_reads piece text = let p = passage piece text outermost in ap (prefixed []) (emits_all_reads p.found.items p.found.closed p.rest)
 

@@ -17,4 +17,5 @@ pub mod Inner
 pub mod Suffixes
 pub mod TextWords
 pub mod WordKinds
+pub mod WordSpans
 pub mod Words

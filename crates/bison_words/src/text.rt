@@ -2,6 +2,7 @@
 
 ghost use Rattle.std.specs.Prelude.{◌≡◌, ◌≤◌, length, Some, IfOk, OnOk};
 ghost use Rattle.constructs.specs.Construct.{goes_on, computes};
+ghost use Rattle.bison_words.specs.WordSpans.{AreInText};
 ghost use Rattle.bison_words.specs.Words.{IsWords};
 ghost use Rattle.bison_words.specs.TextWords.{is_predicate, is_equals, equals, is_mark, directive_end, directive_word, directive_name};
 ghost use Rattle.bison_words.specs.TextWords.{directive, percent, bracketed, word, word_turn, words, epilogue};
@@ -234,13 +235,15 @@ impl<'a> Scanner<'a> {
     }
 }
 
-/// Reads the words of a text, the faults in them, and what follows the second `%%`.
+/// Reads the words of a text, the faults in them, and what follows the second `%%`. Each span is a piece of the text,
+/// and words that aren't faults come in the text's order.
 ///
 /// # Errors
 ///
 /// `AllocError` if an allocation fails.
 pub fn read_words<'a>(alloc: Global, text: &'a str) -> Result<Words<'a>, AllocError>
-    ensures { IfOk result (IsWords (computes (text_words (length text.now)) text.now).items) }
+    ensures read { IfOk result (IsWords (computes (text_words (length text.now)) text.now).items) }
+    ensures in_text { IfOk result (AreInText text.now) }
 {
     let mut scanner = Scanner::new(alloc, text);
     scanner.text_words()?;
