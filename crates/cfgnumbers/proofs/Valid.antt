@@ -1,4 +1,5 @@
--- A syntax that was read without errors can be numbered: every name refers to something that exists, and no rule has a reserved name.
+-- A syntax that was read without errors can be numbered: every name refers to something that exists, and no rule has a
+-- reserved name.
 use Rattle.std.proofs.Common.{◌≡◌, ℕ, ◌<◌, Bool, true, false, cond, List, [], ◌∷◌, length, get_or, Option, Some, None, All, refl, sym, ap, ◌∙◌}
 use Rattle.std.specs.Option.{option_or, option_and_then}
 use Rattle.std.proofs.lemmas.List.Elements.{All-nil, All-cons, All-contains}
