@@ -13,7 +13,7 @@ use Rattle.std.proofs.lemmas.Slice.Zip.{firsts-zip}
 use Rattle.cfgbase.specs.declared.span.Span.{Span}
 use Rattle.cfgitems.specs.Syntax.{Syntax}
 use Rattle.lemmas.proofs.Positions.{position-distinct, position-map}
-use Rattle.cfgast.specs.Sound.{IsSound}
+use Rattle.cfgnumbers.specs.Numberable.{IsNumberable}
 use Rattle.cfgnumbers.specs.Numbered.{Numbered, NumberedRule, NumberedToken, numbered_by, added_rules, file_rule, file_token, end_token}
 use Rattle.cfgnumbers.specs.Accessors.{rule_part, token_part, has_token_name}
 use Rattle.cfgnumbers.specs.WellNumbered.{HasDistinctNames}
@@ -76,7 +76,7 @@ names_of_file : (s : Syntax) (rows : List (List ℕ × Span)) → filter_map nam
 names_of_file s [] = refl
 names_of_file s (row ∷ rows) = ap (λ ns. row.0 ∷ ns) (names_of_file s rows)
 
-module _ (implicit : Option (List (List ℕ))) (s : Syntax) (sound : IsSound s []) where
+module _ (implicit : Option (List (List ℕ))) (s : Syntax) (numberable : IsNumberable s) where
   rule_names_are : map (λ rule. rule.name) (numbered_by implicit s).rules ≡ rule_names implicit s
   unfolding numbered_by
   rule_names_are =
@@ -88,10 +88,10 @@ module _ (implicit : Option (List (List ℕ))) (s : Syntax) (sound : IsSound s [
   unfolding numbered_by
   token_names_are =
       let rows = zip s.tokens s.spans in
-      filter_map-append name_shown (map (file_token s) rows) (end_token ∷ []) ∙ append-nil _ ∙ names_of_file s rows ∙ firsts-zip s.tokens s.spans sound.well_formed.spans_as_long
+      filter_map-append name_shown (map (file_token s) rows) (end_token ∷ []) ∙ append-nil _ ∙ names_of_file s rows ∙ firsts-zip s.tokens s.spans numberable.well_formed.spans_as_long
 
   pub distinct_names : HasDistinctNames (numbered_by implicit s)
   distinct_names = record {
-    rules = subst (IsDistinct bytes_eq) (sym rule_names_are) (rule_names-distinct implicit s sound);
-    tokens = subst (IsDistinct bytes_eq) (sym token_names_are) sound.well_formed.tokens_distinct;
+    rules = subst (IsDistinct bytes_eq) (sym rule_names_are) (rule_names-distinct implicit s numberable);
+    tokens = subst (IsDistinct bytes_eq) (sym token_names_are) numberable.well_formed.tokens_distinct;
   }

@@ -7,6 +7,7 @@ pub mod ListsBetween
 pub mod Lookups
 pub mod Marks
 pub mod Positions
+pub mod ReservedNames
 pub mod Room
 pub mod RowLemmas
 pub mod Symbols

@@ -1,6 +1,5 @@
 -- The rows of the tables are what the syntax says of its rules and tokens.
-use Rattle.std.proofs.Common.{◌≡◌, ℕ, false, cond, List, [], ◌∷◌, ◌++◌, map, String, Global, string_bytes, string_eq, refl, ap, ◌∙◌, ◌+◌, Bool, true, get_or, option_map, Option, Some, None, Bor, Iter, sym, length}
-use Rattle.cfgwords.specs.declared.bytes.ByteClass.TheVariants as bytes
+use Rattle.std.proofs.Common.{◌≡◌, ℕ, false, cond, List, [], ◌∷◌, ◌++◌, map, String, Global, string_bytes, string_eq, refl, ap, ◌∙◌, ◌+◌, get_or, option_map, Option, Some, None, Bor, Iter, sym, length}
 use Rattle.derivation.specs.Grammar as numbers
 use Rattle.cfgitems.specs.declared.precedence.Precedence.{Precedence}
 use Rattle.cfgitems.specs.declared.production.Production as source_production
@@ -12,7 +11,6 @@ use Rattle.std.specs.Iterator.Adapters.{zip_first, zip_second}
 use Rattle.std.specs.Option.{option_copied, option_map_or}
 use Rattle.std.specs.Map.Iter.{TakesFirst, deref, deref_pair}
 use Rattle.std.specs.Slice.Iter.{iter_rest}
-use Rattle.std.specs.Cmp.Lexicographic.{bytes_decides}
 use Rattle.std.proofs.lemmas.List.{map-append, map-id}
 use Rattle.std.proofs.lemmas.Bool.{or_parts}
 use Rattle.std.proofs.iter.Yields.{fronts}
@@ -28,11 +26,11 @@ use Rattle.lemmas.proofs.Ended.{somes_same}
 use Rattle.lemmas.proofs.Roads.{shown}
 use Rattle.cfgindex.specs.declared.idxnewtype.PIdx.{PIdx}
 use Rattle.cfgbase.specs.declared.span.Span.{Span}
-use Rattle.cfgwords.specs.Bytes.{holds}
-use Rattle.constructs.specs.Pieces.{starts}
+use Rattle.cfgitems.specs.Building.{has_name}
 use Rattle.cfgitems.specs.Syntax.{Syntax, Rule, Production, entry_name}
 use Rattle.cfgitems.specs.SyntaxView.{span_entry, rule_entry, rule_view as plain_rule, production_view as plain_production}
-use Rattle.cfgast.specs.Sound.{IsSound}
+use Rattle.cfgnumbers.specs.Numberable.{IsNumberable, reserved_names}
+use Rattle.cfgnumbers.proofs.ReservedNames.{free_apart}
 use Rattle.cfgnumbers.specs.TablesView.{names, rule_view, token_view}
 use Rattle.cfgnumbers.specs.Numbered.{NumberedRule, NumberedToken, NumberedProduction, added_production, token_index, start_name, implicit_name, implicit_start_name, added_rules, file_rule, file_token, precedence_of_token, printed_form, avoids_insert}
 use Rattle.cfgnumbers.specs.declared.rows.RuleRow.{RuleRow}
@@ -97,35 +95,30 @@ added_names (Some names) = start_name ∷ implicit_name ∷ implicit_start_name 
 abbrev pub rule_names : Option (List (List ℕ)) → Syntax → List (List ℕ)
 rule_names implicit s = added_names implicit ++ map (λ rule. rule.0) s.rules
 
-abbrev begins_a_name : List ℕ → Bool
-begins_a_name name = starts (holds bytes.NameStart) name
-
--- a text that is no name differs from a name
-other_name : (added name : List ℕ) → begins_a_name added ≡ false → begins_a_name name ≡ true → bytes_eq added name ≡ false
-other_name added name no_name is_name = go (bytes_eq added name) refl
-  where
-    go : (b : Bool) → bytes_eq added name ≡ b → b ≡ false
-    go true same = sym is_name ∙ ap begins_a_name (sym ((bytes_decides added name).0 same)) ∙ no_name
-    go false e = refl
-
-pub rule_names-distinct : (implicit : Option (List (List ℕ))) (s : Syntax) → IsSound s [] → IsDistinct bytes_eq (rule_names implicit s)
-rule_names-distinct implicit s sound = go implicit
+pub rule_names-distinct : (implicit : Option (List (List ℕ))) (s : Syntax) → IsNumberable s → IsDistinct bytes_eq (rule_names implicit s)
+rule_names-distinct implicit s numberable = go implicit
   where
     file_names : List (List ℕ)
     file_names = map (λ rule. rule.0) s.rules
 
-    apart : (added : List ℕ) → begins_a_name added ≡ false → AllByRecursion (λ name. bytes_eq added name ≡ false) file_names
-    apart added no_name =
+    distinct : IsDistinct bytes_eq file_names
+    distinct = numberable.well_formed.rules_distinct
+
+    apart : (added : List ℕ) → ((name : List ℕ) → has_name name reserved_names ≡ false → bytes_eq added name ≡ false) → AllByRecursion (λ name. bytes_eq added name ≡ false) file_names
+    apart added differs =
         recursion_from_All (λ name. bytes_eq added name ≡ false) file_names
         (All-map (λ name. bytes_eq added name ≡ false) (λ (rule : List ℕ × Rule). rule.0) s.rules
-        (λ k d within. other_name added (get_or s.rules k d).0 no_name (sound.rules_are_names k d within)))
+        (λ k d within. differs (get_or s.rules k d).0 (numberable.names_free k d within)))
+
+    start_apart : AllByRecursion (λ name. bytes_eq start_name name ≡ false) file_names
+    start_apart = apart start_name (λ name free. (free_apart name free).0)
 
     go : (o : Option (List (List ℕ))) → IsDistinct bytes_eq (added_names o ++ file_names)
-    go None = IsDistinct-cons bytes_eq start_name file_names (apart start_name refl) sound.well_formed.rules_distinct
+    go None = IsDistinct-cons bytes_eq start_name file_names start_apart distinct
     go (Some names) =
-        IsDistinct-cons bytes_eq start_name (implicit_name ∷ implicit_start_name ∷ file_names) (refl, (refl, apart start_name refl))
-        (IsDistinct-cons bytes_eq implicit_name (implicit_start_name ∷ file_names) (refl, apart implicit_name refl)
-        (IsDistinct-cons bytes_eq implicit_start_name file_names (apart implicit_start_name refl) sound.well_formed.rules_distinct))
+        IsDistinct-cons bytes_eq start_name (implicit_name ∷ implicit_start_name ∷ file_names) (refl, (refl, start_apart))
+        (IsDistinct-cons bytes_eq implicit_name (implicit_start_name ∷ file_names) (refl, apart implicit_name (λ name free. (free_apart name free).1))
+        (IsDistinct-cons bytes_eq implicit_start_name file_names (apart implicit_start_name (λ name free. (free_apart name free).2)) distinct))
 
 -- one more rule, under a new name
 module _ {S : Type 0} (number : S → ℕ) where

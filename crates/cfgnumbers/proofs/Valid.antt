@@ -1,16 +1,21 @@
--- In a syntax that was read without errors, every name refers to something that exists.
+-- A syntax that was read without errors can be numbered: every name refers to something that exists, and no rule has a
+-- reserved name.
 use Rattle.std.proofs.Common.{◌≡◌, ℕ, ◌<◌, Bool, true, false, cond, List, [], ◌∷◌, length, get_or, Option, Some, None, All, refl, sym, ap, ◌∙◌}
 use Rattle.std.specs.Option.{option_or, option_and_then}
 use Rattle.std.proofs.lemmas.List.Elements.{All-nil, All-cons, All-contains}
 use Rattle.std.proofs.lemmas.Option.{slice_get-get_or}
+use Rattle.cfgwords.specs.Bytes.{holds}
 use Rattle.cfgwords.specs.FileWords.{Word}
+use Rattle.cfgwords.specs.declared.bytes.ByteClass.TheVariants as bytes
 use Rattle.cfgitems.specs.Building.{has_rule}
 use Rattle.cfgitems.specs.Syntax.{Syntax, Production}
 use Rattle.cfgast.specs.Check.{first_error, start_error, symbol_error, precedence_error, printed_error, production_error, locate_error, rule_error, check_of}
 use Rattle.cfgerrors.specs.Errors.{GrammarError, InvalidStartRule, error_at}
 use Rattle.cfgast.specs.Sound.{IsSound}
+use Rattle.cfgnumbers.specs.Numberable.{IsNumberable}
 use Rattle.cfgnumbers.specs.Resolved.{IsResolved}
 use Rattle.cfgnumbers.proofs.Positions.{listed_somewhere}
+use Rattle.cfgnumbers.proofs.ReservedNames.{name_free}
 
 none_first : (a b : Option GrammarError) → option_or a b ≡ None → a ≡ None
 none_first None b e = refl
@@ -34,7 +39,7 @@ started s (Some word) e = (word, refl, known (has_rule word.name s.rules) refl e
     known true is e = is
     known false is e = let no : Some (error_at (InvalidStartRule word.name) word.span) ≡ None = e in cc
 
-pub resolved : (s : Syntax) → IsSound s [] → IsResolved s
+resolved : (s : Syntax) → IsSound s [] → IsResolved s
 unfolding check_of
 resolved s sound = record {
   start = start.0;
@@ -70,3 +75,10 @@ resolved s sound = record {
 
     production_ok : (i : ℕ) (d : Production) → i < length s.productions → production_error s (get_or s.productions i d) ≡ None
     production_ok i d within = sym (ap (option_and_then (production_error s)) (slice_get-get_or s.productions i d within)) ∙ position_ok i within
+
+pub numberable : (s : Syntax) → IsSound s [] → IsNumberable s
+numberable s sound = record {
+  well_formed = sound.well_formed;
+  names_free = λ k d within. name_free (holds bytes.NameStart) (get_or s.rules k d).0 (sound.rules_are_names k d within) refl refl;
+  resolved = resolved s sound;
+}

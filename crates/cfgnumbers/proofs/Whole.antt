@@ -21,13 +21,12 @@ use Rattle.cfgitems.specs.Building.{has_name, has_rule}
 use Rattle.cfgitems.specs.Syntax.{Syntax, Production, Symbol, RuleSymbol, TokenSymbol}
 use Rattle.cfgast.specs.Check.{symbol_error}
 use Rattle.cfgerrors.specs.Errors.{GrammarError, UnknownRuleRef, UnknownToken, error_at}
-use Rattle.cfgast.specs.Sound.{IsSound}
+use Rattle.cfgnumbers.specs.Numberable.{IsNumberable}
 use Rattle.cfgbase.specs.declared.span.Span.{Span}
 use Rattle.cfgast.specs.WellFormed.{IsWellFormed}
 use Rattle.cfgnumbers.specs.Numbered.{NumberedProduction, rules_before, rule_index, token_index, file_symbol, file_symbols, spaced, start_symbols, added_production, added_productions, Numbered, core, production_core, numbered_by, file_production, file_token, end_token}
-use Rattle.cfgnumbers.specs.Resolved.{AreTokens, Resolves}
+use Rattle.cfgnumbers.specs.Resolved.{AreTokens, IsResolved, Resolves}
 use Rattle.cfgnumbers.proofs.Added.{All-added, rules_len, tokens_len}
-use Rattle.cfgnumbers.proofs.Valid.{resolved}
 use Rattle.cfgnumbers.specs.WellNumbered.{IsWhole}
 use Rattle.cfgnumbers.specs.Accessors.{production_part, rule_part, token_part}
 use Rattle.cfgnumbers.proofs.Listed.{owners, owners_are, owners_within, start_owner, lists_are}
@@ -38,7 +37,7 @@ none_wrong true e h = refl
 none_wrong false e h = let no : Some e ≡ None = h in cc
 
 -- symbols of a grammar that has the rules and tokens of the file, and the added ones
-module _ (s : Syntax) (sound : IsSound s []) (g : Grammar) (tokens_are : g.tokens ≡ length s.tokens + 1) where
+module _ (s : Syntax) (resolved : IsResolved s) (g : Grammar) (tokens_are : g.tokens ≡ length s.tokens + 1) where
   rule_there : (implicit : Option (List (List ℕ))) (name : List ℕ) → g.rules ≡ rules_before implicit + length s.rules → has_rule name s.rules ≡ true → rule_index implicit s name < g.rules
   rule_there implicit name rules_are known =
       let index = ltb-true _ _ (found-position (λ (rule : List ℕ × file.Rule). bytes_eq name rule.0) s.rules ∙ known) in
@@ -68,9 +67,9 @@ module _ (s : Syntax) (sound : IsSound s []) (g : Grammar) (tokens_are : g.token
 
   start_there : (implicit : Option (List (List ℕ))) → g.rules ≡ rules_before implicit + length s.rules → All (IsSymbolOf g) (start_symbols implicit s)
   start_there implicit rules_are =
-      let start = (resolved s sound).start in
-      subst (λ o. All (IsSymbolOf g) (option_to_list (option_map (λ (word : Word). Rule (rule_index implicit s word.name)) o))) (sym (resolved s sound).starts)
-      (All-cons (IsSymbolOf g) (Rule (rule_index implicit s start.name)) [] (rule_there implicit start.name rules_are (resolved s sound).start_is_rule) (All-nil (IsSymbolOf g)))
+      let start = resolved.start in
+      subst (λ o. All (IsSymbolOf g) (option_to_list (option_map (λ (word : Word). Rule (rule_index implicit s word.name)) o))) (sym resolved.starts)
+      (All-cons (IsSymbolOf g) (Rule (rule_index implicit s start.name)) [] (rule_there implicit start.name rules_are resolved.start_is_rule) (All-nil (IsSymbolOf g)))
 
   abbrev HasSymbols : NumberedProduction → Type 0
   HasSymbols production = All (IsSymbolOf g) production.symbols
@@ -104,12 +103,12 @@ unfolding numbered_by
 start_lists None s = refl
 start_lists (Some names) s = refl
 
-module _ (implicit : Option (List (List ℕ))) (s : Syntax) (sound : IsSound s []) where
+module _ (implicit : Option (List (List ℕ))) (s : Syntax) (numberable : IsNumberable s) where
   abbrev g : Numbered
   g = numbered_by implicit s
 
   abbrev well : IsWellFormed s
-  well = sound.well_formed
+  well = numberable.well_formed
 
   names_are : map name_shown (map (file_token s) (zip s.tokens s.spans) ++ end_token ∷ []) ≡ map Some s.tokens ++ None ∷ []
   names_are =
@@ -129,13 +128,13 @@ module _ (implicit : Option (List (List ℕ))) (s : Syntax) (sound : IsSound s [
   unfolding numbered_by
   symbols tokens =
       let pairs = zip s.production_rules s.productions in
-      let known = All-zip (λ r. r < length s.rules) (Resolves s) s.production_rules s.productions well.production_rules_within (resolved s sound).symbols in
+      let known = All-zip (λ r. r < length s.rules) (Resolves s) s.production_rules s.productions well.production_rules_within numberable.resolved.symbols in
       let rules_are = rules_len implicit s well in
       let tokens_are = tokens_len implicit s well in
       All-append (λ p. All (IsSymbolOf (core g)) p.symbols) (map (file_production implicit s) pairs) (added_productions implicit s)
       (All-map (λ p. All (IsSymbolOf (core g)) p.symbols) (file_production implicit s) pairs
-      (λ k d within. file_there s sound (core g) tokens_are implicit (get_or pairs k d).1 rules_are (known k d within).1))
-      (added_there s sound (core g) tokens_are implicit rules_are tokens)
+      (λ k d within. file_there s numberable.resolved (core g) tokens_are implicit (get_or pairs k d).1 rules_are (known k d within).1))
+      (added_there s numberable.resolved (core g) tokens_are implicit rules_are tokens)
 
   lists : All (λ rule. All (λ p. p < length g.productions) rule.productions) g.rules
   lists k d within =

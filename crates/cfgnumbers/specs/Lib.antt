@@ -5,4 +5,5 @@ pub mod Accessors
 pub mod TablesView
 pub mod WellNumbered
 pub mod Resolved
+pub mod Numberable
 pub mod Inner

@@ -8,12 +8,14 @@ use Rattle.cfgitems.specs.Syntax.{Syntax}
 use Rattle.cfgitems.specs.SyntaxView.{settings_view}
 use Rattle.cfgerrors.specs.Errors.{GrammarError}
 use Rattle.cfgast.specs.Sound.{IsSound}
+use Rattle.cfgast.specs.WellFormed.{IsWellFormed}
 use Rattle.cfgkinds.specs.declared.kind.YaccKind.{YaccKind}
 use Rattle.cfgerrors.specs.declared.error.YaccFault.{YaccFault}
 use Rattle.cfgerrors.specs.declared.error.YaccFault.TheVariants as faults
 use Rattle.cfgsyntax.specs.Parsed.{Parsed}
 use Rattle.cfgyacc.specs.Answer.{WasRead, IsAnswer, IsGrammar, IsReadRefused, IsTooSmall, in_numbers}
 use Rattle.cfgnumbers.specs.Fits.{Fits, LeavesRoom}
+use Rattle.cfgnumbers.specs.Numberable.{IsNumberable}
 use Rattle.cfgnumbers.specs.Numbered.{Numbered, NumberedProduction, numbered, numbered_by, implicit_of, added_rules, file_rule, added_productions, file_production, file_token, end_token}
 use Rattle.cfgnumbers.specs.TablesView.{tables, rule_view, token_view}
 use Rattle.cfgnumbers.specs.WellNumbered.{IsWellNumbered}
@@ -48,16 +50,16 @@ module _ {S : Type 0} (number : S → ℕ) (kind : YaccKind) (s : Syntax)
     settings = settings_are i;
   }
 
--- the numbers of a syntax that was read without errors
-pub well_numbered : (max : ℕ) (kind : YaccKind) (s : Syntax) → IsSound s [] → LeavesRoom max (implicit_of kind s) s → IsWellNumbered max (numbered kind s)
+-- the numbers of a syntax that can be numbered
+pub well_numbered : (max : ℕ) (kind : YaccKind) (s : Syntax) → IsNumberable s → LeavesRoom max (implicit_of kind s) s → IsWellNumbered max (numbered kind s)
 unfolding numbered
-well_numbered max kind s sound room =
+well_numbered max kind s numberable room =
     let implicit = implicit_of kind s in
     record {
-      whole = whole implicit s sound (implicit_there kind s sound.well_formed);
-      counted = fits_from_room max implicit s sound.well_formed room;
-      names = distinct_names implicit s sound;
-      listed_once = listed_once implicit s sound.well_formed;
+      whole = whole implicit s numberable (implicit_there kind s numberable.well_formed);
+      counted = fits_from_room max implicit s numberable.well_formed room;
+      names = distinct_names implicit s numberable;
+      listed_once = listed_once implicit s numberable.well_formed;
     }
 
 -- the errors of what was read, if it has any
@@ -65,22 +67,24 @@ pub refused : (max : ℕ) (errors : List GrammarError) (g : Numbered) (reported 
 refused max [] g reported some same = absurd (some refl)
 refused max (error ∷ errors) g reported some same = same
 
--- a grammar that fits leaves room
-pub room : (max : ℕ) (parsed : Parsed) → IsSound parsed.syntax parsed.errors → Fits max (in_numbers parsed) → LeavesRoom max (implicit_of parsed.kind parsed.syntax) parsed.syntax
+-- a grammar fits exactly if it leaves room
+pub fits : (max : ℕ) (kind : YaccKind) (s : Syntax) → IsWellFormed s → LeavesRoom max (implicit_of kind s) s → Fits max (numbered kind s)
 unfolding numbered
-room max parsed sound fits = room_from_fits max (implicit_of parsed.kind parsed.syntax) parsed.syntax sound.well_formed fits
+fits max kind s = fits_from_room max (implicit_of kind s) s
+
+pub room : (max : ℕ) (kind : YaccKind) (s : Syntax) → IsWellFormed s → Fits max (numbered kind s) → LeavesRoom max (implicit_of kind s) s
+unfolding numbered
+room max kind s = room_from_fits max (implicit_of kind s) s
 
 -- a grammar that is too large
 pub too_large : (max : ℕ) (parsed : Parsed) (fault : YaccFault) → IsSound parsed.syntax parsed.errors → parsed.errors ≡ []
     → (LeavesRoom max (implicit_of parsed.kind parsed.syntax) parsed.syntax → ⊥) → IsTooSmall fault → IsAnswer max (WasRead parsed) (Err fault)
-unfolding numbered
 too_large max parsed faults.OutOfMemory sound none no_room reported = tt
 too_large max parsed (faults.Errors list) sound none no_room reported =
     subst (λ e. IsReadRefused max e (in_numbers parsed) list.items) (sym none)
-    ((λ fits. no_room (room max parsed sound fits)), reported)
+    ((λ it. no_room (room max parsed.kind parsed.syntax sound.well_formed it)), reported)
 
 -- a grammar
 pub answered : (max : ℕ) (parsed : Parsed) (g : Numbered) → IsSound parsed.syntax parsed.errors → parsed.errors ≡ [] → LeavesRoom max (implicit_of parsed.kind parsed.syntax) parsed.syntax
     → g ≡ in_numbers parsed → IsGrammar max (WasRead parsed) g
-unfolding numbered
-answered max parsed g sound none room same = (none, fits_from_room max (implicit_of parsed.kind parsed.syntax) parsed.syntax sound.well_formed room, same)
+answered max parsed g sound none room same = (none, fits max parsed.kind parsed.syntax sound.well_formed room, same)

@@ -3,5 +3,7 @@
 
 pub mod grammar;
 pub mod laws;
+mod numbered;
 
 pub use grammar::YaccGrammar;
+pub use numbered::numbered_if_fits;

@@ -7,8 +7,8 @@ ghost use Rattle.std.specs.Option.{option_to_list};
 ghost use Rattle.derivation.specs.Grammar.{Rule, Token};
 ghost use Rattle.cfgitems.specs.Building.{has_name};
 ghost use Rattle.cfgitems.specs.SyntaxView.{production_view as plain_production};
-ghost use Rattle.cfgast.specs.Sound.{IsSound};
 ghost use Rattle.cfgnumbers.specs.Fits.{LeavesRoom};
+ghost use Rattle.cfgnumbers.specs.Numberable.{IsNumberable};
 ghost use Rattle.cfgnumbers.specs.Numbered.{added_production, added_productions, file_production, token_index};
 ghost use Rattle.cfgnumbers.specs.Numbered.{file_token, precedence_of_token};
 ghost use Rattle.cfgnumbers.specs.Resolved.{AreTokens, IsResolved, Resolves};
@@ -36,10 +36,9 @@ impl Numbering<'_> {
         alloc: Global,
         tokens: &IndexMap<String, TokenRow>,
     ) -> Result<ProductionRows<S>, AllocError>
-        requires sound { IsSound (file_of self.now) [] }
+        requires numberable { IsNumberable (file_of self.now) }
         requires tokens { map token_view tokens.now.entries
             ≡ map (file_token (file_of self.now)) (zip (file_of self.now).tokens (file_of self.now).spans) }
-        requires resolved { IsResolved (file_of self.now) }
         requires implicit { AreTokens (file_of self.now) (implicit_in self.now) }
         requires room { LeavesRoom S.MAX (implicit_in self.now) (file_of self.now) }
         ensures { IfOk result (λ rows. rows
@@ -64,8 +63,7 @@ impl Numbering<'_> {
         requires empty { rows.old ≡ [] }
         requires tokens { map (λ token. token.1.precedence) tokens.now.entries
             ≡ map (precedence_of_token (file_of self.now)) (file_of self.now).tokens }
-        requires sound { IsSound (file_of self.now) [] }
-        requires resolved { IsResolved (file_of self.now) }
+        requires numberable { IsNumberable (file_of self.now) }
         requires room { LeavesRoom S.MAX (implicit_in self.now) (file_of self.now) }
         ensures { OnOk result (rows.new
             ≡ map (file_production (implicit_in self.now) (file_of self.now))

@@ -5,8 +5,8 @@ ghost use Rattle.std.specs.Prelude.{IfOk, OnOk};
 ghost use Rattle.std.specs.List.{list_any, range_with_len};
 ghost use Rattle.std.specs.Str.{bytes_eq};
 ghost use Rattle.cfgitems.specs.SyntaxView.{rule_view as plain_rule};
-ghost use Rattle.cfgast.specs.Sound.{IsSound};
 ghost use Rattle.cfgnumbers.specs.Fits.{LeavesRoom};
+ghost use Rattle.cfgnumbers.specs.Numberable.{IsNumberable};
 ghost use Rattle.cfgnumbers.specs.Numbered.{added_rule, added_rules, file_rule};
 ghost use Rattle.cfgnumbers.specs.TablesView.{names, file_of, implicit_in, rule_view};
 
@@ -35,7 +35,7 @@ impl Numbering<'_> {
         &self,
         alloc: Global,
     ) -> Result<IndexMap<String, RuleRow<S>>, AllocError>
-        requires sound { IsSound (file_of self.now) [] }
+        requires numberable { IsNumberable (file_of self.now) }
         requires room { LeavesRoom S.MAX (implicit_in self.now) (file_of self.now) }
         ensures { IfOk result (λ rows. map (rule_view S.number) rows.entries
             ≡ added_rules (implicit_in self.now) (length (file_of self.now).productions)
@@ -75,7 +75,7 @@ impl Numbering<'_> {
         alloc: Global,
         rows: &mut IndexMap<String, RuleRow<S>>,
     ) -> Result<(), AllocError>
-        requires sound { IsSound (file_of self.now) [] }
+        requires numberable { IsNumberable (file_of self.now) }
         requires room { LeavesRoom S.MAX (implicit_in self.now) (file_of self.now) }
         requires added { map (rule_view S.number) rows.old.entries
             ≡ added_rules (implicit_in self.now) (length (file_of self.now).productions) }

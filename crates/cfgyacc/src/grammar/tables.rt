@@ -10,12 +10,12 @@ ghost use Rattle.cfgwords.specs.TextSpans.{IsPiece, IsWithin};
 ghost use Rattle.cfgitems.specs.SyntaxView.{pair_view};
 ghost use Rattle.cfgerrors.specs.Refusal.{ListsErrors};
 ghost use Rattle.cfgast.specs.TreeView.{syntax};
-ghost use Rattle.cfgast.specs.Sound.{IsSound};
 ghost use Rattle.cfgsyntax.specs.ErrorSpans.{EachFaultSpan, EachParsedSpan};
 ghost use Rattle.cfgkinds.specs.declared.kind.YaccKind.{YaccKind};
 ghost use Rattle.cfgyacc.specs.Answer.{IsAnswer, IsGrammar, WasRead, in_numbers};
 ghost use Rattle.cfgyacc.specs.Counting.{YieldsNumbersInOrder};
 ghost use Rattle.cfgnumbers.specs.Fits.{LeavesRoom};
+ghost use Rattle.cfgnumbers.specs.Numberable.{IsNumberable};
 ghost use Rattle.cfgyacc.specs.GrammarOf.{IsGrammarOf, IsGrammarOfItself};
 ghost use Rattle.cfgnumbers.specs.Numbered.{implicit_of, numbered};
 ghost use Rattle.cfgnumbers.specs.Accessors.{IsSymbolWithin, has_token_name, production_part, rule_part, token_part};
@@ -195,12 +195,16 @@ impl<S: Storage> YaccGrammar<S> {
         requires { IsGrammar S.MAX (WasRead parsed.now) (in_numbers parsed.now) }
         ensures { IfOk result (λ grammar. grammar ≡ in_numbers parsed.now) }
     {
-        YaccGrammar::from_valid(alloc, parsed.yacc_kind(), parsed.ast())
+        YaccGrammar::from_numberable(alloc, parsed.yacc_kind(), parsed.ast())
     }
 
-    /// The grammar of a syntax that was read without errors from a file of this kind.
-    fn from_valid(alloc: Global, kind: YaccKind, ast: &GrammarAST) -> Result<Self, AllocError>
-        requires sound { IsSound (syntax ast.now) [] }
+    /// The grammar of a syntax of this kind that `S` can count.
+    pub(crate) fn from_numberable(
+        alloc: Global,
+        kind: YaccKind,
+        ast: &GrammarAST,
+    ) -> Result<Self, AllocError>
+        requires numberable { IsNumberable (syntax ast.now) }
         requires room { LeavesRoom S.MAX (implicit_of kind (syntax ast.now)) (syntax ast.now) }
         ensures { IfOk result (λ grammar. grammar ≡ numbered kind (syntax ast.now)) }
     {

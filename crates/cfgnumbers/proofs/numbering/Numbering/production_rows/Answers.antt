@@ -13,11 +13,10 @@ pub push_file_rows-requires : goal.push_file_rows-requires
 push_file_rows-requires g c =
     record {
       empty = c.in_ok-rows.ensures;
-      tokens = precedences_shown (file_of c.args.self.now) c.args.tokens.now.entries c.requires.sound.well_formed.spans_as_long c.requires.tokens;
-      sound = c.requires.sound;
-      resolved = c.requires.resolved;
+      tokens = precedences_shown (file_of c.args.self.now) c.args.tokens.now.entries c.requires.numberable.well_formed.spans_as_long c.requires.tokens;
+      numberable = c.requires.numberable;
       room = c.requires.room;
     }
 
 pub push_added-requires : goal.push_added-requires
-push_added-requires g c = record { resolved = c.requires.resolved; implicit = c.requires.implicit; room = c.requires.room }
+push_added-requires g c = record { resolved = c.requires.numberable.resolved; implicit = c.requires.implicit; room = c.requires.room }

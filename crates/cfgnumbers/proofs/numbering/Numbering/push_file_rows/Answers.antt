@@ -21,7 +21,7 @@ push_file_row-requires g c =
     (ap (λ it. iter_rest (zip_second it)) from ∙ c.zip-rule-items.ensures.second.0) in
     let known = item_holds road c.loop-rule.yielded c.loop-rule.rule-iterator c.loop-rule.yielded_by _ c.next.new.self (c.in-Some.rule, c.in-Some.production) c.in-Some.is c.next.ensures.steps
     (λ (pair : ℕ × Production). (pair.0 < length s.rules) × Resolves s pair.1)
-    (All-zip (λ r. r < length s.rules) (Resolves s) s.production_rules s.productions c.requires.sound.well_formed.production_rules_within c.requires.resolved.symbols) in
+    (All-zip (λ r. r < length s.rules) (Resolves s) s.production_rules s.productions c.requires.numberable.well_formed.production_rules_within c.requires.numberable.resolved.symbols) in
     record { tokens = c.requires.tokens; rule = known.0; resolved = known.1; room = c.requires.room }
 
 pub loop-rule-preserved : goal.loop-rule-preserved

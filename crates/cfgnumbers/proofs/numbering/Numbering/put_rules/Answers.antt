@@ -19,14 +19,14 @@ put_rule-requires-clause-new g c =
     let names_are = rule_names_shown g.S.Storage.number implicit (length s.productions) c.loop-name.rows.entries (map rule_seen c.loop-name.yielded) c.loop-name.invariant in
     (λ i. list_any (bytes_eq (c.as_str.ensures.value i)) (names_are i))
     ∙ name_is_new road c.loop-name.yielded _ c.loop-name.yielded_by _ _ (c.in-Some.name, c.in-Some.rule) c.in-Some.is c.next.ensures.steps
-    (added_names implicit) (λ (rule : List ℕ × Rule). rule.0) (rule_names-distinct implicit s c.requires.sound)
+    (added_names implicit) (λ (rule : List ℕ × Rule). rule.0) (rule_names-distinct implicit s c.requires.numberable)
 
 pub put_rule-requires-clause-positions : goal.put_rule-requires-clause-positions
 put_rule-requires-clause-positions g c =
     let s = file_of c.args.self.now in
     let road = rules_road s c.rules-name-items.result.now.entries c.rules-name-items.ensures c.into_iter-name-iterator.ensures.into_iter_gives.0 in
     let within = item_holds road c.loop-name.yielded _ c.loop-name.yielded_by _ _ (c.in-Some.name, c.in-Some.rule) c.in-Some.is c.next.ensures.steps
-    (λ (rule : List ℕ × Rule). All (λ index. index < length s.productions) rule.1.productions) (listed_within s c.requires.sound.well_formed) in
+    (λ (rule : List ℕ × Rule). All (λ index. index < length s.productions) rule.1.productions) (listed_within s c.requires.numberable.well_formed) in
     λ k d there. omega (arith, within k d there, c.requires.room.productions)
 
 pub loop-name-preserved : goal.loop-name-preserved

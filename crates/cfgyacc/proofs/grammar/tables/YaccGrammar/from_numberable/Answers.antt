@@ -1,41 +1,36 @@
-use Rattle.std.proofs.Common.{◌≡◌, ◌++◌, [], length, map, option_map, sym, subst, ◌∙◌}
+use Rattle.std.proofs.Common.{◌≡◌, ◌++◌, length, map, option_map, sym, subst, ◌∙◌}
 use Rattle.scoped.proofs.Given.{given, given_match}
 use Rattle.std.specs.List.{zip}
 use Rattle.cfgitems.specs.SyntaxView.{production_view}
 use Rattle.cfgast.specs.TreeView.{syntax}
 use Rattle.cfgast.specs.WellFormed.{IsWellFormed}
-use Rattle.cfgast.specs.Sound.{IsSound}
 use Rattle.cfgnumbers.specs.Fits.{LeavesRoom}
+use Rattle.cfgnumbers.specs.Numberable.{IsNumberable}
 use Rattle.cfgnumbers.specs.Numbered.{added_productions, added_rules, file_production, file_rule, file_token}
-use Rattle.cfgnumbers.specs.Resolved.{AreTokens, IsResolved}
+use Rattle.cfgnumbers.specs.Resolved.{AreTokens}
 use Rattle.cfgnumbers.specs.TablesView.{file_of, implicit_in}
 use Rattle.cfgnumbers.specs.WellNumbered.{IsWellNumbered}
 use Rattle.cfgyacc.proofs.Built.{built, of_both, well_numbered}
 use Rattle.cfgnumbers.proofs.Positions.{implicit_there}
 use Rattle.cfgnumbers.proofs.Turns.{as_long}
-use Rattle.cfgnumbers.proofs.Valid.{resolved}
-use Rattle.cfgyacc.proofs.grammar.tables.YaccGrammar.from_valid.Goals as goal
-use Rattle.cfgyacc.proofs.grammar.tables.YaccGrammar.from_valid.Goals.{in-Err, in-Ok}
+use Rattle.cfgyacc.proofs.grammar.tables.YaccGrammar.from_numberable.Goals as goal
+use Rattle.cfgyacc.proofs.grammar.tables.YaccGrammar.from_numberable.Goals.{in-Err, in-Ok}
 
 pub rule_rows-requires : goal.rule_rows-requires
 rule_rows-requires g c =
     let numbering = c.new-numbering.ensures in
     record {
-      sound = subst (λ s. IsSound s []) (sym numbering.file) c.requires.sound;
+      numberable = subst IsNumberable (sym numbering.file) c.requires.numberable;
       room = of_both (λ s implicit. LeavesRoom g.S.Storage.MAX implicit s) _ _ _ _ numbering.file numbering.implicit c.requires.room;
     }
 
 pub token_rows-tokens-requires : goal.token_rows-tokens-requires
-token_rows-tokens-requires g c = record { well_formed = subst IsWellFormed (sym c.new-numbering.ensures.file) c.requires.sound.well_formed }
-
-pub production_rows-prods-requires-clause-resolved : goal.production_rows-prods-requires-clause-resolved
-production_rows-prods-requires-clause-resolved g c =
-    subst IsResolved (sym c.new-numbering.ensures.file) (resolved (syntax c.args.ast.now) c.requires.sound)
+token_rows-tokens-requires g c = record { well_formed = subst IsWellFormed (sym c.new-numbering.ensures.file) c.requires.numberable.well_formed }
 
 pub production_rows-prods-requires-clause-implicit : goal.production_rows-prods-requires-clause-implicit
 production_rows-prods-requires-clause-implicit g c =
     of_both AreTokens _ _ _ _ c.new-numbering.ensures.file c.new-numbering.ensures.implicit
-    (implicit_there c.args.kind (syntax c.args.ast.now) c.requires.sound.well_formed)
+    (implicit_there c.args.kind (syntax c.args.ast.now) c.requires.numberable.well_formed)
 
 pub implicit_rule-requires : goal.implicit_rule-requires
 implicit_rule-requires g c =
@@ -68,4 +63,4 @@ returns g c =
 
 pub invariant_of-result : goal.invariant_of-result
 invariant_of-result g c =
-    subst (IsWellNumbered g.S.Storage.MAX) (sym (returns g c)) (well_numbered g.S.Storage.MAX c.args.kind (syntax c.args.ast.now) c.requires.sound c.requires.room)
+    subst (IsWellNumbered g.S.Storage.MAX) (sym (returns g c)) (well_numbered g.S.Storage.MAX c.args.kind (syntax c.args.ast.now) c.requires.numberable c.requires.room)
