@@ -1,5 +1,5 @@
 -- What each symbol of a file is called. A name belongs to the number of the word that it is of.
-use Rattle.std.specs.Prelude.{ℕ, Bool, List, [], ◌++◌, ◌==◌, ◌||◌, length, map, filter_map, fold, get_or, encode_utf8, Option, Some, None, codes, if◌then◌else◌}
+use Rattle.std.specs.Prelude.{ℕ, Bool, List, [], ◌∷◌, ◌++◌, ◌==◌, ◌||◌, length, map, filter_map, fold, get_or, encode_utf8, Option, Some, None, codes, if◌then◌else◌}
 use Rattle.std.specs.List.{list_any}
 use Rattle.std.specs.Map.{lookup}
 use Rattle.std.specs.Option.{option_map_or}
@@ -36,13 +36,9 @@ in_quotes quote text = quote ++ (text ++ quote)
 abbrev pub character_name : (List ℕ → Bool) → List ℕ → List ℕ
 character_name is_letter character = if is_letter character then in_quotes (codes "'") character else character
 
--- `YYerror` is another name of `error`
-abbrev pub identifier_name : List ℕ → List ℕ
-identifier_name name = if bytes_eq name (codes "YYerror") then codes "error" else name
-
 -- the name that a word has by itself; other words than symbols have none. is_letter says which names are identifiers of one byte.
 abbrev pub own_name : (List ℕ → Bool) → Lexeme → List ℕ
-own_name is_letter (Identifier name) = identifier_name name
+own_name is_letter (Identifier name) = name
 own_name is_letter (Literal character) = character_name is_letter (encode_utf8 character)
 own_name is_letter (String text) = in_quotes (codes "\"") text
 own_name is_letter (Translatable text) = in_quotes (codes "\"") text
@@ -51,21 +47,25 @@ own_name is_letter _ = []
 abbrev pub own_names : List Word → List (List ℕ)
 own_names words = map (λ word. own_name (λ name. has_name name (letters_of words)) word.lexeme) words
 
--- Strings, each with the token that it is another name of. Of a string's tokens and of a token's strings the first counts.
+-- Names, each with the token that it is another name of. Of a name's tokens and of a token's other names the first counts.
 abbrev pub is_taken : List (List ℕ × List ℕ) → List ℕ × List ℕ → Bool
 is_taken aliases (string, token) = has_entry string aliases || list_any (λ alias. bytes_eq token alias.1) aliases
 
 abbrev pub with_alias : List (List ℕ × List ℕ) → List ℕ × List ℕ → List (List ℕ × List ℕ)
 with_alias aliases alias = pushed_unless (is_taken aliases alias) aliases alias
 
+-- those that need no declaration
+abbrev pub built_in : List (List ℕ × List ℕ)
+built_in = (codes "YYerror", codes "error") ∷ (codes "$undefined", codes "YYUNDEF") ∷ []
+
 abbrev pub alias_in : List (List ℕ) → Item → Option (List ℕ × List ℕ)
 alias_in own (AliasGiven token string) = Some (name_at own string, name_at own token)
 alias_in own _ = None
 
 abbrev pub aliases_of : List (List ℕ) → List Item → List (List ℕ × List ℕ)
-aliases_of own items = fold with_alias [] (filter_map (alias_in own) items)
+aliases_of own items = fold with_alias built_in (filter_map (alias_in own) items)
 
--- the name of the token that a string is another name of; all else is called what it is
+-- a name that is another name of a token is that token
 abbrev pub called : List (List ℕ × List ℕ) → List ℕ → List ℕ
 called aliases name = option_map_or (λ token. token) (lookup (bytes_eq name) aliases) name
 

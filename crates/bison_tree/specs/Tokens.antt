@@ -6,11 +6,11 @@ use Rattle.std.specs.Option.{option_map_or}
 use Rattle.std.specs.Str.{bytes_eq}
 use Rattle.cfgbase.specs.declared.span.Span.{Span}
 use Rattle.bison_words.specs.Words.{Lexeme, Word, Identifier, Literal, String, Translatable, End}
-use Rattle.bison_reader.specs.Items.{Item, TokenGiven, AliasGiven, SymbolListed, PrecedenceGiven, StartNamed, ProductionRead}
+use Rattle.bison_reader.specs.Items.{Item, TokenGiven, AliasGiven, RuleGiven, SymbolListed, PrecedenceGiven, StartNamed, HeadRead, ProductionRead}
 use Rattle.bison_reader.specs.declared.item.Part.{Part}
 use Rattle.bison_reader.specs.declared.item.PartKind.{PartKind}
 use Rattle.bison_reader.specs.declared.item.PartKind.TheVariants as parts
-use Rattle.bison_tree.specs.Names.{name_at, identifier_name}
+use Rattle.bison_tree.specs.Names.{name_at}
 
 -- the lexeme and the span of a word by its number
 abbrev pub lexeme_at : List Word → ℕ → Lexeme
@@ -24,11 +24,12 @@ span_at words i = option_map_or (λ word. word.span) (slice_get words i) nowhere
 
 -- tokens that need no declaration
 abbrev pub is_built_in : List ℕ → Bool
-is_built_in name = bytes_eq name (codes "error") || (bytes_eq name (codes "YYEOF") || bytes_eq name (codes "YYUNDEF"))
+is_built_in name = bytes_eq name (codes "error") || (bytes_eq name (codes "YYerror")
+    || (bytes_eq name (codes "YYEOF") || bytes_eq name (codes "YYUNDEF")))
 
 -- whether a symbol is a token by itself
 abbrev pub is_token_itself : Lexeme → Bool
-is_token_itself (Identifier name) = is_built_in (identifier_name name)
+is_token_itself (Identifier name) = is_built_in name
 is_token_itself (Literal character) = true
 is_token_itself (String text) = true
 is_token_itself (Translatable text) = true
@@ -51,9 +52,11 @@ module _ (words : List Word) where
   abbrev pub tokens_in : Item → List ℕ
   tokens_in (TokenGiven symbol) = symbol ∷ []
   tokens_in (AliasGiven token string) = string ∷ []
+  tokens_in (RuleGiven symbol) = token_itself symbol
   tokens_in (SymbolListed symbol) = token_itself symbol
   tokens_in (PrecedenceGiven associativity symbol) = symbol ∷ []
   tokens_in (StartNamed symbol) = token_itself symbol
+  tokens_in (HeadRead symbol) = token_itself symbol
   tokens_in (ProductionRead production) = flat_map tokens_of_part production.parts
   tokens_in _ = []
 

@@ -5,7 +5,7 @@ ghost use Rattle.std.specs.String.{string_bytes};
 ghost use Rattle.bison_reader.specs.Items.{item_view};
 ghost use Rattle.bison_words.specs.Words.{word_view};
 ghost use Rattle.bison_tree.specs.Inner.Views.{IsConsistent, aliases_view};
-ghost use Rattle.bison_tree.specs.Names.{alias_in, aliases_of, called, is_taken, name_at, names_of, with_alias};
+ghost use Rattle.bison_tree.specs.Names.{alias_in, aliases_of, built_in, called, is_taken, name_at, names_of, with_alias};
 
 use crate::names::own_names;
 use crate::sets::{add_name, has_name};
@@ -32,7 +32,7 @@ pub(crate) fn name_at<'a>(names: &'a [String], word: usize) -> &'a str
 }
 
 impl Aliases {
-    fn new(alloc: Global) -> Self
+    fn none(alloc: Global) -> Self
         ensures none { aliases_view result ≡ [] }
         ensures consistent { IsConsistent result }
     {
@@ -40,6 +40,17 @@ impl Aliases {
             of_strings: IndexMap::new(alloc),
             tokens: IndexSet::new(alloc),
         }
+    }
+
+    /// Those that need no declaration.
+    fn built_in(alloc: Global) -> Result<Self, AllocError>
+        ensures built_in { IfOk result (λ aliases. aliases_view aliases ≡ built_in) }
+        ensures consistent { IfOk result IsConsistent }
+    {
+        let mut aliases = Aliases::none(alloc);
+        aliases.give(alloc, "YYerror", "error")?;
+        aliases.give(alloc, "$undefined", "YYUNDEF")?;
+        Ok(aliases)
     }
 
     /// Whether the string or the token has another name already.
@@ -81,7 +92,7 @@ fn aliases_of(alloc: Global, own: &[String], items: &[Item]) -> Result<Aliases, 
     ensures { IfOk result (λ aliases. aliases_view aliases
         ≡ aliases_of (map string_bytes own.now) (map item_view items.now)) }
 {
-    let mut aliases = Aliases::new(alloc);
+    let mut aliases = Aliases::built_in(alloc)?;
     for item in items {
         if let Item::Alias { token, string } = item {
             aliases.give(alloc, name_at(own, *string), name_at(own, *token))?;

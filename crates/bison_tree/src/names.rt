@@ -3,7 +3,7 @@
 ghost use Rattle.std.specs.Prelude.{◌≡◌, map, encode_utf8, option_map, IfOk};
 ghost use Rattle.std.specs.String.{string_bytes};
 ghost use Rattle.bison_words.specs.Words.{lexeme_view, word_view};
-ghost use Rattle.bison_tree.specs.Names.{character_name, each_once, identifier_name, in_quotes, letter_in, letters_of, own_name};
+ghost use Rattle.bison_tree.specs.Names.{character_name, each_once, in_quotes, letter_in, letters_of, own_name};
 ghost use Rattle.bison_tree.specs.Names.{own_names};
 ghost use Rattle.cfgitems.specs.Building.{has_name};
 
@@ -58,19 +58,12 @@ fn character_name(alloc: Global, letters: &IndexSet<String>, character: u8) -> R
     }
 }
 
-/// The name of an identifier.
-pub(crate) fn identifier_name<'a>(name: &'a str) -> &'a str
-    ensures { result.now ≡ identifier_name name.now }
-{
-    if name == "YYerror" { "error" } else { name }
-}
-
 /// The name that a word has by itself.
 fn own_name(alloc: Global, letters: &IndexSet<String>, lexeme: Lexeme<'_>) -> Result<String, AllocError>
     ensures { IfOk result (λ name. string_bytes name ≡ own_name (λ name. has_name name (map string_bytes letters.now.keys)) (lexeme_view lexeme.entry)) }
 {
     match lexeme {
-        Lexeme::Identifier(name) => Ok(String::from_str(alloc, identifier_name(name))?),
+        Lexeme::Identifier(name) => Ok(String::from_str(alloc, name)?),
         Lexeme::Literal(character) => character_name(alloc, letters, character),
         Lexeme::String(text) | Lexeme::Translatable(text) => in_quotes(alloc, "\"", text),
         _ => Ok(String::new(alloc)),

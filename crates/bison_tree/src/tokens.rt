@@ -5,12 +5,11 @@ ghost use Rattle.std.specs.List.{flat_map};
 ghost use Rattle.std.specs.String.{string_bytes};
 ghost use Rattle.bison_reader.specs.Items.{item_view};
 ghost use Rattle.bison_words.specs.Words.{lexeme_view, word_view};
-ghost use Rattle.bison_tree.specs.Names.{each_once, identifier_name};
+ghost use Rattle.bison_tree.specs.Names.{each_once};
 ghost use Rattle.bison_tree.specs.Tokens.{is_built_in, is_token_itself, lexeme_at, span_at, token_itself, token_names};
 ghost use Rattle.bison_tree.specs.Tokens.{tokens_in, tokens_of, tokens_of_part};
 
 use crate::aliases::name_at;
-use crate::names::identifier_name;
 use crate::sets::add_name;
 use bison_reader::{Item, Part, PartKind};
 use bison_words::{Lexeme, Word};
@@ -42,7 +41,7 @@ pub(crate) fn span_at(words: &[Word<'_>], word: usize) -> Span
 fn is_built_in(name: &str) -> bool
     ensures { result ≡ is_built_in name.now }
 {
-    name == "error" || name == "YYEOF" || name == "YYUNDEF"
+    name == "error" || name == "YYerror" || name == "YYEOF" || name == "YYUNDEF"
 }
 
 /// Whether a symbol is a token by itself.
@@ -50,7 +49,7 @@ fn is_token_itself(lexeme: Lexeme<'_>) -> bool
     ensures { result ≡ is_token_itself (lexeme_view lexeme.entry) }
 {
     match lexeme {
-        Lexeme::Identifier(name) => is_built_in(identifier_name(name)),
+        Lexeme::Identifier(name) => is_built_in(name),
         Lexeme::Literal(_) | Lexeme::String(_) | Lexeme::Translatable(_) => true,
         _ => false,
     }
@@ -96,7 +95,7 @@ fn push_of_item(tokens: &mut Vec<usize>, words: &[Word<'_>], item: &Item) -> Res
     match item {
         Item::Token(symbol) | Item::Precedence(_, symbol) => Ok(tokens.push(*symbol)?),
         Item::Alias { string, .. } => Ok(tokens.push(*string)?),
-        Item::Symbol(symbol) | Item::Start(symbol) => push_itself(tokens, words, *symbol),
+        Item::Rule(symbol) | Item::Symbol(symbol) | Item::Start(symbol) | Item::Head(symbol) => push_itself(tokens, words, *symbol),
         Item::Production(production) => push_of_parts(tokens, words, production.parts.as_slice()),
         _ => Ok(()),
     }
