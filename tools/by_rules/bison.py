@@ -22,10 +22,15 @@ class Unexpected(Exception):
 
 
 class Symbol:
-    """What a file says of a symbol: whether it is a token or a rule, where that was said first, and its alias."""
+    """What a file says of a symbol: whether it is a token, whether it is a rule, and its alias."""
 
-    def __init__(self, kind=None, span=None, alias=None):
-        self.kind, self.span, self.alias = kind, span, alias
+    def __init__(self, is_token=False, alias=None):
+        self.is_token, self.is_rule, self.alias = is_token, False, alias
+
+    @property
+    def kind(self):
+        """'token', 'rule', or None."""
+        return 'token' if self.is_token else 'rule' if self.is_rule else None
 
 
 class Token:
@@ -85,7 +90,9 @@ class Draft:
     def __init__(self, begin):
         self.begin, self.end = begin, begin
         self.symbols, self.precedence, self.once = [], None, {}
+        self.later = []                # what it says of symbols, and its faults, which count if it is read whole
         self.pending = None            # the word of code, or of a predicate, that isn't before another symbol so far
+        self.pending_end = None        # where it ends, with its name
 
 
 class Reader:
@@ -94,7 +101,7 @@ class Reader:
     def __init__(self, words, faults):
         self.words, self.next, self.expected = words, 0, []
         self.faults = faults
-        self.symbols = {('identifier', n): Symbol('token', None, alias) for n, alias in BUILT_IN.items()}
+        self.symbols = {('identifier', n): Symbol(True, alias) for n, alias in BUILT_IN.items()}
         self.tokens = {}               # key: span, in order
         self.rules = {}                # key: span, in order of their first productions
         self.nonterminals = {}         # key: span of %nterm names
@@ -150,26 +157,26 @@ class Reader:
     def symbol(self, key):
         return self.symbols.setdefault(key, Symbol())
 
-    def is_a(self, kind, key, span):
-        """Says that a symbol is a token, or a rule. It can't be both."""
-        symbol = self.symbol(key)
-        if symbol.kind is None:
-            symbol.kind, symbol.span = kind, span
-        elif symbol.kind != kind and symbol.kind != 'both':
-            self.fault('RuleIsToken', span, key[1], [symbol.span] if symbol.span else [])
-            symbol.kind = 'both'
-        if kind == 'token':
-            self.tokens.setdefault(key, span)
+    def is_a_token(self, key, span):
+        """Says that a symbol is a token."""
+        self.symbol(key).is_token = True
+        self.tokens.setdefault(key, span)
+
+    def is_a_rule(self, word):
+        """Says that a symbol is a rule."""
+        if self.key(word)[1] in BUILT_IN:
+            self.is_a_token(self.key(word), word.span)
+        self.symbol(self.key(word)).is_rule = True
 
     def mention(self, word):
         """A symbol in a list that declares none, or in a production. Literals and strings are tokens all the same."""
         if word.kind != 'identifier' or self.key(word)[1] in BUILT_IN:
-            self.is_a('token', self.key(word), word.span)
+            self.is_a_token(self.key(word), word.span)
 
     def alias(self, key, word):
         """Gives a token its alias, unless it has one, or the string is that of another. The string is a token too."""
         string, symbol = self.key(word), self.symbol(key)
-        self.is_a('token', string, word.span)
+        self.is_a_token(string, word.span)
         if symbol.alias is None and string not in self.owners:
             symbol.alias, self.owners[string] = string, key
             self.aliases[key] = (word.value[0], word.span, word.value[1])
@@ -210,7 +217,7 @@ class Reader:
         word = self.take('identifier', 'literal')
         if word:
             key = self.key(word)
-            self.is_a('token', key, word.span)
+            self.is_a_token(key, word.span)
             self.take('number')
             alias = self.take('string', 'translatable')
             if alias:
@@ -226,7 +233,7 @@ class Reader:
         if word and word.kind == 'literal':
             self.fault('NotForRules', word.span)
         elif word:
-            self.is_a('rule', self.key(word), word.span)
+            self.is_a_rule(word)
             self.nonterminals.setdefault(self.key(word), word.span)
         for kinds in (('number',), ('string', 'translatable')):
             extra = word and self.take(*kinds)
@@ -251,7 +258,7 @@ class Reader:
     def precedence_item(self, level, name):
         word = self.take(*SYMBOLS)
         if word:
-            self.is_a('token', self.key(word), word.span)
+            self.is_a_token(self.key(word), word.span)
             self.precedences.append((self.key(word), level, name, word.span))
         if word and word.kind != 'string':
             self.take('number')
@@ -334,7 +341,7 @@ class Reader:
 
     def rule(self):
         head = self.advance()
-        self.is_a('rule', self.key(head), head.span)
+        self.is_a_rule(head)
         self.rules.setdefault(self.key(head), head.span)
         self.take('name')
         self.need(':')
@@ -353,6 +360,8 @@ class Reader:
         except Unexpected:
             self.skip_to(';', '%%')
             return
+        for step in draft.later:
+            step()
         if 'empty' in draft.once and draft.symbols:
             self.fault('NonEmptyProduction', draft.once['empty'])
         self.drafts.append((rule, draft, action_of(draft.pending)))
@@ -376,9 +385,9 @@ class Reader:
 
     def symbol_of_production(self, draft, word):
         self.close_action(draft)
-        self.mention(word)
+        draft.later.append(lambda: self.mention(word))
         draft.symbols.append((self.key(word), word.span))
-        self.used.append((self.key(word), word.span))
+        draft.later.append(lambda: self.used.append((self.key(word), word.span)))
         self.take('name')
         draft.end = self.words[self.next - 1].span[1]
 
@@ -391,6 +400,7 @@ class Reader:
         draft.pending = word
         if word.kind == 'code':
             self.take('name')
+        draft.pending_end = self.words[self.next - 1].span[1]
 
     def close_action(self, draft):
         """Makes the action before another symbol or action a rule of its own."""
@@ -401,22 +411,23 @@ class Reader:
             self.rules[key] = code.span
             self.drafts.append((key, Draft(code.span[0]), action_of(code)))
             draft.symbols.append((key, code.span))
-            draft.end = code.span[1]
+            draft.end = draft.pending_end
 
     def modifier(self, draft, word):
         """%prec, %empty or %dprec, each of which a production has once, or one of the others."""
         name = word.kind[1:]
         if name == 'prec':
             value = self.need(*SYMBOLS)
-            self.is_a('token', self.key(value), value.span)
+            draft.later.append(lambda: self.is_a_token(self.key(value), value.span))
         elif name == 'merge':
             self.need('tag')
         elif name != 'empty':
             value = self.need('number')
             if name == 'dprec' and value.value == 0:
-                self.fault('IllegalInteger', value.span)
+                draft.later.append(lambda: self.fault('IllegalPriority', value.span))
         if name in draft.once and name in ('prec', 'empty', 'dprec'):
-            self.fault('RepeatedInProduction', word.span, name, [draft.once[name]])
+            first = draft.once[name]
+            draft.later.append(lambda: self.fault('RepeatedInProduction', word.span, name, [first]))
         elif name == 'prec':
             draft.precedence = self.key(value)
         draft.once.setdefault(name, word.span)
@@ -444,13 +455,13 @@ class Names:
 
     def __init__(self, reader):
         self.reader = reader
-        self.identifiers = {n for (kind, n), symbol in reader.symbols.items() if kind == 'identifier' and symbol.kind}
+        self.identifiers = {word.value for word in reader.words if word.kind in ('identifier', 'head')}
 
     def resolved(self, key):
         return self.reader.owners.get(key, key)
 
     def kind(self, key):
-        """'token', 'rule' or 'both', or None for a symbol of which the file says neither."""
+        """'token', 'rule', or None for a symbol of which the file says neither."""
         return 'rule' if key[0] == 'inner' else self.reader.symbol(self.resolved(key)).kind
 
     def name(self, key):
@@ -461,24 +472,41 @@ class Names:
         return "'%s'" % value if kind == 'literal' and value in self.identifiers else value
 
 
+def rule_spans(reader, names):
+    """The name of each rule, with its span: those of %nterm that have no production come last."""
+    spans = {}
+    for key, span in [*reader.rules.items(), *reader.nonterminals.items()]:
+        spans.setdefault(names.name(key), (key, span))
+    return spans
+
+
 def check_names(reader, names):
     """Adds the faults of names. What is missing is no fault if a part of the text was skipped, which may have it."""
     is_whole = all(fault.kind in OF_NAMES for fault in reader.faults)
+    tokens = {}
+    for key, span in reader.tokens.items():
+        tokens.setdefault(names.name(key), span)
+    for name, (key, span) in rule_spans(reader, names).items():
+        if names.kind(key) == 'token':
+            reader.fault('RuleIsToken', span, name, [tokens[name]])
+    first = {}
+    for key, _, _, span in reader.precedences:
+        if first.setdefault(names.resolved(key), span) != span:
+            reader.fault('DuplicatePrecedence', span, names.name(key), [first[names.resolved(key)]])
+    if is_whole:
+        check_missing(reader, names)
+
+
+def check_missing(reader, names):
     missing = set()
     for key, span in reader.used:
-        if is_whole and names.kind(key) is None and key not in missing:
+        if names.kind(key) is None and key not in missing:
             missing.add(key)
             reader.fault('UnknownSymbol', span, key[1])
-    if reader.start and (names.kind(reader.start[0]) == 'token' or is_whole and names.kind(reader.start[0]) is None):
-        reader.fault('InvalidStart', reader.start[1], names.name(reader.start[0]))
-    if is_whole and not reader.rules:
+    if not reader.rules:
         reader.fault('NoRule', (0, 0))
-    spans = {}
-    for key, _, _, span in reader.precedences:
-        spans.setdefault(names.resolved(key), []).append(span)
-    for key, (first, *repeats) in spans.items():
-        if repeats:
-            reader.fault('DuplicatePrecedence', first, names.name(key), repeats)
+    if reader.start and names.name(reader.start[0]) not in rule_spans(reader, names):
+        reader.fault('InvalidStart', reader.start[1], names.name(reader.start[0]))
 
 
 def tree_of(reader, names, epilogue):
@@ -496,8 +524,8 @@ def tree_of(reader, names, epilogue):
         tree.precedences.setdefault(names.name(key), (level, ASSOCIATIVITIES[name], span))
         if name == 'precedence' and names.name(key) not in tree.only_precedence:
             tree.only_precedence.append(names.name(key))
-    for key, span in [*reader.rules.items(), *reader.nonterminals.items()]:
-        tree.rules.setdefault(names.name(key), Rule(span))
+    for name, (_, span) in rule_spans(reader, names).items():
+        tree.rules[name] = Rule(span)
     for key, draft, action in reader.drafts:
         tree.rules[names.name(key)].productions.append(len(tree.productions))
         symbols = [(names.kind(it) == 'token', names.name(it), span) for it, span in draft.symbols]
