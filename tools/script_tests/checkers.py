@@ -321,6 +321,8 @@ def test_wrong_bodies(room):
         edit = sorted(os.listdir(f"{copy}/{folder}"))[-1]
         with changed(copy, f"{folder}/{edit}", gone):
             fails(copy, f"wrong_bodies {folder}: ", "tools/wrong_bodies", "--check")
+        with changed(copy, f"{folder}/{edit}", lambda text: re.sub("^right:.*\n", "", text, flags=re.M)):
+            fails(copy, f"{folder}/{edit} has no control", "tools/wrong_bodies", "--check")
 
 
 # ---------------------------------------------------------------- how tools are called
