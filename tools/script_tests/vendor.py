@@ -1,5 +1,6 @@
 """Tests of bin/vendor, over a library of two small crates."""
 import os
+import re
 import shutil
 import subprocess
 
@@ -9,6 +10,8 @@ LISTED = "# Foundations\nlow:\nother: low\n\n# The library\ncfgrammar: low\n"
 SOURCES = {
     "crates.txt": LISTED,
     "CHANGELOG.md": "# Changes\n- the first line\n",
+    "docs/GUIDE.md": "# Guide\n<!-- tools/pages: code -->\n[laws](LAWS.md#a), [here](#guide), the [README](../README.md)\n",
+    "docs/LAWS.md": "# Laws\n\n## A\n[ROWS.md](ROWS.md) and [guide](GUIDE.md)\n",
     "LICENSE-APACHE": "a licence\n",
     "LICENSE-MIT": "a licence\n",
     "crates/low/src/lib.rt": "low 1\n",
@@ -22,7 +25,7 @@ SOURCES = {
 COPY = {
     "crates/low/src/lib.rt", "crates/low/specs/Lib.antt", "crates/cfgrammar/src/lib.rt", "crates/cfgrammar/src/old.rt",
     "crates/cfgrammar/CHANGELOG.md", "crates/cfgrammar/LICENSE-APACHE", "crates/cfgrammar/LICENSE-MIT",
-    "crates/cfgrammar/VENDORED", "crates.txt", ".gitignore",
+    "crates/cfgrammar/GUIDE.md", "crates/cfgrammar/LAWS.md", "crates/cfgrammar/VENDORED", "crates.txt", ".gitignore",
 }
 LINES = "# The library cfgrammar: bin/vendor writes these lines\nlow:\ncfgrammar: low\n# The end of the library cfgrammar\n"
 
@@ -55,13 +58,16 @@ def files(folder):
 def test_vendor_into_a_new_folder(room):
     top, copy = library(room), f"{room}/a [b]/copy"
     said = vendor(top, copy)
-    assert "2 crates, 7 files" in said and "demo: cfgrammar" in said, said
+    assert "2 crates, 9 files" in said and "demo: cfgrammar" in said, said
     made = files(copy)
     assert set(made) == COPY, f"it has {set(made) ^ COPY} more or less"
     assert all(SOURCES.get(it, text) == text for it, text in made.items() if it != "crates.txt")
     assert made["crates.txt"] == LINES and made[".gitignore"] == "out/\n", made["crates.txt"] + made[".gitignore"]
     assert os.path.isdir(f"{copy}/.git"), "no git repository"
     assert "version 0.15.0\n" in made["crates/cfgrammar/VENDORED"]
+    guide, laws = (made[f"crates/cfgrammar/{it}.md"].splitlines() for it in ("GUIDE", "LAWS"))
+    assert guide[0] == "# Guide" and guide[-1] == "[laws](LAWS.md#a), [here](#guide), the README", guide
+    assert laws[-2:] == ["## A", "ROWS.md and [guide](GUIDE.md)"], laws
 
 
 def test_vendor_beside_crates_of_ones_own(room):
@@ -156,3 +162,9 @@ def test_vendor_of_this_repository(room):
     assert set(listed) <= set(read(f"{ROOT}/crates.txt").splitlines()), "crates.txt has other lines"
     names = [it.partition(":")[0] for it in listed]
     assert names[-1] == "cfgrammar" and sorted(os.listdir(f"{room}/copy/crates")) == sorted(names)
+    for page in ("GUIDE.md", "LAWS.md", "CHANGELOG.md"):
+        text = read(f"{room}/copy/crates/cfgrammar/{page}")
+        links = re.findall(r"\]\(([^)#]*)(#[^)]*)?\)", text)
+        gone = [to for to, _ in links if to and not os.path.isfile(f"{room}/copy/crates/cfgrammar/{to}")]
+        assert not gone and "<!--" not in text, f"{page} has links to {gone}, or comments of tools"
+        assert links or page == "CHANGELOG.md", f"{page} has no links"
