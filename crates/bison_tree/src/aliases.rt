@@ -71,8 +71,10 @@ impl Aliases {
             return Ok(());
         }
         add_name(alloc, &mut self.tokens, token)?;
-        self.of_strings
-            .insert(String::from_str(alloc, string)?, String::from_str(alloc, token)?)?;
+        self.of_strings.insert(
+            String::from_str(alloc, string)?,
+            String::from_str(alloc, token)?,
+        )?;
         Ok(())
     }
 
@@ -115,7 +117,11 @@ fn called(alloc: Global, aliases: &Aliases, own: &[String]) -> Result<Vec<String
 
 /// The name of each word.
 #[tactic(auto, unfolding(crate::specs::Names::names_of))]
-pub(crate) fn names_of(alloc: Global, words: &[Word<'_>], items: &[Item]) -> Result<Vec<String>, AllocError>
+pub(crate) fn names_of(
+    alloc: Global,
+    words: &[Word<'_>],
+    items: &[Item],
+) -> Result<Vec<String>, AllocError>
     ensures { IfOk result (λ names. map string_bytes names.items
         ≡ names_of (map word_view words.now) (map item_view items.now)) }
 {

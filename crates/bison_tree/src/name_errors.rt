@@ -83,7 +83,7 @@ fn declaration_errors(
 ) -> Result<Vec<Error>, AllocError>
     ensures { IfOk result (λ errors. errors.items
         ≡ flat_map (declaration_errors (map word_view words.now) (map string_bytes names.now)
-            (first_start (map item_view items.now))) (map item_view items.now)) }
+        (first_start (map item_view items.now))) (map item_view items.now)) }
 {
     let first = first_start(items);
     let mut errors = Vec::new(alloc);
@@ -203,7 +203,7 @@ fn push_unknown(
     ensures { OnOk result ((rest : List plain.Symbol)
         → errors.new.items ++ unknown_after (syntax ast.now) (map string_bytes known.new.keys) rest
         ≡ errors.old.items ++ unknown_after (syntax ast.now) (map string_bytes known.old.keys)
-            (map symbol_view symbols.now ++ rest)) }
+        (map symbol_view symbols.now ++ rest)) }
 {
     for symbol in symbols {
         let (Symbol::Rule(name, span) | Symbol::Token(name, span)) = symbol;
@@ -216,13 +216,23 @@ fn push_unknown(
 }
 
 /// Adds symbols of all productions that are neither tokens nor rules.
-fn push_all_unknown(alloc: Global, errors: &mut Vec<Error>, ast: &GrammarAST) -> Result<(), AllocError>
+fn push_all_unknown(
+    alloc: Global,
+    errors: &mut Vec<Error>,
+    ast: &GrammarAST,
+) -> Result<(), AllocError>
     ensures { OnOk result (errors.new.items
         ≡ errors.old.items ++ unknown_after (syntax ast.now) [] (symbols_of (syntax ast.now))) }
 {
     let mut known = IndexSet::new(alloc);
     for production in ast.prods() {
-        push_unknown(alloc, errors, &mut known, ast, production.symbols.as_slice())?;
+        push_unknown(
+            alloc,
+            errors,
+            &mut known,
+            ast,
+            production.symbols.as_slice(),
+        )?;
     }
     Ok(())
 }
@@ -279,7 +289,7 @@ pub(crate) fn name_errors(
 ) -> Result<Vec<Error>, AllocError>
     ensures { IfOk result (λ errors. errors.items
         ≡ name_errors is_whole (map word_view words.now) (map string_bytes names.now) (map item_view items.now)
-            (syntax ast.now)) }
+        (syntax ast.now)) }
 {
     let mut errors = declaration_errors(alloc, words, names, items)?;
     push_tree(&mut errors, ast)?;

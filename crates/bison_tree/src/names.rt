@@ -46,7 +46,11 @@ fn letters_of(alloc: Global, words: &[Word<'_>]) -> Result<IndexSet<String>, All
 }
 
 /// The name of a character.
-fn character_name(alloc: Global, letters: &IndexSet<String>, character: u8) -> Result<String, AllocError>
+fn character_name(
+    alloc: Global,
+    letters: &IndexSet<String>,
+    character: u8,
+) -> Result<String, AllocError>
     ensures { IfOk result (λ name. string_bytes name ≡ character_name (λ name. has_name name (map string_bytes letters.now.keys)) (encode_utf8 character)) }
 {
     let mut name = String::new(alloc);
@@ -59,7 +63,11 @@ fn character_name(alloc: Global, letters: &IndexSet<String>, character: u8) -> R
 }
 
 /// The name that a word has by itself.
-fn own_name(alloc: Global, letters: &IndexSet<String>, lexeme: Lexeme<'_>) -> Result<String, AllocError>
+fn own_name(
+    alloc: Global,
+    letters: &IndexSet<String>,
+    lexeme: Lexeme<'_>,
+) -> Result<String, AllocError>
     ensures { IfOk result (λ name. string_bytes name ≡ own_name (λ name. has_name name (map string_bytes letters.now.keys)) (lexeme_view lexeme.entry)) }
 {
     match lexeme {
@@ -71,7 +79,11 @@ fn own_name(alloc: Global, letters: &IndexSet<String>, lexeme: Lexeme<'_>) -> Re
 }
 
 /// The name that each word has by itself.
-fn named(alloc: Global, letters: &IndexSet<String>, words: &[Word<'_>]) -> Result<Vec<String>, AllocError>
+fn named(
+    alloc: Global,
+    letters: &IndexSet<String>,
+    words: &[Word<'_>],
+) -> Result<Vec<String>, AllocError>
     ensures { IfOk result (λ names. map string_bytes names.items
         ≡ map (λ word. own_name (λ name. has_name name (map string_bytes letters.now.keys)) word.lexeme) (map word_view words.now)) }
 {

@@ -35,7 +35,10 @@ fn is_precedence(kind: PartKind) -> bool
 fn ends_code(kind: PartKind) -> bool
     ensures { result ≡ ends_code kind }
 {
-    matches!(kind, PartKind::Symbol | PartKind::Action | PartKind::Predicate)
+    matches!(
+        kind,
+        PartKind::Symbol | PartKind::Action | PartKind::Predicate
+    )
 }
 
 /// Whether code before these parts isn't at the end of its production.

@@ -183,7 +183,10 @@ fn span_of(symbols: Symbols<'_>, production: &Production) -> Span
     ensures { result ≡ span_of (words_in symbols.entry) (production_view production.now) }
 {
     let start = symbols.span(production.start).start();
-    Span::new(start, end_of(symbols.words, start, production.parts.as_slice()))
+    Span::new(
+        start,
+        end_of(symbols.words, start, production.parts.as_slice()),
+    )
 }
 
 /// The body of a production of these symbols.
@@ -195,7 +198,7 @@ fn draft_of(
 ) -> Result<Draft, AllocError>
     ensures { IfOk result (λ draft. draft_view draft
         ≡ body_of (words_in symbols.entry) (names_in symbols.entry) (is_token_in symbols.entry) pieces.now
-            (production_view production.now)) }
+        (production_view production.now)) }
 {
     let parts = production.parts.as_slice();
     Ok(Draft {
@@ -242,7 +245,7 @@ pub(crate) fn add_production(
 ) -> Result<(), AllocError>
     ensures added { OnOk result (syntax_built builder.new ≡ adds (syntax_built builder.old)
         (production_items (words_in symbols.entry) (names_in symbols.entry) (is_token_in symbols.entry)
-            (length inners.old.items) (production_view production.now))) }
+        (length inners.old.items) (production_view production.now))) }
     ensures counted { OnOk result (length inners.new.items
         ≡ inners_after (length inners.old.items) (production_view production.now).parts) }
 {

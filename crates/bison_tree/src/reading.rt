@@ -77,10 +77,10 @@ fn errors_of(
 ) -> Result<Vec<Error>, AllocError>
     ensures { IfOk result (λ errors. AreErrors
         (text_errors (map word_view file.now.words.words.items) file.now.words.faults.items
-            (map item_view file.now.items.items))
+        (map item_view file.now.items.items))
         (name_errors (length (text_errors (map word_view file.now.words.words.items) file.now.words.faults.items
-            (map item_view file.now.items.items)) == 0) (map word_view file.now.words.words.items)
-            (map string_bytes names.now) (map item_view file.now.items.items) (syntax ast.now))
+        (map item_view file.now.items.items)) == 0) (map word_view file.now.words.words.items)
+        (map string_bytes names.now) (map item_view file.now.items.items) (syntax ast.now))
         errors.items) }
 {
     let words = file.words.words.as_slice();
@@ -113,10 +113,10 @@ fn with_errors(
     ensures tree { IfOk result (λ both. both.0 ≡ ast) }
     ensures errors { IfOk result (λ both. AreErrors
         (text_errors (map word_view file.now.words.words.items) file.now.words.faults.items
-            (map item_view file.now.items.items))
+        (map item_view file.now.items.items))
         (name_errors (length (text_errors (map word_view file.now.words.words.items) file.now.words.faults.items
-            (map item_view file.now.items.items)) == 0) (map word_view file.now.words.words.items)
-            (map string_bytes names.now) (map item_view file.now.items.items) (syntax ast))
+        (map item_view file.now.items.items)) == 0) (map word_view file.now.words.words.items)
+        (map string_bytes names.now) (map item_view file.now.items.items) (syntax ast))
         both.1.items) }
 {
     let errors = errors_of(alloc, file, names, &ast);

@@ -78,7 +78,11 @@ fn push_of_part(tokens: &mut Vec<usize>, words: &[Word<'_>], part: Part) -> Resu
 }
 
 /// Adds the words of a production that are tokens.
-fn push_of_parts(tokens: &mut Vec<usize>, words: &[Word<'_>], parts: &[Part]) -> Result<(), AllocError>
+fn push_of_parts(
+    tokens: &mut Vec<usize>,
+    words: &[Word<'_>],
+    parts: &[Part],
+) -> Result<(), AllocError>
     ensures { OnOk result (tokens.new.items
         ≡ tokens.old.items ++ flat_map (tokens_of_part (map word_view words.now)) parts.now) }
 {
@@ -95,7 +99,8 @@ fn push_of_item(tokens: &mut Vec<usize>, words: &[Word<'_>], item: &Item) -> Res
     match item {
         Item::Token(symbol) | Item::Precedence(_, symbol) => Ok(tokens.push(*symbol)?),
         Item::Alias { string, .. } => Ok(tokens.push(*string)?),
-        Item::Rule(symbol) | Item::Symbol(symbol) | Item::Start(symbol) | Item::Head(symbol) => push_itself(tokens, words, *symbol),
+        Item::Rule(symbol) | Item::Symbol(symbol) | Item::Start(symbol) | Item::Head(symbol) =>
+            push_itself(tokens, words, *symbol),
         Item::Production(production) => push_of_parts(tokens, words, production.parts.as_slice()),
         _ => Ok(()),
     }
@@ -103,7 +108,11 @@ fn push_of_item(tokens: &mut Vec<usize>, words: &[Word<'_>], item: &Item) -> Res
 
 /// The words that are tokens.
 #[tactic(auto, unfolding(crate::specs::Tokens::tokens_of))]
-pub(crate) fn tokens_of(alloc: Global, words: &[Word<'_>], items: &[Item]) -> Result<Vec<usize>, AllocError>
+pub(crate) fn tokens_of(
+    alloc: Global,
+    words: &[Word<'_>],
+    items: &[Item],
+) -> Result<Vec<usize>, AllocError>
     ensures { IfOk result (λ tokens. tokens.items ≡ tokens_of (map word_view words.now) (map item_view items.now)) }
 {
     let mut tokens = Vec::new(alloc);
@@ -114,7 +123,11 @@ pub(crate) fn tokens_of(alloc: Global, words: &[Word<'_>], items: &[Item]) -> Re
 }
 
 /// The names of tokens, each once, by the words that are tokens.
-pub(crate) fn token_names(alloc: Global, names: &[String], tokens: &[usize]) -> Result<IndexSet<String>, AllocError>
+pub(crate) fn token_names(
+    alloc: Global,
+    names: &[String],
+    tokens: &[usize],
+) -> Result<IndexSet<String>, AllocError>
     ensures { IfOk result (λ set. map string_bytes set.keys ≡ each_once (token_names (map string_bytes names.now) tokens.now)) }
 {
     let mut set = IndexSet::new(alloc);

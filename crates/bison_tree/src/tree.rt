@@ -66,7 +66,12 @@ impl<'a> Symbols<'a> {
     }
 
     /// Adds tokens.
-    fn add_tokens(self, alloc: Global, builder: &mut AstBuilder, tokens: &[usize]) -> Result<(), AllocError>
+    fn add_tokens(
+        self,
+        alloc: Global,
+        builder: &mut AstBuilder,
+        tokens: &[usize],
+    ) -> Result<(), AllocError>
         ensures { OnOk result (syntax_built builder.new ≡ adds (syntax_built builder.old)
             (map (token_quoted (words_in self.entry) (names_in self.entry)) tokens.now)) }
     {
@@ -95,7 +100,12 @@ impl<'a> Symbols<'a> {
     }
 
     /// Adds the rule whose name a colon follows.
-    fn add_rule(self, alloc: Global, builder: &mut AstBuilder, word: usize) -> Result<(), AllocError>
+    fn add_rule(
+        self,
+        alloc: Global,
+        builder: &mut AstBuilder,
+        word: usize,
+    ) -> Result<(), AllocError>
         ensures { OnOk result (syntax_built builder.new ≡ adds (syntax_built builder.old)
             (RuleBegun (word_at (words_in self.entry) (names_in self.entry) word)
             ∷ named_rule (words_in self.entry) (names_in self.entry) word ∷ [])) }
@@ -114,7 +124,7 @@ impl<'a> Symbols<'a> {
     ) -> Result<(), AllocError>
         ensures added { OnOk result (syntax_built builder.new ≡ adds (syntax_built builder.old)
             (said (words_in self.entry) (names_in self.entry) (is_token_in self.entry)
-                (length inners.old.items) (item_view item.now))) }
+            (length inners.old.items) (item_view item.now))) }
         ensures counted { OnOk result (length inners.new.items
             ≡ inners_with (length inners.old.items) (item_view item.now)) }
     {
@@ -134,10 +144,15 @@ impl<'a> Symbols<'a> {
     }
 
     /// Adds what items say.
-    fn add_items(self, alloc: Global, builder: &mut AstBuilder, items: &[Item]) -> Result<(), AllocError>
+    fn add_items(
+        self,
+        alloc: Global,
+        builder: &mut AstBuilder,
+        items: &[Item],
+    ) -> Result<(), AllocError>
         ensures { OnOk result (syntax_built builder.new ≡ adds (syntax_built builder.old)
             (said_after (words_in self.entry) (names_in self.entry) (is_token_in self.entry) 0
-                (map item_view items.now))) }
+            (map item_view items.now))) }
     {
         let mut inners = Vec::new(alloc);
         for item in items {
@@ -147,7 +162,12 @@ impl<'a> Symbols<'a> {
     }
 
     /// Adds the start that the first `%start` names.
-    fn add_start(self, alloc: Global, builder: &mut AstBuilder, items: &[Item]) -> Result<(), AllocError>
+    fn add_start(
+        self,
+        alloc: Global,
+        builder: &mut AstBuilder,
+        items: &[Item],
+    ) -> Result<(), AllocError>
         ensures { OnOk result (syntax_built builder.new ≡ adds (syntax_built builder.old)
             (start_items (words_in self.entry) (names_in self.entry) (map item_view items.now))) }
     {
@@ -158,7 +178,12 @@ impl<'a> Symbols<'a> {
     }
 
     /// Adds the rules of `%nterm`.
-    fn add_named_rules(self, alloc: Global, builder: &mut AstBuilder, items: &[Item]) -> Result<(), AllocError>
+    fn add_named_rules(
+        self,
+        alloc: Global,
+        builder: &mut AstBuilder,
+        items: &[Item],
+    ) -> Result<(), AllocError>
         ensures { OnOk result (syntax_built builder.new ≡ adds (syntax_built builder.old)
             (map (named_rule (words_in self.entry) (names_in self.entry)) (filter_map rule_in (map item_view items.now)))) }
     {
@@ -186,7 +211,12 @@ impl<'a> Symbols<'a> {
     }
 
     /// Adds everything but tokens.
-    fn add_rules(self, alloc: Global, builder: &mut AstBuilder, items: &[Item]) -> Result<(), AllocError>
+    fn add_rules(
+        self,
+        alloc: Global,
+        builder: &mut AstBuilder,
+        items: &[Item],
+    ) -> Result<(), AllocError>
         ensures { OnOk result (syntax_built builder.new ≡ adds (syntax_built builder.old)
             (rules_items (words_in self.entry) (names_in self.entry) (is_token_in self.entry) (map item_view items.now))) }
     {
@@ -226,7 +256,11 @@ fn last_expected(items: &[Item]) -> (Option<usize>, Option<usize>)
 
 /// Adds what follows the second `%%`.
 #[tactic(auto, unfolding(cfgitems::specs::Building::adds))]
-fn add_programs(alloc: Global, builder: &mut AstBuilder, epilogue: Option<&str>) -> Result<(), AllocError>
+fn add_programs(
+    alloc: Global,
+    builder: &mut AstBuilder,
+    epilogue: Option<&str>,
+) -> Result<(), AllocError>
     ensures { OnOk result (syntax_built builder.new ≡ adds (syntax_built builder.old)
         (programs_items (option_map (λ text. text.now) epilogue.entry))) }
 {
@@ -246,7 +280,7 @@ fn add_file(
     requires { map string_bytes names.now ≡ names_of (map word_view file.now.words.words.items) (map item_view file.now.items.items) }
     ensures { OnOk result (syntax_built builder.new ≡ adds (syntax_built builder.old)
         (tree_items (map word_view file.now.words.words.items) (map item_view file.now.items.items)
-            (option_map (λ text. text.now) file.now.words.epilogue))) }
+        (option_map (λ text. text.now) file.now.words.epilogue))) }
 {
     let words = file.words.words.as_slice();
     let items = file.items.as_slice();

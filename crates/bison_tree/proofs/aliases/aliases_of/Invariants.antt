@@ -8,8 +8,8 @@ use Rattle.bison_tree.proofs.aliases.aliases_of.Given as goal
 -- those so far, with those of the rest
 abbrev pub invariant-loop-item : goal.invariant-loop-item
 invariant-loop-item l =
-  record {
-    given : fold with_alias (aliases_view l.aliases) (filter_map (alias_in (map string_bytes l.own)) (map item_view (drop l.item-index l.items)))
-        ≡ aliases_of (map string_bytes l.own) (map item_view l.items);
-    consistent : IsConsistent l.aliases;
-  }
+    record {
+      given : fold with_alias (aliases_view l.aliases) (filter_map (alias_in (map string_bytes l.own)) (map item_view (drop l.item-index l.items)))
+          ≡ aliases_of (map string_bytes l.own) (map item_view l.items);
+      consistent : IsConsistent l.aliases;
+    }

@@ -13,12 +13,12 @@ returns c =
     let faults = c.as_slice.ensures.value in
     let names = map string_bytes c.args.names.now in
     let reported : List Error =
-        text_errors (map word_view c.args.file.now.words.words.items) c.args.file.now.words.faults.items (map item_view c.args.file.now.items.items) in
+    text_errors (map word_view c.args.file.now.words.words.items) c.args.file.now.words.faults.items (map item_view c.args.file.now.items.items) in
     let of_text : c.in_ok-errors.errors.items ≡ reported =
-        c.in_ok-errors.ensures ∙ (λ i. text_errors (map word_view (words i)) (faults i) (map item_view (items i))) in
+    c.in_ok-errors.ensures ∙ (λ i. text_errors (map word_view (words i)) (faults i) (map item_view (items i))) in
     let seen : c.as_slice-2.result.now ≡ reported = c.as_slice-2.ensures.value ∙ of_text in
     let of_names = c.in_ok-of_names.ensures
-        ∙ (λ i. name_errors (length (seen i) == 0) (map word_view (words i)) names (map item_view (items i)) (syntax c.args.ast.now)) in
+    ∙ (λ i. name_errors (length (seen i) == 0) (map word_view (words i)) names (map item_view (items i)) (syntax c.args.ast.now)) in
     record {
       of_text = c.sort.new.errors.items;
       of_names = c.sort-2.new.errors.items;

@@ -20,13 +20,13 @@ returns c =
     let epilogue = c.requires.words.epilogue_is in
     let seen = ap (map item_view) c.as_slice-items.ensures.value ∙ items in
     let names : map string_bytes c.as_slice-3.result.now ≡ names_of _ _ =
-        ap (map string_bytes) c.as_slice-3.ensures.value ∙ c.in_ok-names.ensures
-        ∙ (λ i. names_of ((ap (map word_view) c.as_slice.ensures.value ∙ words) i) (seen i)) in
+    ap (map string_bytes) c.as_slice-3.ensures.value ∙ c.in_ok-names.ensures
+    ∙ (λ i. names_of ((ap (map word_view) c.as_slice.ensures.value ∙ words) i) (seen i)) in
     let tree : syntax c.in_ok-ast.ast ≡ tree_of text = c.in_ok-ast.ensures ∙ (λ i. syntax_of (tree_items (words i) (items i) (epilogue i))) in
     let file = c.args.file.now in
     let text_reported : List Error = text_errors (map word_view file.words.words.items) file.words.faults.items (map item_view file.items.items) in
     let names_reported : List Error = name_errors (length text_reported == 0) (map word_view file.words.words.items)
-        (map string_bytes c.as_slice-3.result.now) (map item_view file.items.items) (syntax c.in_ok-ast.ast) in
+    (map string_bytes c.as_slice-3.result.now) (map item_view file.items.items) (syntax c.in_ok-ast.ast) in
     let of_text : text_reported ≡ text_errors_of text = λ i. text_errors (words i) (faults i) (items i) in
     let of_names : names_reported ≡ name_errors_of text = λ i. name_errors (length (of_text i) == 0) (words i) (names i) (items i) (tree i) in
     record {

@@ -16,14 +16,14 @@ returns c =
     let names = map string_bytes c.args.names.now in
     let keys = map string_bytes c.in_ok-set.set.keys in
     all_added (map word_view c.args.file.now.words.words.items) (map item_view c.args.file.now.items.items)
-        (option_map (λ text. text.now) c.args.file.now.words.epilogue)
-        (syntax_built c.args.builder.now) (syntax_built c.add_tokens.new.builder) (syntax_built c.add_rules.new.builder)
-        (syntax_built c.add_programs.new.builder) names keys c.in_ok-tokens.tokens.items c.requires
-        (c.in_ok-tokens.ensures ∙ (λ i. tokens_of (map word_view (words i)) (map item_view (items i))))
-        (c.in_ok-set.ensures ∙ ap (λ tokens. each_once (token_names names tokens)) c.as_slice.ensures.value)
-        (c.in_ok-add_tokens.ensures
-            ∙ (λ i. adds (syntax_built c.args.builder.now) (map (token_quoted (map word_view (words i)) names) (c.as_slice-2.ensures.value i))))
-        (c.in_ok-add_rules.ensures
-            ∙ (λ i. adds (syntax_built c.add_tokens.new.builder)
-                (rules_items (map word_view (words i)) names (λ name. has_name name keys) (map item_view (items i)))))
-        c.in_ok-add_programs.ensures
+    (option_map (λ text. text.now) c.args.file.now.words.epilogue)
+    (syntax_built c.args.builder.now) (syntax_built c.add_tokens.new.builder) (syntax_built c.add_rules.new.builder)
+    (syntax_built c.add_programs.new.builder) names keys c.in_ok-tokens.tokens.items c.requires
+    (c.in_ok-tokens.ensures ∙ (λ i. tokens_of (map word_view (words i)) (map item_view (items i))))
+    (c.in_ok-set.ensures ∙ ap (λ tokens. each_once (token_names names tokens)) c.as_slice.ensures.value)
+    (c.in_ok-add_tokens.ensures
+    ∙ (λ i. adds (syntax_built c.args.builder.now) (map (token_quoted (map word_view (words i)) names) (c.as_slice-2.ensures.value i))))
+    (c.in_ok-add_rules.ensures
+    ∙ (λ i. adds (syntax_built c.add_tokens.new.builder)
+    (rules_items (map word_view (words i)) names (λ name. has_name name keys) (map item_view (items i)))))
+    c.in_ok-add_programs.ensures

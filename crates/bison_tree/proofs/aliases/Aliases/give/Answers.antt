@@ -14,7 +14,7 @@ returns-clause-given c =
     let free : is_taken aliases (string, token) ≡ false = sym c.is_taken.ensures ∙ c.if-is_taken.false in
     ap (map pair_view) c.in_ok-insert.ensures.entries
     ∙ entries-new string_bytes string c.args.self.now.of_strings c.in_ok-from_str.field-0 c.in_ok-from_str-2.field-0 c.in_ok-from_str.ensures.ok
-        (no_entry aliases string token free)
+    (no_entry aliases string token free)
     ∙ ap (λ t. aliases ++ (string, t) ∷ []) c.in_ok-from_str-2.ensures.ok ∙ sym (with_free aliases string token free)
 
 pub returns-clause-consistent : goal.returns-clause-consistent
@@ -26,7 +26,7 @@ returns-clause-consistent c =
     let grown : map pair_view c.insert.new.self.entries ≡ aliases ++ (string, token) ∷ [] =
     ap (map pair_view) c.in_ok-insert.ensures.entries
     ∙ entries-new string_bytes string c.args.self.now.of_strings c.in_ok-from_str.field-0 c.in_ok-from_str-2.field-0 c.in_ok-from_str.ensures.ok
-        (no_entry aliases string token free)
+    (no_entry aliases string token free)
     ∙ ap (λ t. aliases ++ (string, t) ∷ []) c.in_ok-from_str-2.ensures.ok in
     c.in_ok-add_name.ensures ∙ ap (λ names. with_one names token) c.requires ∙ tokens-free aliases string token free
     ∙ sym (ap (map (λ (alias : List ℕ × List ℕ). alias.1)) grown)
