@@ -277,7 +277,8 @@ fn add_file(
     file: &FileText<'_>,
     names: &[String],
 ) -> Result<(), AllocError>
-    requires { map string_bytes names.now ≡ names_of (map word_view file.now.words.words.items) (map item_view file.now.items.items) }
+    requires { map string_bytes names.now
+        ≡ names_of (map word_view file.now.words.words.items) (map item_view file.now.items.items) }
     ensures { OnOk result (syntax_built builder.new ≡ adds (syntax_built builder.old)
         (tree_items (map word_view file.now.words.words.items) (map item_view file.now.items.items)
         (option_map (λ text. text.now) file.now.words.epilogue))) }
@@ -303,7 +304,8 @@ pub(crate) fn syntax_of(
     file: &FileText<'_>,
     names: &[String],
 ) -> Result<Syntax, AllocError>
-    requires { map string_bytes names.now ≡ names_of (map word_view file.now.words.words.items) (map item_view file.now.items.items) }
+    requires { map string_bytes names.now
+        ≡ names_of (map word_view file.now.words.words.items) (map item_view file.now.items.items) }
     ensures { IfOk result (λ made. syntax_view made ≡ syntax_of (tree_items (map word_view file.now.words.words.items)
         (map item_view file.now.items.items) (option_map (λ text. text.now) file.now.words.epilogue))) }
 {
