@@ -65,7 +65,8 @@ impl Aliases {
     /// Makes the string another name of the token, unless one of the two has another already.
     fn give(&mut self, alloc: Global, string: &str, token: &str) -> Result<(), AllocError>
         requires { IsConsistent self.old }
-        ensures given { OnOk result (aliases_view self.new ≡ with_alias (aliases_view self.old) (string.now, token.now)) }
+        ensures given { OnOk result (aliases_view self.new
+            ≡ with_alias (aliases_view self.old) (string.now, token.now)) }
         ensures consistent { OnOk result (IsConsistent self.new) }
     {
         if self.is_taken(string, token) {

@@ -34,7 +34,8 @@ fn letter_in<'a>(lexeme: Lexeme<'a>) -> Option<&'a str>
 
 /// The identifiers of one byte among words.
 fn letters_of(alloc: Global, words: &[Word<'_>]) -> Result<IndexSet<String>, AllocError>
-    ensures { IfOk result (λ letters. map string_bytes letters.keys ≡ each_once (letters_of (map word_view words.now))) }
+    ensures { IfOk result (λ letters. map string_bytes letters.keys
+        ≡ each_once (letters_of (map word_view words.now))) }
 {
     let mut letters = IndexSet::new(alloc);
     for word in words {

@@ -185,7 +185,8 @@ impl<'a> Symbols<'a> {
         items: &[Item],
     ) -> Result<(), AllocError>
         ensures { OnOk result (syntax_built builder.new ≡ adds (syntax_built builder.old)
-            (map (named_rule (words_in self.entry) (names_in self.entry)) (filter_map rule_in (map item_view items.now)))) }
+            (map (named_rule (words_in self.entry) (names_in self.entry))
+            (filter_map rule_in (map item_view items.now)))) }
     {
         for item in items {
             if let Item::Rule(symbol) = item {
@@ -218,7 +219,8 @@ impl<'a> Symbols<'a> {
         items: &[Item],
     ) -> Result<(), AllocError>
         ensures { OnOk result (syntax_built builder.new ≡ adds (syntax_built builder.old)
-            (rules_items (words_in self.entry) (names_in self.entry) (is_token_in self.entry) (map item_view items.now))) }
+            (rules_items (words_in self.entry) (names_in self.entry) (is_token_in self.entry)
+            (map item_view items.now))) }
     {
         self.add_start(alloc, builder, items)?;
         self.add_items(alloc, builder, items)?;
