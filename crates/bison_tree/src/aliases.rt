@@ -5,7 +5,8 @@ ghost use Rattle.std.specs.String.{string_bytes};
 ghost use Rattle.bison_reader.specs.Items.{item_view};
 ghost use Rattle.bison_words.specs.Words.{word_view};
 ghost use Rattle.bison_tree.specs.Inner.Views.{IsConsistent, aliases_view};
-ghost use Rattle.bison_tree.specs.Names.{alias_in, aliases_of, built_in, called, is_taken, name_at, names_of, with_alias};
+ghost use Rattle.bison_tree.specs.Names.{alias_in, aliases_of, built_in, called, is_taken, name_at, names_of};
+ghost use Rattle.bison_tree.specs.Names.{with_alias};
 
 use crate::names::own_names;
 use crate::sets::{add_name, has_name};
@@ -64,7 +65,8 @@ impl Aliases {
     /// Makes the string another name of the token, unless one of the two has another already.
     fn give(&mut self, alloc: Global, string: &str, token: &str) -> Result<(), AllocError>
         requires { IsConsistent self.old }
-        ensures given { OnOk result (aliases_view self.new ≡ with_alias (aliases_view self.old) (string.now, token.now)) }
+        ensures given { OnOk result (aliases_view self.new
+            ≡ with_alias (aliases_view self.old) (string.now, token.now)) }
         ensures consistent { OnOk result (IsConsistent self.new) }
     {
         if self.is_taken(string, token) {

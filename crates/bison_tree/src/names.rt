@@ -34,7 +34,8 @@ fn letter_in<'a>(lexeme: Lexeme<'a>) -> Option<&'a str>
 
 /// The identifiers of one byte among words.
 fn letters_of(alloc: Global, words: &[Word<'_>]) -> Result<IndexSet<String>, AllocError>
-    ensures { IfOk result (λ letters. map string_bytes letters.keys ≡ each_once (letters_of (map word_view words.now))) }
+    ensures { IfOk result (λ letters. map string_bytes letters.keys
+        ≡ each_once (letters_of (map word_view words.now))) }
 {
     let mut letters = IndexSet::new(alloc);
     for word in words {
@@ -51,7 +52,8 @@ fn character_name(
     letters: &IndexSet<String>,
     character: u8,
 ) -> Result<String, AllocError>
-    ensures { IfOk result (λ name. string_bytes name ≡ character_name (λ name. has_name name (map string_bytes letters.now.keys)) (encode_utf8 character)) }
+    ensures { IfOk result (λ name. string_bytes name
+        ≡ character_name (λ name. has_name name (map string_bytes letters.now.keys)) (encode_utf8 character)) }
 {
     let mut name = String::new(alloc);
     name.push(char::from(character))?;
@@ -68,7 +70,8 @@ fn own_name(
     letters: &IndexSet<String>,
     lexeme: Lexeme<'_>,
 ) -> Result<String, AllocError>
-    ensures { IfOk result (λ name. string_bytes name ≡ own_name (λ name. has_name name (map string_bytes letters.now.keys)) (lexeme_view lexeme.entry)) }
+    ensures { IfOk result (λ name. string_bytes name
+        ≡ own_name (λ name. has_name name (map string_bytes letters.now.keys)) (lexeme_view lexeme.entry)) }
 {
     match lexeme {
         Lexeme::Identifier(name) => Ok(String::from_str(alloc, name)?),
@@ -85,7 +88,8 @@ fn named(
     words: &[Word<'_>],
 ) -> Result<Vec<String>, AllocError>
     ensures { IfOk result (λ names. map string_bytes names.items
-        ≡ map (λ word. own_name (λ name. has_name name (map string_bytes letters.now.keys)) word.lexeme) (map word_view words.now)) }
+        ≡ map (λ word. own_name (λ name. has_name name (map string_bytes letters.now.keys)) word.lexeme)
+        (map word_view words.now)) }
 {
     let mut names = Vec::new(alloc);
     for word in words {

@@ -53,8 +53,8 @@ pub(crate) fn is_followed(rest: &[Part]) -> bool
     false
 }
 
-/// The symbols of a production. `inners` are the words of the actions inside of productions so far, to which those of this one are
-/// added.
+/// The symbols of a production. `inners` are the words of the actions inside of productions so far; those of this one
+/// are added.
 pub(crate) fn pieces_of(
     alloc: Global,
     inners: &mut Vec<usize>,

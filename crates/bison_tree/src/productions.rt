@@ -234,7 +234,8 @@ fn add_draft(
     builder.add_production(alloc, head, body)
 }
 
-/// Adds a production, and before it the rules of the actions inside of it. `inners` are the words of such actions so far.
+/// Adds a production, and before it the rules of the actions inside of it. `inners` are the words of such actions so
+/// far.
 #[tactic(auto, unfolding(cfgitems::specs::Building::adds), using(crate::proofs::Adds::adds_append))]
 pub(crate) fn add_production(
     alloc: Global,

@@ -96,7 +96,8 @@ fn errors_of(
 
 /// The tree of a file.
 fn ast_of(alloc: Global, file: &FileText<'_>, names: &[String]) -> Result<GrammarAST, AllocError>
-    requires { map string_bytes names.now ≡ names_of (map word_view file.now.words.words.items) (map item_view file.now.items.items) }
+    requires { map string_bytes names.now
+        ≡ names_of (map word_view file.now.words.words.items) (map item_view file.now.items.items) }
     ensures { IfOk result (λ ast. syntax ast ≡ syntax_of (tree_items (map word_view file.now.words.words.items)
         (map item_view file.now.items.items) (option_map (λ text. text.now) file.now.words.epilogue))) }
 {

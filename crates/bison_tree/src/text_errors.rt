@@ -95,7 +95,8 @@ fn push_unexpected(
     word: usize,
     kind: ErrorKind,
 ) -> Result<(), AllocError>
-    ensures { OnOk result (errors.new.items ≡ errors.old.items ++ unexpected_error (map word_view words.now) word kind) }
+    ensures { OnOk result (errors.new.items
+        ≡ errors.old.items ++ unexpected_error (map word_view words.now) word kind) }
 {
     if !is_fault(lexeme_at(words, word)) {
         errors.push(Error::at(kind, span_at(words, word)))?;

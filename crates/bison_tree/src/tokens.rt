@@ -94,7 +94,8 @@ fn push_of_parts(
 
 /// Adds the words by which an item says that a symbol is a token.
 fn push_of_item(tokens: &mut Vec<usize>, words: &[Word<'_>], item: &Item) -> Result<(), AllocError>
-    ensures { OnOk result (tokens.new.items ≡ tokens.old.items ++ tokens_in (map word_view words.now) (item_view item.now)) }
+    ensures { OnOk result (tokens.new.items
+        ≡ tokens.old.items ++ tokens_in (map word_view words.now) (item_view item.now)) }
 {
     match item {
         Item::Token(symbol) | Item::Precedence(_, symbol) => Ok(tokens.push(*symbol)?),
@@ -128,7 +129,8 @@ pub(crate) fn token_names(
     names: &[String],
     tokens: &[usize],
 ) -> Result<IndexSet<String>, AllocError>
-    ensures { IfOk result (λ set. map string_bytes set.keys ≡ each_once (token_names (map string_bytes names.now) tokens.now)) }
+    ensures { IfOk result (λ set. map string_bytes set.keys
+        ≡ each_once (token_names (map string_bytes names.now) tokens.now)) }
 {
     let mut set = IndexSet::new(alloc);
     for token in tokens {

@@ -185,7 +185,8 @@ impl<'a> Symbols<'a> {
         items: &[Item],
     ) -> Result<(), AllocError>
         ensures { OnOk result (syntax_built builder.new ≡ adds (syntax_built builder.old)
-            (map (named_rule (words_in self.entry) (names_in self.entry)) (filter_map rule_in (map item_view items.now)))) }
+            (map (named_rule (words_in self.entry) (names_in self.entry))
+            (filter_map rule_in (map item_view items.now)))) }
     {
         for item in items {
             if let Item::Rule(symbol) = item {
@@ -218,7 +219,8 @@ impl<'a> Symbols<'a> {
         items: &[Item],
     ) -> Result<(), AllocError>
         ensures { OnOk result (syntax_built builder.new ≡ adds (syntax_built builder.old)
-            (rules_items (words_in self.entry) (names_in self.entry) (is_token_in self.entry) (map item_view items.now))) }
+            (rules_items (words_in self.entry) (names_in self.entry) (is_token_in self.entry)
+            (map item_view items.now))) }
     {
         self.add_start(alloc, builder, items)?;
         self.add_items(alloc, builder, items)?;
@@ -277,7 +279,8 @@ fn add_file(
     file: &FileText<'_>,
     names: &[String],
 ) -> Result<(), AllocError>
-    requires { map string_bytes names.now ≡ names_of (map word_view file.now.words.words.items) (map item_view file.now.items.items) }
+    requires { map string_bytes names.now
+        ≡ names_of (map word_view file.now.words.words.items) (map item_view file.now.items.items) }
     ensures { OnOk result (syntax_built builder.new ≡ adds (syntax_built builder.old)
         (tree_items (map word_view file.now.words.words.items) (map item_view file.now.items.items)
         (option_map (λ text. text.now) file.now.words.epilogue))) }
@@ -303,7 +306,8 @@ pub(crate) fn syntax_of(
     file: &FileText<'_>,
     names: &[String],
 ) -> Result<Syntax, AllocError>
-    requires { map string_bytes names.now ≡ names_of (map word_view file.now.words.words.items) (map item_view file.now.items.items) }
+    requires { map string_bytes names.now
+        ≡ names_of (map word_view file.now.words.words.items) (map item_view file.now.items.items) }
     ensures { IfOk result (λ made. syntax_view made ≡ syntax_of (tree_items (map word_view file.now.words.words.items)
         (map item_view file.now.items.items) (option_map (λ text. text.now) file.now.words.epilogue))) }
 {
