@@ -1,7 +1,7 @@
 """The output of the program `cfglint`, and its status: "The program cfglint"."""
 import re
 
-from .as_json import line_of
+from . import as_annotation, as_json, as_sarif
 from .faults import Fault, HeaderFault
 from .findings import findings_of
 from .grammar import Grammar
@@ -21,7 +21,9 @@ usage: cfglint [OPTION..] [--] FILE..
                      names none is read as the default kind.
   --default-kind KIND
                      The default kind, any but section: original-noaction if this option isn't given.
-  --format FORMAT    text, the default, or json: a line with a JSON object for each error and warning, and no summary.
+  --format FORMAT    text, the default; json: a line with a JSON object for each error and warning; github: a line
+                     with a workflow command for each, which GitHub shows at its place; or sarif: a log in SARIF 2.1.0.
+                     Only text has a summary.
   --columns UNIT     What a column of text counts from 1: bytes, characters, the default, or display: columns of a
                      terminal, of which wide characters take two, and tabs those up to the next multiple of 8.
   --allow FINDING    Findings of this kind aren't reported.
@@ -67,6 +69,17 @@ KINDS = ('original-noaction', 'original-useraction', 'original-genericparsetree'
 FINDINGS = ('unused-rule', 'unused-token', 'shadowed-rule', 'start-without-sentence', 'no-sentence', 'unusable-rule',
             'unusable-production', 'useless-symbol', 'cyclic-rule', 'repeated-production', 'unused-precedence',
             'repeated-token', 'overridden-precedence', 'glued-keyword', 'needless-expect-unused', 'escaped-token', 'implicit-empty')
+RULES = (*FINDINGS,
+         'illegal-integer', 'illegal-name', 'illegal-string', 'incomplete-rule', 'incomplete-comment',
+         'incomplete-action', 'missing-colon', 'missing-right-arrow', 'mismatched-brace', 'non-empty-production',
+         'premature-end', 'production-not-terminated', 'programs-not-supported', 'unknown-declaration',
+         'prec-without-token', 'duplicate-precedence', 'duplicate-avoid-insert', 'duplicate-implicit-tokens',
+         'duplicate-expect', 'duplicate-expect-rr', 'duplicate-start', 'duplicate-actiontype', 'duplicate-epp',
+         'reached-eol', 'invalid-string', 'no-start-rule', 'unknown-symbol', 'invalid-start-rule', 'unknown-rule',
+         'unknown-token', 'no-precedence', 'unknown-epp', 'expected-input', 'invalid-yacc-kind', 'storage-too-small',
+         'missing-section', 'section-illegal-name', 'section-expected-token', 'section-unexpected-token',
+         'section-duplicate-entry', 'section-invalid-entry', 'section-conversion', 'unreadable-file',
+         'invalid-encoding')
 ALLOWED = ('unusable-rule', 'unusable-production', 'useless-symbol', 'escaped-token', 'implicit-empty')
 LEVELS = {'--allow': None, '--warn': 'warning', '--deny': 'error'}
 VALIDATION = ('NoStartRule', 'InvalidStartRule', 'UnknownRuleRef', 'UnknownToken', 'NoPrecForToken', 'UnknownEPP')
@@ -77,7 +90,8 @@ SUGGESTIONS = 20                                   # how many of the errors of a
 NO_TOKEN = 'if it is a token, declare it by %token'
 STILL_NO_TOKEN = '%left, %right and %nonassoc declare no token: declare it by %token too'
 NO_PRECEDENCE = 'no %left, %right or %nonassoc names it'
-FORMATS = ('text', 'json')
+WRITERS = {'json': as_json.line_of, 'github': as_annotation.line_of, 'sarif': as_sarif.line_of}
+FORMATS = ('text', *WRITERS)
 UNITS = ('bytes', 'characters', 'display')
 GREATEST = 4294967295
 NO_MEMORY = object()                               # in place of the bytes of a file
@@ -189,8 +203,8 @@ class Tally:
 
     def add_error(self, options, name, t, error, words):
         self.errors += 1
-        if options.format == 'json':
-            self.add_lines([line_of(name, t, 'error', error_word(error), error.display(), error.spans, words)])
+        if options.format in WRITERS:
+            self.add_written(options, name, t, 'error', error_word(error), error.display(), error.spans, words)
         else:
             message = ': '.join(['error', error.display(), *([] if words is None else [words])])
             self.add_lines(rendered(name, t, '%s [%s]' % (message, error_word(error)), error.spans, error.spans_kind(), options.columns))
@@ -199,19 +213,29 @@ class Tally:
     def add_unread(self, options, name, before, word, says):
         """Adds a file whose reading stopped after this text."""
         self.faults += '%s:%d:%d: error: %s [%s]\n' % (visible(name), *placed(before, len(before), options.columns), says, word)
-        if options.format == 'json':
-            self.add_lines([line_of(name, before, 'error', word, says, [(len(before), len(before))])])
+        if options.format in WRITERS:
+            self.add_written(options, name, before, 'error', word, says, [(len(before), len(before))])
 
     def add_finding(self, options, name, t, finding):
         word = re.sub('(?<=.)[A-Z]', lambda capital: '-' + capital.group(), finding.kind).lower()
         level = options.levels[word]
         self.errors += level == 'error'
         self.warnings += level == 'warning'
-        if level and options.format == 'json':
-            self.add_lines([line_of(name, t, level, word, finding.text, finding.spans)])
+        if level and options.format in WRITERS:
+            self.add_written(options, name, t, level, word, finding.text, finding.spans)
         elif level:
             text = '%s: %s [%s]' % (level, finding.text, word)
             self.add_lines(rendered(name, t, text, finding.spans, finding.spans_kind(), options.columns))
+
+    def add_written(self, options, *parts):
+        """Adds a line that programs read."""
+        self.add_lines([WRITERS[options.format](*parts)])
+
+    def output(self, options):
+        """All that is written."""
+        if options.format == 'sarif':
+            return as_sarif.log(VERSION.split()[1], RULES, self.lines.split('\n')[:-1])
+        return self.lines + ('' if options.is_quiet or options.format in WRITERS else self.summary())
 
     def add_lines(self, lines):
         self.lines += ''.join(line + '\n' for line in lines)
@@ -315,8 +339,7 @@ def result(arguments, fetch, is_printed):
             tally.add_unread(options, name, before, 'invalid-encoding', 'Not UTF-8: found the byte 0x%02X' % t[len(before)])
         else:
             tally.add_text(options, name, t, is_printed)
-    summary = '' if options.is_quiet or options.format == 'json' else tally.summary()
-    return tally.lines + summary, tally.faults, tally.status(options.denies)
+    return tally.output(options), tally.faults, tally.status(options.denies)
 
 
 def valid_length(t):

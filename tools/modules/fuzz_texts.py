@@ -42,8 +42,9 @@ class Texts:
         """The type of a row, its kind, and its text. Some texts are for cfglint, with its arguments in place of the kind."""
         ty, kind, text = self.made()
         if ty == 'row' and self.random.random() < 0.25:
-            options = (f'--kind {kind} ', ''), ('--format=json ', ''), ('', '--warn=useless-symbol --warn=unusable-production ',
-                                                                       '--warn unusable-rule --deny no-sentence ', '--warn all ')
+            formats = '--format=json ', '--format=github ', '--format=sarif ', ''
+            levels = ('', '--warn=useless-symbol --warn=unusable-production ', '--warn unusable-rule --deny no-sentence ', '--warn all ')
+            options = (f'--kind {kind} ', ''), formats, levels
             return 'lint', ''.join(map(self.random.choice, options)) + '-', text
         return ty, kind, text
 

@@ -16,10 +16,10 @@ use Rattle.serde_json.specs.Written.{number_text, comma_if, compact_text, has_fl
 use Rattle.cfgjson.specs.Objects.{AddsJsonLine, AreJsonLines, IsJsonLine, more}
 
 -- no byte of it is an LF
-record OneLine (text : List ℕ) : Type 0 where
+pub record OneLine (text : List ℕ) : Type 0 where
   pub none : Contains text 10 → ⊥
 
-fixed : (text : List ℕ) → list_any (nat_eq 10) text ≡ false → OneLine text
+pub fixed : (text : List ℕ) → list_any (nat_eq 10) text ≡ false → OneLine text
 fixed text without = record { none = λ h. let among = list_any-from_Contains nat_eq_equiv 10 text h in absurd (cc) }
 
 first : (byte : ℕ) (text : List ℕ) → (byte ≡ 10 → ⊥) → OneLine text → OneLine (byte ∷ text)
@@ -29,10 +29,10 @@ first byte text other rest = record { none = go }
     go (zero, within, is) = other is
     go (suc k, within, is) = rest.none (k, omega arith, is)
 
-both : (one two : List ℕ) → OneLine one → OneLine two → OneLine (one ++ two)
+pub both : (one two : List ℕ) → OneLine one → OneLine two → OneLine (one ++ two)
 both one two a b = record { none = λ h. ⊎_elim a.none b.none (Contains-append_cases one two 10 h) }
 
-either : (b : Bool) (one two : List ℕ) → OneLine one → (b ≡ false → OneLine two) → OneLine (cond b one two)
+pub either : (b : Bool) (one two : List ℕ) → OneLine one → (b ≡ false → OneLine two) → OneLine (cond b one two)
 either true one two a b = a
 either false one two a b = b refl
 
@@ -45,7 +45,7 @@ onto (suc k) n text h =
     let more = first (digit_glyph false (n % 10)) text (glyph (n % 10)) h in
     either (n / 10 == 0) _ _ more (λ _. onto k (n / 10) _ more)
 
-decimal_line : (n : ℕ) → OneLine (decimal n)
+pub decimal_line : (n : ℕ) → OneLine (decimal n)
 unfolding digits
 decimal_line n = onto 64 n [] (fixed [] refl)
 
@@ -100,6 +100,10 @@ mutual
   members_line later no_members = fixed _ refl
   members_line later (member key value members) = both (comma_if later) _ (comma_line later) (both (quoted key) _ (quoted_line key)
       (both (58 ∷ []) _ (fixed _ refl) (both (compact_text value) _ (text_line value) (members_line true members))))
+
+-- no text of a value has an LF
+pub value_line : (value : Data) → OneLine (compact_text value)
+value_line value = text_line value
 
 -- what a value's text is, that it reads back, and that it is one line
 pub are_json_lines : {E : Type 0} (r : Result (String Global) E) (value shown : Data) → value ≡ shown → has_float shown ≡ false → depth shown ≤ 127

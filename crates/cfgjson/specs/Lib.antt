@@ -1,1 +1,3 @@
 pub mod Objects
+pub mod Annotations
+pub mod Sarif

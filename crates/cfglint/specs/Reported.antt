@@ -14,9 +14,11 @@ use Rattle.cfgrammar.specs.Numbered.{Numbered}
 use Rattle.cfgrammar.specs.Syntax.{Syntax}
 use Rattle.cfgprogram.specs.declared.kinds.KindArg.{KindArg}
 use Rattle.cfgdriver.specs.ReadText.{IsFound, IsMadeOfRead, IsReadAs}
+use Rattle.cfgjson.specs.Annotations.{annotations}
 use Rattle.cfgjson.specs.Objects.{AreJsonLines, ShownDiagnostic, diagnostic_object}
+use Rattle.cfgjson.specs.Sarif.{result_lines}
 use Rattle.cfglint_shell.specs.declared.format.Format.{Format}
-use Rattle.cfglint_shell.specs.declared.format.Format.TheVariants.{Text, Json}
+use Rattle.cfglint_shell.specs.declared.format.Format.TheVariants.{Text, Json, Github, Sarif}
 use Rattle.finding_kinds.specs.declared.levels.Level.{Level}
 use Rattle.finding_kinds.specs.declared.levels.Level.TheVariants.{Allow, Warn, Deny}
 use Rattle.finding_kinds.specs.declared.levels.Levels.{Levels}
@@ -91,7 +93,7 @@ abbrev pub finding_lines : ColumnUnit → List ℕ → List ℕ → List Reporte
 finding_lines unit name text all = flat_map (λ (reported : Reported).
     rendered_in unit name text (finding_message reported) reported.finding.spans (spanskind_of reported.finding.kind)) all
 
--- an error and a finding, as JSON shows them
+-- an error and a finding, as programs read them
 abbrev pub shown_error : NotedError → ShownDiagnostic
 shown_error shown = record {
   is_error = true;
@@ -110,10 +112,12 @@ shown_finding reported = record {
   spans = reported.finding.spans;
 }
 
--- one of the two, by the format
-abbrev pub InFormat : Format → Type 0 → Type 0 → Type 0
-InFormat Text AsText AsJson = AsText
-InFormat Json AsText AsJson = AsJson
+-- one of these, by the format
+abbrev pub InFormat : Format → Type 0 → Type 0 → Type 0 → Type 0 → Type 0
+InFormat Text AsText AsJson AsAnnotations AsResults = AsText
+InFormat Json AsText AsJson AsAnnotations AsResults = AsJson
+InFormat Github AsText AsJson AsAnnotations AsResults = AsAnnotations
+InFormat Sarif AsText AsJson AsAnnotations AsResults = AsResults
 
 -- what is reported, in this format and with columns in this unit, for a text in a file with this name
 module _ (format : Format) (unit : ColumnUnit) (name text : List ℕ) where
@@ -121,10 +125,12 @@ module _ (format : Format) (unit : ColumnUnit) (name text : List ℕ) where
   abbrev pub AreErrorLines : List NotedError → List ℕ → Type 0
   AreErrorLines all lines = InFormat format (lines ≡ error_lines unit name text all)
       (AreJsonLines (map (λ error. diagnostic_object name text (shown_error error)) all) lines)
+      (lines ≡ annotations name text (map shown_error all)) (lines ≡ result_lines name text (map shown_error all))
 
   abbrev pub AreFindingLines : List Reported → List ℕ → Type 0
   AreFindingLines all lines = InFormat format (lines ≡ finding_lines unit name text all)
       (AreJsonLines (map (λ finding. diagnostic_object name text (shown_finding finding)) all) lines)
+      (lines ≡ annotations name text (map shown_finding all)) (lines ≡ result_lines name text (map shown_finding all))
 
   -- that it has these errors, and was read as this syntax unless it names no kind: the errors that are shown, each with its note
   abbrev pub ReportsErrors : Option Syntax → List GrammarError → Printed → Type 0

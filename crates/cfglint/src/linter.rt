@@ -11,7 +11,7 @@ use crate::shown::shown_errors;
 use crate::suggestion::Names;
 use cfgdriver::{TextReader, read_text_or};
 use cfgfindings::findings;
-use cfgjson::json_lines;
+use cfgjson::{annotation_lines, json_lines, result_lines};
 use cfglint_shell::{Format, LintOptions, Linter, Report};
 use cfgrammar::ColumnUnit;
 use cfgrammar::yacc::ast::GrammarAST;
@@ -123,6 +123,8 @@ impl FileReporter<'_> {
         match self.format {
             Format::Text => error_lines(alloc, self.columns, self.name, text, errors),
             Format::Json => json_lines(alloc, self.name, text, errors),
+            Format::Github => annotation_lines(alloc, self.name, text, errors),
+            Format::Sarif => result_lines(alloc, self.name, text, errors),
         }
     }
 
@@ -139,6 +141,8 @@ impl FileReporter<'_> {
         match self.format {
             Format::Text => finding_lines(alloc, self.columns, self.name, text, all),
             Format::Json => json_lines(alloc, self.name, text, all),
+            Format::Github => annotation_lines(alloc, self.name, text, all),
+            Format::Sarif => result_lines(alloc, self.name, text, all),
         }
     }
 }

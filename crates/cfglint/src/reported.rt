@@ -9,9 +9,9 @@ ghost use Rattle.cfglint.specs.Suggestions.{most_suggestions};
 use crate::error_words::error_word;
 use crate::suggestion::{Names, suggestion};
 use cfgfindings::Finding;
-use cfgjson::{Diagnostic, JsonLine, push_line};
+use cfgjson::{Diagnosed, Diagnostic};
 use cfgrammar::yacc::YaccGrammarError;
-use cfgrammar::{ColumnUnit, Positions, Source, Span, Spanned, SpansKind, hint_for};
+use cfgrammar::{ColumnUnit, Source, Span, Spanned, SpansKind, hint_for};
 use finding_kinds::{Level, Levels};
 use std::alloc::{AllocError, Global};
 use std::fmt;
@@ -87,27 +87,23 @@ impl Spanned for ReportedError<'_> {
     }
 }
 
-impl JsonLine for ReportedError<'_> {
+impl Diagnosed for ReportedError<'_> {
     ghost use Rattle.cfglint.specs.Reported.{shown_error};
 
     ghost shown = { shown_error };
 
-    fn push_json(
-        &self,
-        alloc: Global,
-        out: &mut String,
-        name: &str,
-        positions: &Positions<'_>,
-    ) -> Result<(), AllocError> {
-        let text = self.error.to_string(alloc)?;
-        let shown = Diagnostic {
+    fn message(&self, alloc: Global) -> Result<String, AllocError> {
+        self.error.to_string(alloc)
+    }
+
+    fn diagnostic<'b>(&'b self, text: &'b str) -> Diagnostic<'b> {
+        Diagnostic {
             is_error: true,
             kind: error_word(self.error.kind()),
-            text: text.as_str(),
+            text,
             hint: self.hint(),
             spans: self.error.spans(),
-        };
-        push_line(alloc, out, name, positions, &shown)
+        }
     }
 }
 
@@ -155,26 +151,23 @@ impl Spanned for ReportedFinding<'_> {
     }
 }
 
-impl JsonLine for ReportedFinding<'_> {
+impl Diagnosed for ReportedFinding<'_> {
     ghost use Rattle.cfglint.specs.Reported.{shown_finding};
 
     ghost shown = { shown_finding };
 
-    fn push_json(
-        &self,
-        alloc: Global,
-        out: &mut String,
-        name: &str,
-        positions: &Positions<'_>,
-    ) -> Result<(), AllocError> {
-        let shown = Diagnostic {
+    fn message(&self, alloc: Global) -> Result<String, AllocError> {
+        String::from_str(alloc, self.finding.text())
+    }
+
+    fn diagnostic<'b>(&'b self, text: &'b str) -> Diagnostic<'b> {
+        Diagnostic {
             is_error: self.is_error,
             kind: self.finding.kind().word(),
-            text: self.finding.text(),
+            text,
             hint: None,
             spans: self.finding.spans(),
-        };
-        push_line(alloc, out, name, positions, &shown)
+        }
     }
 }
 

@@ -4,13 +4,15 @@ use Rattle.std.specs.Str.{bytes_eq}
 use Rattle.cfgrammar.specs.ColumnUnit.{ColumnUnit}
 use Rattle.cfgrammar.specs.ColumnUnit.TheVariants.{Bytes, Characters, Display}
 use Rattle.cfglint_shell.specs.declared.format.Format.{Format}
-use Rattle.cfglint_shell.specs.declared.format.Format.TheVariants.{Text, Json}
+use Rattle.cfglint_shell.specs.declared.format.Format.TheVariants.{Text, Json, Github, Sarif}
 
 -- the format that a word names
 abbrev pub format_named : List ℕ → Option Format
 format_named word =
     if bytes_eq word (codes "text") then Some Text
     else if bytes_eq word (codes "json") then Some Json
+    else if bytes_eq word (codes "github") then Some Github
+    else if bytes_eq word (codes "sarif") then Some Sarif
     else None
 
 -- the unit of columns that a word names
@@ -25,3 +27,5 @@ unit_named word =
 abbrev pub is_text : Format → Bool
 is_text Text = true
 is_text Json = false
+is_text Github = false
+is_text Sarif = false

@@ -4,5 +4,6 @@ pub mod KindCounts
 pub mod ReadFaults
 pub mod Tally
 pub mod Files
+pub mod SarifLog
 pub mod Run
 pub mod Inner

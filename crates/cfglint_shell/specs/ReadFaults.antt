@@ -1,7 +1,9 @@
--- Files that can't be read as text, and what is said of them: on a line as other errors have, and in JSON as an object.
+-- Files that can't be read as text, and what is said of them: on a line as other errors have, and for programs as of other errors.
 use Rattle.std.specs.Prelude.{ℕ, ◌/◌, ◌%◌, true, List, [], ◌∷◌, ◌++◌, None, codes, length, slice_index, take}
 use Rattle.std.specs.Fmt.{decimal, digit_glyph}
+use Rattle.cfgjson.specs.Annotations.{annotation}
 use Rattle.cfgjson.specs.Objects.{ShownDiagnostic, json_line}
+use Rattle.cfgjson.specs.Sarif.{result_line}
 use Rattle.cfgrammar.specs.Visible.{visible}
 use Rattle.cfgrammar.specs.ColumnUnit.{ColumnUnit}
 use Rattle.cfgrammar.specs.Lines.{line_number}
@@ -9,7 +11,7 @@ use Rattle.cfgrammar.specs.Render.{column_in}
 use Rattle.cfgprogram.specs.declared.source.ReadError.{ReadError}
 use Rattle.cfgprogram.specs.declared.source.ReadError.TheVariants.{NotFound, IsADirectory, PermissionDenied, Other}
 use Rattle.cfglint_shell.specs.declared.format.Format.{Format}
-use Rattle.cfglint_shell.specs.declared.format.Format.TheVariants.{Text, Json}
+use Rattle.cfglint_shell.specs.declared.format.Format.TheVariants.{Text, Json, Github, Sarif}
 
 -- the beginning of a file that is text, the word of the reason why no more is, and what is said of that
 pub record ReadFault : Type 0 where
@@ -46,7 +48,7 @@ fault_line unit name fault = visible name ++ (codes ":" ++ (decimal (line_number
     ++ (decimal (column_in unit fault.text (length fault.text)) ++ (codes ": error: " ++ (fault.message
     ++ (codes " [" ++ (fault.kind ++ codes "]\n"))))))))
 
--- the same as JSON, with the end of the text as its place
+-- the same for programs, with the end of the text as its place
 abbrev pub shown_fault : ReadFault → ShownDiagnostic
 shown_fault fault = record {
   is_error = true;
@@ -60,3 +62,5 @@ shown_fault fault = record {
 abbrev pub fault_lines : Format → List ℕ → ReadFault → List ℕ
 fault_lines Text name fault = []
 fault_lines Json name fault = json_line name fault.text (shown_fault fault)
+fault_lines Github name fault = annotation name fault.text (shown_fault fault)
+fault_lines Sarif name fault = result_line name fault.text (shown_fault fault)

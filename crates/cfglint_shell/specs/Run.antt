@@ -10,6 +10,7 @@ use Rattle.cfgprogram.specs.declared.source.Input.{Input}
 use Rattle.cfgprogram.specs.declared.source.ReadError.{ReadError}
 use Rattle.cfglint_shell.specs.declared.linter.LintOptions.{LintOptions}
 use Rattle.cfglint_shell.specs.Files.{AsksFirst, Lints}
+use Rattle.cfglint_shell.specs.SarifLog.{document}
 use Rattle.cfglint_shell.specs.Tally.{Tally, Printed, no_files, status_of, summary}
 use Rattle.cfglint_shell.specs.Requests.{Options, Requested, Help, has_summary, Lint, Version, Wrong, requested, files_requested, help, usage, usage_error_text, version}
 
@@ -59,7 +60,7 @@ ending_faults NoMemory = 0
 -- the result of a run through files
 abbrev pub answer_of : Options → Tally → Answer
 answer_of options tally = record {
-  output = tally.lines ++ (if has_summary options then summary options.lint.kind tally else []);
+  output = document options.lint.format (tally.lines ++ (if has_summary options then summary options.lint.kind tally else []));
   errors = tally.faults;
   status = status_of options.denies tally;
 }

@@ -9,6 +9,7 @@ ghost use Rattle.cfglint_shell.specs.Run.{answer_of, ending_errors, ending_fault
 ghost use Rattle.cfglint_shell.specs.Run.{unwritten_line, unwritten_status};
 
 use crate::arguments::Options;
+use crate::sarif_log::document;
 use crate::summary::summary;
 use crate::tally::Tally;
 use crate::usage::UsageError;
@@ -83,7 +84,7 @@ impl Answer {
         } = tally;
         output.push_str(&last)?;
         Ok(Answer {
-            output,
+            output: document(alloc, options.lint.format, output)?,
             errors,
             status,
         })

@@ -133,6 +133,7 @@ impl<'a> Options<'a> {
         match self.lint.format {
             Format::Text => !self.is_quiet,
             Format::Json => false,
+            Format::Github | Format::Sarif => false,
         }
     }
 

@@ -10,6 +10,10 @@ pub enum Format {
     Text,
     /// As JSON, a line for each error and warning.
     Json,
+    /// As annotations of GitHub, a line for each error and warning.
+    Github,
+    /// As a log of SARIF 2.1.0.
+    Sarif,
 }
 
 impl Format {
@@ -20,6 +24,8 @@ impl Format {
         match word {
             "text" => Some(Format::Text),
             "json" => Some(Format::Json),
+            "github" => Some(Format::Github),
+            "sarif" => Some(Format::Sarif),
             _ => None,
         }
     }

@@ -11,6 +11,7 @@ mod linter;
 mod program;
 mod read_fault;
 mod runtime;
+mod sarif_log;
 mod summary;
 mod tally;
 mod unit;

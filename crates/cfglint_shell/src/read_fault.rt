@@ -2,14 +2,16 @@
 
 ghost use Rattle.std.specs.Prelude.{◌≡◌, ◌++◌, None, true, IfOk, IsUtf8, OnOk, length, string_bytes};
 ghost use Rattle.std.specs.Str.{IsValidUpTo};
+ghost use Rattle.cfgjson.specs.Annotations.{annotation};
 ghost use Rattle.cfgjson.specs.Objects.{json_line};
+ghost use Rattle.cfgjson.specs.Sarif.{result_line};
 ghost use Rattle.cfgrammar.specs.Lines.{line_number};
 ghost use Rattle.cfgrammar.specs.Render.{column_in};
 ghost use Rattle.cfglint_shell.specs.ReadFaults.{fault_line, fault_lines, invalid_encoding, reason_text};
 ghost use Rattle.cfglint_shell.specs.ReadFaults.{shown_fault, unreadable_file};
 
 use crate::format::Format;
-use cfgjson::{Diagnostic, push_line};
+use cfgjson::{Diagnostic, push_annotation, push_line, push_result};
 use cfgprogram::ReadError;
 use cfgrammar::{ColumnUnit, Positions, Span, Visible};
 use std::alloc::{AllocError, Global};
@@ -78,7 +80,7 @@ impl<'a> ReadFault<'a> {
         )
     }
 
-    /// Writes what the format has of it among the lines for texts: in JSON an object.
+    /// Writes what the format has of it among the lines for texts: for programs a line, as for other errors.
     pub(crate) fn push_reported(
         &self,
         alloc: Global,
@@ -92,6 +94,8 @@ impl<'a> ReadFault<'a> {
         match format {
             Format::Text => Ok(()),
             Format::Json => self.push_json(alloc, out, name),
+            Format::Github => self.push_annotation(alloc, out, name),
+            Format::Sarif => self.push_result(alloc, out, name),
         }
     }
 
@@ -105,6 +109,34 @@ impl<'a> ReadFault<'a> {
         let spans = [Span::new(end, end)];
         let shown = error_at(self.kind, &self.message, &spans);
         push_line(alloc, out, name, &positions, &shown)
+    }
+
+    /// Writes the annotation of GitHub that says so of a file of this name, on a line.
+    fn push_annotation(&self, alloc: Global, out: &mut String, name: &str) -> Result<(), AllocError>
+        ensures { OnOk result (string_bytes out.new
+            ≡ string_bytes out.old ++ annotation name.now self.now.text (shown_fault self.now)) }
+    {
+        let positions = Positions::new(alloc, self.text)?;
+        let end = self.text.len();
+        let spans = [Span::new(end, end)];
+        push_annotation(
+            out,
+            name,
+            &positions,
+            &error_at(self.kind, &self.message, &spans),
+        )
+    }
+
+    /// Writes the result of SARIF that says so of a file of this name, on a line.
+    fn push_result(&self, alloc: Global, out: &mut String, name: &str) -> Result<(), AllocError>
+        ensures { OnOk result (string_bytes out.new
+            ≡ string_bytes out.old ++ result_line name.now self.now.text (shown_fault self.now)) }
+    {
+        let positions = Positions::new(alloc, self.text)?;
+        let end = self.text.len();
+        let spans = [Span::new(end, end)];
+        let shown = error_at(self.kind, &self.message, &spans);
+        push_result(alloc, out, name, &positions, &shown)
     }
 }
 

@@ -32,7 +32,9 @@ usage: cfglint [OPTION..] [--] FILE..
                      names none is read as the default kind.
   --default-kind KIND
                      The default kind, any but section: original-noaction if this option isn't given.
-  --format FORMAT    text, the default, or json: a line with a JSON object for each error and warning, and no summary.
+  --format FORMAT    text, the default; json: a line with a JSON object for each error and warning; github: a line
+                     with a workflow command for each, which GitHub shows at its place; or sarif: a log in SARIF 2.1.0.
+                     Only text has a summary.
   --columns UNIT     What a column of text counts from 1: bytes, characters, the default, or display: columns of a
                      terminal, of which wide characters take two, and tabs those up to the next multiple of 8.
   --allow FINDING    Findings of this kind aren't reported.
@@ -285,7 +287,7 @@ const DEFAULT_KINDS: [&str; 5] = [
 ];
 
 /// The values of `--format`.
-const FORMATS: [&str; 2] = ["text", "json"];
+const FORMATS: [&str; 4] = ["text", "json", "github", "sarif"];
 
 /// The values of `--columns`.
 const UNITS: [&str; 3] = ["bytes", "characters", "display"];

@@ -22,8 +22,11 @@ STEPS = (1, 4, 18446744073709551615)
 
 def printed_cycles(written):
     """The texts that the program printed for cyclic rules."""
-    objects = [json.loads(line) for line in re.findall(r'^    \|(\{"file":.*\})$', written, re.MULTILINE)]
-    return {found['text'] for found in objects if found['kind'] == 'cyclic-rule'} | set(re.findall(r"\d: (?:error|warning): (Rule '.*' derives itself: .*) \[cyclic-rule\]", written))
+    objects = [json.loads(line) for line in re.findall(r'^    \|(\{"(?:file|level)":.*\}),?$', written, re.MULTILINE)]
+    texts = {found['text'] for found in objects if found.get('kind') == 'cyclic-rule'}
+    texts |= {found['message']['text'] for found in objects if found.get('ruleId') == 'cyclic-rule'}
+    texts |= {text.replace('%25', '%') for text in re.findall(r',title=cyclic-rule::(.*)$', written, re.MULTILINE)}
+    return texts | set(re.findall(r"\d: (?:error|warning): (Rule '.*' derives itself: .*) \[cyclic-rule\]", written))
 
 
 class Run:

@@ -12,8 +12,8 @@ pub loop-one-preserved : goal.loop-one-preserved
 loop-one-preserved g c =
     let shown = take c.loop-one.one-index c.args.all.now in
     let next : shown ++ c.one-item.result ∷ [] ≡ take (c.loop-one.one-index + 1) c.args.all.now = grind (arith, common_steps) in
-    one_more (λ one. diagnostic_object c.args.name.now c.args.text.now (g.E.JsonLine.shown one)) shown _ c.one-item.result (string_bytes c.loop-one.lines) _ c.loop-one.invariant
-    (rw c.in_ok-positions.ensures at c.in_ok-push_json.ensures) next
+    one_more (λ one. diagnostic_object c.args.name.now c.args.text.now (g.E.Diagnosed.shown one)) shown _ c.one-item.result (string_bytes c.loop-one.lines) _ c.loop-one.invariant
+    (rw (c.in_ok-positions.ensures, c.diagnostic.ensures) at c.in_ok-push_line.ensures) next
 
 pub returns : goal.returns
 returns g c = rw (take_all c.loop-one.one-index c.args.all.now c.loop-one-test.false) at c.loop-one.invariant

@@ -1,0 +1,11 @@
+use Rattle.std.proofs.Common.{rules, ◌<◌, true, sym, ◌∙◌}
+use Rattle.std.proofs.lemmas.Fmt.{hex_byte}
+use Rattle.cfgjson.proofs.Uris.{byte_escaped}
+use Rattle.cfgjson.proofs.uri.push_byte.Goals as goal
+
+pub returns-else-is_kept : goal.returns-else-is_kept
+returns-else-is_kept c =
+    let byte = c.args.byte in
+    let small : byte < 256 = search (rules, c.ranges.byte.fits) in
+    rw (byte_escaped byte (sym c.is_kept.ensures ∙ c.if-is_kept.false))
+    (rw (hex_byte true byte small) at (rw c.laid_out.ensures at (rw c.in_radix.ensures at c.write.ensures.bytes)))
