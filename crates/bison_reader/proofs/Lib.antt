@@ -1,2 +1,5 @@
+pub mod ItemWords
+pub mod KeepsItems
 pub mod Rests
 pub mod Whole
+pub mod WordNames

@@ -4,6 +4,8 @@ pub mod FileGrammar
 pub mod Groups
 pub mod Here
 pub mod Inner
+pub mod ItemWords
 pub mod Items
 pub mod Rules
 pub mod Sorts
+pub mod WordNames

@@ -4,8 +4,11 @@
 /// How operators of one level associate.
 #[derive(Clone, Copy, Debug)]
 pub enum Associativity {
+    /// `%left`: `a + b + c` is `(a + b) + c`.
     Left,
+    /// `%right`: it is `a + (b + c)`.
     Right,
+    /// `%nonassoc`: it is an error.
     Nonassoc,
     /// `%precedence`: only the level counts.
     OnlyPrecedence,
@@ -89,11 +92,18 @@ pub enum Expected {
     Symbol,
     /// A symbol or a tag.
     SymbolOrTag,
+    /// An identifier.
     Identifier,
+    /// A number.
     Number,
+    /// A string.
     String,
+    /// Code in braces.
     Code,
+    /// A tag.
     Tag,
+    /// A colon.
     Colon,
+    /// A semicolon.
     Semicolon,
 }

@@ -14,7 +14,7 @@ mod sorts;
 
 pub use group::Group;
 pub use item::{Associativity, Expected, Item, Part, PartKind, Production};
-pub use laws::file_is_graph;
+pub use laws::{file_is_graph, identifiers_are_names, items_are_well_sorted};
 pub use read::{FileText, read_items, read_text};
 pub use sort::{Declaration, Modifier, Sort};
 pub use sorts::{sort_of, sorts_of};

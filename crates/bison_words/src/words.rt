@@ -61,20 +61,35 @@ pub struct Word<'a> {
 /// What is wrong with a word.
 #[derive(Clone, Copy, Debug, PartialEq, Eq)]
 pub enum WordFaultKind {
+    /// Characters with which no word begins.
     IllegalCharacters,
+    /// A number that a letter follows, or that has no digit.
     IllegalIdentifier,
+    /// A number above 2147483647.
     IllegalInteger,
+    /// An escape that C doesn't have, or that isn't a character.
     IllegalEscape,
+    /// Brackets with something else than one name.
     IllegalName,
+    /// A character literal without a character.
     EmptyLiteral,
+    /// A character literal of more than one character.
     LongLiteral,
+    /// A `%` and the name of no directive.
     UnknownDirective,
+    /// A comment that doesn't end.
     IncompleteComment,
+    /// A character literal that doesn't end.
     IncompleteLiteral,
+    /// A string that doesn't end.
     IncompleteString,
+    /// A tag that doesn't end.
     IncompleteTag,
+    /// A name in brackets that doesn't end.
     IncompleteName,
+    /// Code whose first brace nothing closes.
     IncompleteCode,
+    /// A prologue without its `%}`.
     IncompletePrologue,
 }
 
