@@ -1,4 +1,6 @@
 pub mod Adds
+pub mod NameStarts
 pub mod Once
+pub mod RuleNames
 pub mod Taken
 pub mod Whole

@@ -1,8 +1,6 @@
 -- Users of this crate's calls have to read these files; those in Inner define what private clauses use.
-pub mod Errors
 pub mod Inner
 pub mod Names
 pub mod Productions
-pub mod Reading
 pub mod Tokens
 pub mod Tree

@@ -22,8 +22,8 @@ pub(crate) struct Aliases {
     tokens: IndexSet<String>,
 }
 
-/// The name at an index; an empty one, if there is none.
-pub(crate) fn name_at<'a>(names: &'a [String], word: usize) -> &'a str
+/// The name of a word by its number; an empty one, if there is no such word.
+pub fn name_at<'a>(names: &'a [String], word: usize) -> &'a str
     ensures { result.now ≡ name_at (map string_bytes names.now) word }
 {
     match names.get(word) {
@@ -118,8 +118,12 @@ fn called(alloc: Global, aliases: &Aliases, own: &[String]) -> Result<Vec<String
 }
 
 /// The name of each word.
+///
+/// # Errors
+///
+/// `AllocError` if an allocation fails.
 #[tactic(auto, unfolding(crate::specs::Names::names_of))]
-pub(crate) fn names_of(
+pub fn names_of(
     alloc: Global,
     words: &[Word<'_>],
     items: &[Item],

@@ -2,19 +2,20 @@
 #![tactic(auto)]
 
 mod aliases;
-mod error;
-mod name_errors;
+mod laws;
 mod names;
 mod piece;
 mod pieces;
 mod productions;
-mod reading;
 mod sets;
 mod symbols;
-mod text_errors;
 mod tokens;
 mod tree;
 
-pub use error::{Error, ErrorKind};
+pub use aliases::{name_at, names_of};
+pub use laws::rule_names_are_free;
 pub use piece::Piece;
-pub use reading::{FileTree, read};
+pub use pieces::{is_code, is_followed, is_symbol};
+pub use sets::{add_name, has_name, index_of};
+pub use tokens::{lexeme_at, span_at};
+pub use tree::{first_start, number_in, syntax_of};

@@ -13,13 +13,15 @@ use bison_words::Word;
 use std::alloc::{AllocError, Global};
 use std::fmt::Write;
 
-pub(crate) fn is_code(kind: PartKind) -> bool
+/// Whether a part is code: an action or a predicate.
+pub fn is_code(kind: PartKind) -> bool
     ensures { result ≡ is_code kind }
 {
     matches!(kind, PartKind::Action | PartKind::Predicate)
 }
 
-pub(crate) fn is_symbol(kind: PartKind) -> bool
+/// Whether a part is a symbol.
+pub fn is_symbol(kind: PartKind) -> bool
     ensures { result ≡ is_symbol kind }
 {
     matches!(kind, PartKind::Symbol)
@@ -42,7 +44,7 @@ fn ends_code(kind: PartKind) -> bool
 }
 
 /// Whether code before these parts isn't at the end of its production.
-pub(crate) fn is_followed(rest: &[Part]) -> bool
+pub fn is_followed(rest: &[Part]) -> bool
     ensures { result ≡ is_followed rest.now }
 {
     for part in rest {

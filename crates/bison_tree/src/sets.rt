@@ -10,18 +10,18 @@ use indexmap::IndexSet;
 use std::alloc::{AllocError, Global};
 
 /// Whether a name is in the set.
-pub(crate) fn has_name(names: &IndexSet<String>, name: &str) -> bool
+pub fn has_name(names: &IndexSet<String>, name: &str) -> bool
     ensures { result ≡ has_name name.now (map string_bytes names.now.keys) }
 {
     names.contains(name)
 }
 
 /// Adds a name to the set.
-pub(crate) fn add_name(
-    alloc: Global,
-    names: &mut IndexSet<String>,
-    name: &str,
-) -> Result<(), AllocError>
+///
+/// # Errors
+///
+/// `AllocError` if an allocation fails.
+pub fn add_name(alloc: Global, names: &mut IndexSet<String>, name: &str) -> Result<(), AllocError>
     ensures { OnOk result (map string_bytes names.new.keys ≡ with_one (map string_bytes names.old.keys) name.now) }
 {
     names.insert(String::from_str(alloc, name)?)?;
@@ -29,7 +29,7 @@ pub(crate) fn add_name(
 }
 
 /// The index of a name in the set.
-pub(crate) fn index_of(names: &IndexSet<String>, name: &str) -> Option<usize>
+pub fn index_of(names: &IndexSet<String>, name: &str) -> Option<usize>
     ensures { result ≡ position (bytes_eq name.now) (map string_bytes names.now.keys) }
 {
     names.get_index_of(name)

@@ -17,8 +17,8 @@ use cfgbase::Span;
 use indexmap::IndexSet;
 use std::alloc::{AllocError, Global};
 
-/// The lexeme of a word by its number.
-pub(crate) fn lexeme_at<'a>(words: &[Word<'a>], word: usize) -> Lexeme<'a>
+/// The lexeme of a word by its number; the end of the text, if there is no such word.
+pub fn lexeme_at<'a>(words: &[Word<'a>], word: usize) -> Lexeme<'a>
     ensures { lexeme_view result ≡ lexeme_at (map word_view words.now) word }
 {
     match words.get(word) {
@@ -27,8 +27,8 @@ pub(crate) fn lexeme_at<'a>(words: &[Word<'a>], word: usize) -> Lexeme<'a>
     }
 }
 
-/// The span of a word by its number.
-pub(crate) fn span_at(words: &[Word<'_>], word: usize) -> Span
+/// The span of a word by its number; an empty one at 0, if there is no such word.
+pub fn span_at(words: &[Word<'_>], word: usize) -> Span
     ensures { result ≡ span_at (map word_view words.now) word }
 {
     match words.get(word) {

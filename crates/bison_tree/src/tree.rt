@@ -46,8 +46,8 @@ fn text_in<'a>(lexeme: Lexeme<'a>) -> &'a str
     }
 }
 
-/// The value of a number.
-pub(crate) fn number_in(lexeme: Lexeme<'_>) -> usize
+/// The value of a number; 0 for any other lexeme.
+pub fn number_in(lexeme: Lexeme<'_>) -> usize
     ensures { result ≡ number_in (lexeme_view lexeme.entry) }
 {
     match lexeme {
@@ -230,7 +230,7 @@ impl<'a> Symbols<'a> {
 }
 
 /// The word by which the first `%start` names the start.
-pub(crate) fn first_start(items: &[Item]) -> Option<usize>
+pub fn first_start(items: &[Item]) -> Option<usize>
     ensures { result ≡ first_start (map item_view items.now) }
 {
     for item in items {
@@ -301,11 +301,11 @@ fn add_file(
 }
 
 /// What a file says of its grammar, by the names of its words.
-pub(crate) fn syntax_of(
-    alloc: Global,
-    file: &FileText<'_>,
-    names: &[String],
-) -> Result<Syntax, AllocError>
+///
+/// # Errors
+///
+/// `AllocError` if an allocation fails.
+pub fn syntax_of(alloc: Global, file: &FileText<'_>, names: &[String]) -> Result<Syntax, AllocError>
     requires { map string_bytes names.now
         ≡ names_of (map word_view file.now.words.words.items) (map item_view file.now.items.items) }
     ensures { IfOk result (λ made. syntax_view made ≡ syntax_of (tree_items (map word_view file.now.words.words.items)
