@@ -134,6 +134,42 @@ pub use Rattle.cfgyacc.specs.Counting
 pub use Rattle.cfgyacc.specs.GrammarOf
 pub use Rattle.cfgyacc.specs.TokenNames
 pub use Rattle.cfgyacc.specs.GrammarSpans
+-- Yacc and Bison files: their words, what these say, the tree of that, what is wrong with it, and the grammar.
+pub use Rattle.bison_words.specs.Blanks as BisonBlanks
+pub use Rattle.bison_words.specs.Brackets as BisonBrackets
+pub use Rattle.bison_words.specs.Bytes as BisonBytes
+pub use Rattle.bison_words.specs.Code as BisonCode
+pub use Rattle.bison_words.specs.Digits as BisonDigits
+pub use Rattle.bison_words.specs.Directives as BisonDirectives
+pub use Rattle.bison_words.specs.Here as BisonWordHere
+pub use Rattle.bison_words.specs.Names as BisonWordNames
+pub use Rattle.bison_words.specs.Nested as BisonNested
+pub use Rattle.bison_words.specs.NestedHere as BisonNestedHere
+pub use Rattle.bison_words.specs.Quotes as BisonQuotes
+pub use Rattle.bison_words.specs.Runs as BisonRuns
+pub use Rattle.bison_words.specs.TextWords as BisonTextWords
+pub use Rattle.bison_words.specs.WordKinds as BisonWordKinds
+pub use Rattle.bison_words.specs.Words as BisonWords
+pub use Rattle.bison_reader.specs.Declarations as BisonDeclarations
+pub use Rattle.bison_reader.specs.FileGrammar as BisonFileGrammar
+pub use Rattle.bison_reader.specs.Groups as BisonGroups
+pub use Rattle.bison_reader.specs.Here as BisonItemHere
+pub use Rattle.bison_reader.specs.Items as BisonItems
+pub use Rattle.bison_reader.specs.Rules as BisonRules
+pub use Rattle.bison_reader.specs.Sorts as BisonSorts
+pub use Rattle.bison_tree.specs.Names as BisonTreeNames
+pub use Rattle.bison_tree.specs.Productions as BisonProductions
+pub use Rattle.bison_tree.specs.Tokens as BisonTokens
+pub use Rattle.bison_tree.specs.Tree as BisonTree
+pub use Rattle.bison_errors.specs.Errors as BisonErrors
+pub use Rattle.bison_errors.specs.ErrorSpans as BisonErrorSpans
+pub use Rattle.bison_errors.specs.ErrorTexts as BisonErrorTexts
+pub use Rattle.bison_errors.specs.ErrorWords as BisonErrorWords
+pub use Rattle.bison_errors.specs.Reading as BisonReading
+pub use Rattle.bison_grammar.specs.File as BisonParsedFile
+pub use Rattle.bison_grammar.specs.ErrorSpans as BisonErrorPlaces
+pub use Rattle.bison_grammar.specs.Answer as BisonAnswer
+pub use Rattle.bison_grammar.specs.FaultTexts as BisonFaultTexts
 -- Lists.
 pub use Rattle.lemmas.specs.Lists
 -- Types.
@@ -183,3 +219,10 @@ pub use Rattle.cfgsyntax.specs.declared.yacc.ast.source.KindSource
 pub use Rattle.cfgsyntax.specs.declared.yacc.ast.start.ASTModificationError
 pub use Rattle.cfgsyntax.specs.declared.yacc.ast.start.StartFault
 pub use Rattle.cfgyacc.specs.declared.grammar.tables.YaccGrammar
+pub use Rattle.bison_words.specs.declared.words.WordFaultKind as BisonWordFaultKind
+pub use Rattle.bison_reader.specs.declared.item.Associativity
+pub use Rattle.bison_reader.specs.declared.item.Expected as BisonExpected
+pub use Rattle.bison_errors.specs.declared.error.ErrorKind as BisonErrorKind
+pub use Rattle.bison_errors.specs.declared.error.Error as BisonError
+pub use Rattle.bison_grammar.specs.declared.fault.BisonFault
+pub use Rattle.bison_grammar.specs.declared.file.BisonFile

@@ -16,6 +16,7 @@
 //! index, for which it also lists `cfgindex`, and loops over a `&MarkMap`, for which it also lists `cfgmarks`.
 #![tactic(auto)]
 
+pub mod bison;
 pub mod header;
 pub mod laws;
 pub mod yacc;

@@ -1,0 +1,4 @@
+pub mod Answer
+pub mod ErrorSpans
+pub mod FaultTexts
+pub mod File
