@@ -1,5 +1,5 @@
 -- What is made of a text: of the errors for which it is refused, or of its grammar.
-use Rattle.std.specs.Prelude.{◌≡◌, ℕ, ◌⊎◌, List, [], Option, Some, None}
+use Rattle.std.specs.Prelude.{◌≡◌, ℕ, ◌⊎◌, Bool, true, false, List, [], Option, Some, None}
 use Rattle.cfgrammar.specs.Answer.{Found, Unnamed, WasRead, IsRefused, in_numbers}
 use Rattle.cfgrammar.specs.Errors.{GrammarError}
 use Rattle.cfgrammar.specs.Fits.{Fits}
@@ -20,12 +20,10 @@ IsFound Section text found = IsFoundItself text found
 abbrev pub greatest : ℕ
 greatest = 4294967295
 
--- What kind a text is read as, if this kind is requested, or none: as a file of the requested kind; without one, as a file of the kind that
--- it names, and if it names none, as a file of the default kind.
-pub data IsReadAs (default : YaccKind) (text : List ℕ) : Option KindArg → KindArg → Type 0 where
-  requested : {kind : KindArg} → IsReadAs default text (Some kind) kind
-  itself : (NamesNoKind text → ⊥) → IsReadAs default text None Section
-  taken : NamesNoKind text → IsReadAs default text None (Named default)
+-- whether a text names no kind
+abbrev pub IsUnnamed : List ℕ → Bool → Type 0
+IsUnnamed text true = NamesNoKind text
+IsUnnamed text false = NamesNoKind text → ⊥
 
 -- the kind that a text was read as, if it was read: not if its section names none
 abbrev pub kind_read : Found → Option YaccKind
@@ -56,8 +54,3 @@ module _ {Made : Type 0} (OfErrors : Option Syntax → List GrammarError → Mad
   -- what is returned for a text that is found to be this: what is made of it, and the kind that it was read as
   abbrev pub IsMadeOfRead : Found → Made × Option YaccKind → Type 0
   IsMadeOfRead found read = IsMadeOf OfErrors OfGrammar found read.0 × (read.1 ≡ kind_read found)
-
-  -- the same if this kind is requested, or none, and there is a default kind
-  abbrev pub IsMadeOfReadOr : Option KindArg → YaccKind → List ℕ → Made × Option YaccKind → Type 0
-  IsMadeOfReadOr kind_requested default text read =
-      (kind : KindArg) × (found : Found) × IsReadAs default text kind_requested kind × IsFound kind text found × IsMadeOfRead found read

@@ -2,7 +2,7 @@
 //! errors, or of its grammar.
 #![tactic(auto)]
 
-ghost use Rattle.std.specs.Prelude.{◌≡◌, All, IfOk, IfSome, None, option_map};
+ghost use Rattle.std.specs.Prelude.{◌≡◌, All, IfOk, IfSome, option_map};
 ghost use Rattle.std.specs.Fn.{FnOnceReturnsAt, FnOnceTakesAt};
 ghost use Rattle.cfgrammar.specs.Answer.{Found, IsGrammar, WasRead, in_numbers};
 ghost use Rattle.cfgrammar.specs.ErrorSpans.{EachErrorSpan, EachParsedSpan};
@@ -10,10 +10,10 @@ ghost use Rattle.cfgrammar.specs.GrammarOf.{IsFoundAs, IsFoundItself};
 ghost use Rattle.cfgrammar.specs.TextSpans.{IsPiece, IsWithin};
 ghost use Rattle.cfgrammar.specs.Syntax.{EachSpan};
 ghost use Rattle.cfgrammar.specs.TreeView.{syntax};
-ghost use Rattle.cfgdriver.specs.ReadText.{IsFound, IsMadeOf, IsMadeOfGrammar, IsMadeOfRead};
-ghost use Rattle.cfgdriver.specs.ReadText.{IsMadeOfReadOr, greatest};
+ghost use Rattle.cfgdriver.specs.ReadText.{IsFound, IsMadeOf, IsMadeOfGrammar, IsMadeOfRead, IsUnnamed, greatest};
 
 use cfgprogram::KindArg;
+use cfgrammar::header::{HeaderFault, kind_if_named};
 use cfgrammar::yacc::ast::{ASTWithValidityInfo, GrammarAST};
 use cfgrammar::yacc::{YaccFault, YaccGrammar, YaccGrammarError, YaccKind};
 use std::alloc::{AllocError, Global};
@@ -96,35 +96,17 @@ pub fn read_text<R, T: TextReader<R>>(
     ensures { (found : Found) × IsFound kind text.now found
         × IfOk result (IsMadeOf (T.of_errors reader.now text.now) (T.of_grammar reader.now text.now) found) }
 {
-    let (made, _) = read_requested(alloc, kind, text, reader)?;
+    let (made, _) = read_text_and_kind(alloc, kind, text, reader)?;
     Ok(made)
 }
 
-/// Reads a text as [`read_text`] does, except that no kind need be requested: a text that then names none is read as a
-/// file of the default kind. The second part of the result is the kind that the text was read as, unless its section
-/// keeps it from naming one.
+/// Reads a text as [`read_text`] does. The second part of the result is the kind that the text was read as, unless its
+/// section keeps it from naming one.
 ///
 /// # Errors
 ///
 /// Running out of memory.
-pub fn read_text_or<R, T: TextReader<R>>(
-    alloc: Global,
-    kind: Option<KindArg>,
-    default: YaccKind,
-    text: &str,
-    reader: &T,
-) -> Result<(R, Option<YaccKind>), AllocError>
-    ensures { IfOk result (IsMadeOfReadOr (T.of_errors reader.now text.now) (T.of_grammar reader.now text.now)
-        kind default text.now) }
-{
-    match kind {
-        Some(kind) => read_requested(alloc, kind, text, reader),
-        None => read_unrequested(alloc, default, text, reader),
-    }
-}
-
-/// What is made of a text as a file of the requested kind, and the kind that it was read as.
-fn read_requested<R, T: TextReader<R>>(
+pub fn read_text_and_kind<R, T: TextReader<R>>(
     alloc: Global,
     kind: KindArg,
     text: &str,
@@ -139,20 +121,18 @@ fn read_requested<R, T: TextReader<R>>(
     }
 }
 
-/// What is made of a text for which no kind is requested, and the kind that it was read as.
-fn read_unrequested<R, T: TextReader<R>>(
-    alloc: Global,
-    default: YaccKind,
-    text: &str,
-    reader: &T,
-) -> Result<(R, Option<YaccKind>), AllocError>
-    ensures { IfOk result (IsMadeOfReadOr (T.of_errors reader.now text.now) (T.of_grammar reader.now text.now)
-        None default text.now) }
+/// Whether a text names no kind: it has no section, or one without errors that has no key `yacckind`.
+///
+/// # Errors
+///
+/// Running out of memory.
+pub fn names_no_kind(alloc: Global, text: &str) -> Result<bool, AllocError>
+    ensures { IfOk result (IsUnnamed text.now) }
 {
-    match ASTWithValidityInfo::from_str_or(alloc, default, text) {
-        Ok((parsed, _source)) => finish(alloc, text, parsed, reader),
-        Err(YaccFault::Errors(errors)) => Ok((reader.errors(alloc, text, None, &errors)?, None)),
-        Err(YaccFault::OutOfMemory) => Err(AllocError),
+    match kind_if_named(alloc, text) {
+        Ok((None, _)) => Ok(true),
+        Ok((Some(_), _)) | Err(HeaderFault::Errors(_)) => Ok(false),
+        Err(HeaderFault::OutOfMemory) => Err(AllocError),
     }
 }
 
@@ -262,7 +242,7 @@ fn finish_grammar<R, T: TextReader<R>>(
 
 /// What `next` returns for a value that is owned only here, since a function that drops a tree has to prove how. If it
 /// is kept, it isn't dropped.
-fn lend<V: Drop, R, F: FnOnce(&V) -> R>(value: V, is_kept: bool, next: F) -> R
+pub fn lend<V: Drop, R, F: FnOnce(&V) -> R>(value: V, is_kept: bool, next: F) -> R
     requires { FnOnceTakesAt F.FnOnce next value }
     ensures { FnOnceReturnsAt F.FnOnce next value result }
 {

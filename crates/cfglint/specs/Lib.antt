@@ -1,4 +1,12 @@
 pub mod ErrorWords
-pub mod Reported
-pub mod ShownErrors
 pub mod Suggestions
+pub mod ShownErrors
+pub mod Signs
+pub mod BisonNotes
+pub mod ReportedErrors
+pub mod ReportedFindings
+pub mod ReportedLines
+pub mod Readings
+pub mod YaccReports
+pub mod BisonReports
+pub mod Reported

@@ -1,13 +1,22 @@
 //! The program `cfglint` as a library: what is reported of a text, and a run of the program.
 #![tactic(auto)]
 
+mod bison;
+mod bison_notes;
 mod error_words;
+mod file_reporter;
 pub mod linter;
 pub mod program;
+mod reading;
 mod reported;
+mod reported_bison;
+mod reported_error;
 mod shown;
+mod signs;
 mod suggestion;
 pub mod system;
+mod yacc;
+mod yacc_errors;
 
 pub use cfgfindings::{Finding, FindingKind, findings};
 pub use cfglint_shell::laws;

@@ -19,7 +19,7 @@ use std::marker::Model;
 #[derive(Drop)]
 pub(crate) struct Names<'a> {
     /// The names of the rules, and then of the tokens.
-    symbols: Vec<&'a str>,
+    pub(crate) symbols: Vec<&'a str>,
     /// The names of the tokens that have a precedence.
     precedences: Vec<&'a str>,
 }
@@ -166,7 +166,15 @@ fn precedence_note(alloc: Global, names: &Names<'_>, name: &str) -> Result<Strin
 }
 
 /// The question whether the nearest of these names is meant, if one is near.
-fn question_of(alloc: Global, names: &[&str], name: &str) -> Result<Option<String>, AllocError>
+///
+/// # Errors
+///
+/// Running out of memory.
+pub(crate) fn question_of(
+    alloc: Global,
+    names: &[&str],
+    name: &str,
+) -> Result<Option<String>, AllocError>
     ensures { IfOk result (λ question. option_map (λ words. string_bytes words) question
         ≡ question_of (map (λ name. name.now) names.now) name.now) }
 {

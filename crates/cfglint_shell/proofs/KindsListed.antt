@@ -2,7 +2,7 @@
 use Rattle.std.proofs.Common.{◌≡◌, ℕ, ◌+◌, ◌==◌, ◌<◌, ◌≤◌, Bool, true, false, if◌then◌else◌, List, ◌∷◌, ◌++◌, length, drop, get_or, refl, sym, ap, subst, ◌∙◌, append-nil, append_assoc}
 use Rattle.std.proofs.lemmas.Bool.{eqb-true}
 use Rattle.std.proofs.lemmas.List.{at_drop_all, at_drop_more}
-use Rattle.cfgprogram.specs.YaccKind.{YaccKind}
+use Rattle.cfglint_shell.specs.declared.file_kind.FileKind.{FileKind}
 use Rattle.cfglint_shell.specs.declared.kind_counts.KindCounts.{KindCounts}
 use Rattle.cfglint_shell.specs.KindCounts.{count_of}
 use Rattle.cfglint_shell.specs.Tally.{listed, read_as, separator}
@@ -18,9 +18,9 @@ if_some n none some other = go (n == 0) refl
     go false is = refl
 
 -- after this text come the kinds from this index on
-module _ (counts : KindCounts) (kinds : List YaccKind) (i : ℕ) (is_first : Bool) (text whole : List ℕ)
+module _ (counts : KindCounts) (kinds : List FileKind) (i : ℕ) (is_first : Bool) (text whole : List ℕ)
     (rest : text ++ listed is_first counts (drop i kinds) ≡ whole) where
-  module _ (d : YaccKind) (within : i < length kinds) where
+  module _ (d : FileKind) (within : i < length kinds) where
     at_kind : text ++ listed is_first counts (get_or kinds i d ∷ drop (i + 1) kinds) ≡ whole
     at_kind = sym (at_drop_more (λ kinds. text ++ listed is_first counts kinds) kinds i d within) ∙ rest
 

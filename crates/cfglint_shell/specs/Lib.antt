@@ -1,4 +1,5 @@
 pub mod Formats
+pub mod FileKinds
 pub mod Requests
 pub mod KindCounts
 pub mod ReadFaults

@@ -6,12 +6,6 @@ use Rattle.std.specs.Str.{bytes_eq}
 use Rattle.cfgrammar.specs.ColumnUnit.TheVariants.{Characters}
 use Rattle.cfgrammar.specs.Visible.{visible}
 use Rattle.cfgnear.specs.Nearest.{nearest}
-use Rattle.cfgprogram.specs.Kinds.{kind_named}
-use Rattle.cfgprogram.specs.YaccKind.{YaccKind}
-use Rattle.cfgprogram.specs.YaccKind.TheVariants.{Original}
-use Rattle.cfgprogram.specs.YaccOriginalActionKind.TheVariants.{NoAction}
-use Rattle.cfgprogram.specs.declared.kinds.KindArg.{KindArg}
-use Rattle.cfgprogram.specs.declared.kinds.KindArg.TheVariants.{Named}
 use Rattle.cfglint_shell.specs.declared.arguments.Expected.{Expected}
 use Rattle.cfglint_shell.specs.declared.arguments.Expected.TheVariants.{Argument, Value, File}
 use Rattle.finding_kinds.specs.declared.levels.Level.{Level}
@@ -20,6 +14,7 @@ use Rattle.cfglint_shell.specs.declared.linter.LintOptions.{LintOptions}
 use Rattle.cfglint_shell.specs.declared.usage.ValueOption.{ValueOption}
 use Rattle.cfglint_shell.specs.declared.usage.ValueOption.TheVariants.{Kind, DefaultKind, Format, Columns, Allow, Warn, Deny, StdinName}
 use Rattle.cfglint_shell.specs.declared.format.Format.TheVariants.{Text}
+use Rattle.cfglint_shell.specs.FileKinds.{kind_requested, named_kind}
 use Rattle.cfglint_shell.specs.Formats.{format_named, is_text, unit_named}
 use Rattle.finding_kinds.specs.FindingKinds.{all_levels, default_levels, finding_named, kinds, with_level, word_of}
 
@@ -35,7 +30,7 @@ pub record Options : Type 0 where
 -- before the first argument
 abbrev pub no_options : Options
 no_options = record {
-  lint = record { kind = None; default_kind = Original NoAction; levels = default_levels; format = Text; columns = Characters };
+  lint = record { kind = None; default_kind = None; levels = default_levels; format = Text; columns = Characters };
   stdin_name = codes "-";
   denies = false;
   is_quiet = false;
@@ -101,11 +96,6 @@ option_name StdinName = codes "--stdin-name"
 abbrev pub option_part : List ℕ → List ℕ
 option_part argument = before_first (λ byte. byte == 61) argument
 
--- the kind of a file that names none itself: `section` can't be it
-abbrev pub own_kind : Option KindArg → Option YaccKind
-own_kind (Some (Named kind)) = Some kind
-own_kind _ = None
-
 module _ (options : Options) where
   -- findings of the kind that this value names get the level, or all findings
   abbrev pub with_finding : Level → List ℕ → Step
@@ -119,10 +109,10 @@ module _ (options : Options) where
   abbrev pub with_value : ValueOption → List ℕ → Step
   with_value Kind value = option_map_or
       (λ kind. Goes Argument (record options { lint = record options.lint { kind = Some kind } }))
-      (kind_named value) (Stops (Wrong (UnknownKind value)))
+      (kind_requested value) (Stops (Wrong (UnknownKind value)))
   with_value DefaultKind value = option_map_or
-      (λ kind. Goes Argument (record options { lint = record options.lint { default_kind = kind } }))
-      (own_kind (kind_named value)) (Stops (Wrong (UnknownDefaultKind value)))
+      (λ kind. Goes Argument (record options { lint = record options.lint { default_kind = Some kind } }))
+      (named_kind (kind_requested value)) (Stops (Wrong (UnknownDefaultKind value)))
   with_value Format value = option_map_or
       (λ format. Goes Argument (record options { lint = record options.lint { format = format } }))
       (format_named value) (Stops (Wrong (UnknownFormat value)))
@@ -214,7 +204,7 @@ option_names = codes "--kind" ∷ codes "--default-kind" ∷ codes "--format" �
 
 abbrev pub default_kind_names : List (List ℕ)
 default_kind_names = codes "original-noaction" ∷ codes "original-useraction" ∷ codes "original-genericparsetree" ∷ codes "grmtools"
-    ∷ codes "eco" ∷ []
+    ∷ codes "eco" ∷ codes "bison" ∷ codes "yacc" ∷ []
 
 abbrev pub kind_names : List (List ℕ)
 kind_names = default_kind_names ++ codes "section" ∷ []
@@ -259,4 +249,4 @@ abbrev pub version : List ℕ
 version = codes "cfglint 0.15.0\n"
 
 abbrev pub help : List ℕ
-help = codes "cfglint reports errors in Yacc grammar files, and warnings about their grammars.\n\nusage: cfglint [OPTION..] [--] FILE..\n\n  --kind KIND        original-noaction, original-useraction, original-genericparsetree, grmtools, eco or section\n                     (the kind that the file's section names). Without it the section names the kind; a file that\n                     names none is read as the default kind.\n  --default-kind KIND\n                     The default kind, any but section: original-noaction if this option isn't given.\n  --format FORMAT    text, the default; json: a line with a JSON object for each error and warning; github: a line\n                     with a workflow command for each, which GitHub shows at its place; or sarif: a log in SARIF 2.1.0.\n                     Only text has a summary.\n  --columns UNIT     What a column of text counts from 1: bytes, characters, the default, or display: columns of a\n                     terminal, of which wide characters take two, and tabs those up to the next multiple of 8.\n  --allow FINDING    Findings of this kind aren't reported.\n  --warn FINDING     Findings of this kind are warnings.\n  --deny FINDING     Findings of this kind are errors.\n  --deny-warnings    Warnings end with status 1 too.\n  --quiet            Writes no summary.\n  --stdin-name NAME  Standard input is reported under this name.\n  -h, --help         Writes this.\n  --version          Writes the version.\n  --                 What follows are files.\n  FILE               A path, or - for standard input, which can be given once.\n\nFINDING is all, for each kind, or one of these. Without these options those that say so are errors or aren't reported,\nand the others are warnings. If a finding is given to several of these options, the last one wins.\n\n  unused-rule             a rule that can't be reached from the start rule\n  unused-token            a token that can't be reached from it, and that no %prec names\n  shadowed-rule           a rule that is never used, since its name is that of a token\n  start-without-sentence  a start rule from which no sentence can be derived: an error\n  no-sentence             another rule from which no sentence can be derived\n  unusable-rule           a rule without a sentence since others have none: not reported\n  unusable-production     a production with a rule that has no sentence: not reported\n  useless-symbol          a rule or token that only unusable productions reach: not reported\n  cyclic-rule             a rule that derives itself\n  repeated-production     a production with the symbols of an earlier one of its rule\n  unused-precedence       a precedence of a token that no production needs\n  repeated-token          a token that a %token list has a second time\n  overridden-precedence   a %prec that a later one of its production overrides\n  glued-keyword           a name that directly follows a keyword, as in %tokens X\n  needless-expect-unused  a symbol of an %expect-unused that is used\n  escaped-token           a token whose name begins with a backslash: not reported\n  implicit-empty          an empty production without %empty: not reported\n\n--kind=KIND is --kind KIND, and so on.\n\nstatus: 0 without errors or denied warnings; 1 with either; 2 if the arguments are wrong, a file can't be read or\nthe output can't be written; 3 if there is no memory left\n"
+help = codes "cfglint reports errors in Yacc grammar files, and warnings about their grammars.\n\nusage: cfglint [OPTION..] [--] FILE..\n\n  --kind KIND        bison or yacc, the same: as Bison reads files; original-noaction, original-useraction,\n                     original-genericparsetree, grmtools, eco; or section (the kind that the file's section names).\n                     Without it the section names the kind; a file that names none is read as the default kind.\n  --default-kind KIND\n                     The default kind, any but section. Without it a file that names no kind is read as\n                     original-noaction; if it then has errors, and something that only Bison's files have, such as %{\n                     or %union, it is read as bison.\n  --format FORMAT    text, the default; json: a line with a JSON object for each error and warning; github: a line\n                     with a workflow command for each, which GitHub shows at its place; or sarif: a log in SARIF 2.1.0.\n                     Only text has a summary.\n  --columns UNIT     What a column of text counts from 1: bytes, characters, the default, or display: columns of a\n                     terminal, of which wide characters take two, and tabs those up to the next multiple of 8.\n  --allow FINDING    Findings of this kind aren't reported.\n  --warn FINDING     Findings of this kind are warnings.\n  --deny FINDING     Findings of this kind are errors.\n  --deny-warnings    Warnings end with status 1 too.\n  --quiet            Writes no summary.\n  --stdin-name NAME  Standard input is reported under this name.\n  -h, --help         Writes this.\n  --version          Writes the version.\n  --                 What follows are files.\n  FILE               A path, or - for standard input, which can be given once.\n\nFINDING is all, for each kind, or one of these. Without these options those that say so are errors or aren't reported,\nand the others are warnings. If a finding is given to several of these options, the last one wins.\n\n  unused-rule             a rule that can't be reached from the start rule\n  unused-token            a token that can't be reached from it, and that no %prec names\n  shadowed-rule           a rule that is never used, since its name is that of a token\n  start-without-sentence  a start rule from which no sentence can be derived: an error\n  no-sentence             another rule from which no sentence can be derived\n  unusable-rule           a rule without a sentence since others have none: not reported\n  unusable-production     a production with a rule that has no sentence: not reported\n  useless-symbol          a rule or token that only unusable productions reach: not reported\n  cyclic-rule             a rule that derives itself\n  repeated-production     a production with the symbols of an earlier one of its rule\n  unused-precedence       a precedence of a token that no production needs\n  repeated-token          a token that a %token list has a second time\n  overridden-precedence   a %prec that a later one of its production overrides\n  glued-keyword           a name that directly follows a keyword, as in %tokens X\n  needless-expect-unused  a symbol of an %expect-unused that is used\n  escaped-token           a token whose name begins with a backslash: not reported\n  implicit-empty          an empty production without %empty: not reported\n\n--kind=KIND is --kind KIND, and so on.\n\nstatus: 0 without errors or denied warnings; 1 with either; 2 if the arguments are wrong, a file can't be read or\nthe output can't be written; 3 if there is no memory left\n"

@@ -2,21 +2,21 @@
 use Rattle.std.specs.Prelude.{ℕ, ◌+◌, ◌==◌, ◌||◌, nat_lt, Bool, true, false, ◌&&◌, List, [], ◌∷◌, ◌++◌, codes, if◌then◌else◌, Option, Some, None}
 use Rattle.std.specs.Fmt.{decimal}
 use Rattle.std.specs.Str.Lossy.{utf8_valid_len}
-use Rattle.cfgprogram.specs.Kinds.{kind_name}
-use Rattle.cfgprogram.specs.YaccKind.{YaccKind}
-use Rattle.cfgprogram.specs.declared.kinds.KindArg.{KindArg}
-use Rattle.cfgprogram.specs.declared.kinds.KindArg.TheVariants.{Named, Section}
 use Rattle.cfgprogram.specs.declared.source.ReadError.{ReadError}
+use Rattle.cfglint_shell.specs.declared.file_kind.FileKind.{FileKind}
+use Rattle.cfglint_shell.specs.declared.file_kind.KindRequest.{KindRequest}
+use Rattle.cfglint_shell.specs.declared.file_kind.KindRequest.TheVariants.{Named, Section}
 use Rattle.cfglint_shell.specs.declared.kind_counts.KindCounts.{KindCounts}
 use Rattle.cfglint_shell.specs.declared.linter.LintOptions.{LintOptions}
+use Rattle.cfglint_shell.specs.FileKinds.{file_kind_name}
 use Rattle.cfglint_shell.specs.KindCounts.{count_of, kinds, no_kinds, with_kind}
 use Rattle.cfglint_shell.specs.ReadFaults.{ReadFault, fault_line, fault_lines, invalid_encoding, unreadable_file}
 
--- What is reported about a text: lines as people read them, the kind that the text was read as, if it was read, and how many errors and
--- warnings are reported.
+-- What is reported about a text: lines as people read them, what the text was read as, if it was read, and how many errors and warnings
+-- are reported.
 pub record Printed : Type 0 where
   pub lines : List ℕ
-  pub kind : Option YaccKind
+  pub kind : Option FileKind
   pub errors : ℕ
   pub warnings : ℕ
 
@@ -65,27 +65,27 @@ abbrev pub counted : ℕ → List ℕ → List ℕ
 counted n argument = decimal n ++ (codes " " ++ (argument ++ (if n == 1 then [] else codes "s")))
 
 -- `2 files read as eco`
-abbrev pub read_as : ℕ → YaccKind → List ℕ
-read_as n kind = counted n (codes "file") ++ (codes " read as " ++ kind_name kind)
+abbrev pub read_as : ℕ → FileKind → List ℕ
+read_as n kind = counted n (codes "file") ++ (codes " read as " ++ file_kind_name kind)
 
 -- the same for each of these kinds as which files were read: the first of all after a semicolon, the others after commas
 abbrev pub separator : Bool → List ℕ
 separator is_first = if is_first then codes "; " else codes ", "
 
-unfoldable pub listed : Bool → KindCounts → List YaccKind → List ℕ
+unfoldable pub listed : Bool → KindCounts → List FileKind → List ℕ
 listed is_first counts [] = []
 listed is_first counts (kind ∷ more) =
     if count_of counts kind == 0 then listed is_first counts more
     else separator is_first ++ (read_as (count_of counts kind) kind ++ listed false counts more)
 
 -- as which kinds the files were read, unless this kind is requested by its name
-abbrev pub kinds_text : Option KindArg → KindCounts → List ℕ
+abbrev pub kinds_text : Option KindRequest → KindCounts → List ℕ
 kinds_text (Some (Named kind)) counts = []
 kinds_text (Some Section) counts = listed true counts kinds
 kinds_text None counts = listed true counts kinds
 
 -- the last line, where this kind is requested
-abbrev pub summary : Option KindArg → Tally → List ℕ
+abbrev pub summary : Option KindRequest → Tally → List ℕ
 summary requested t = counted t.texts (codes "file") ++ (codes ": " ++ (counted t.errors (codes "error") ++ (codes ", "
     ++ (counted t.warnings (codes "warning") ++ (kinds_text requested t.kinds_read ++ codes "\n")))))
 

@@ -11,12 +11,11 @@ ghost use Rattle.cfglint_shell.specs.Requests.{requested_files};
 ghost use Rattle.cfglint_shell.specs.Requests.{with_argument, with_expected, with_finding, with_option, with_value};
 ghost use Rattle.cfglint_shell.specs.Requests as requests;
 
+use crate::file_kind::KindRequest;
 use crate::format::Format;
 use crate::linter::LintOptions;
 use crate::unit::unit_of_word;
 use crate::usage::{UsageError, ValueOption};
-use cfgprogram::KindArg;
-use cfgprogram::kinds::{YaccKind, YaccOriginalActionKind, kind_of};
 use cfgrammar::ColumnUnit;
 use finding_kinds::{FindingKind, Level, Levels};
 use std::alloc::{AllocError, Global};
@@ -107,7 +106,7 @@ impl<'a> Options<'a> {
         Options {
             lint: LintOptions {
                 kind: None,
-                default_kind: YaccKind::Original(YaccOriginalActionKind::NoAction),
+                default_kind: None,
                 levels: Levels::new(),
                 format: Format::Text,
                 columns: ColumnUnit::Characters,
@@ -234,7 +233,7 @@ impl<'a> Options<'a> {
         ensures { step_view (options_view self.new) result
             ≡ with_value (options_view self.old) value_option.Kind value.now }
     {
-        let Some(kind) = kind_of(value) else {
+        let Some(kind) = KindRequest::of_word(value) else {
             return Step::Stops(Stop::Wrong(UsageError::UnknownKind(value)));
         };
         self.lint.kind = Some(kind);
@@ -246,10 +245,10 @@ impl<'a> Options<'a> {
         ensures { step_view (options_view self.new) result
             ≡ with_value (options_view self.old) value_option.DefaultKind value.now }
     {
-        let Some(KindArg::Named(kind)) = kind_of(value) else {
+        let Some(KindRequest::Named(kind)) = KindRequest::of_word(value) else {
             return Step::Stops(Stop::Wrong(UsageError::UnknownDefaultKind(value)));
         };
-        self.lint.default_kind = kind;
+        self.lint.default_kind = Some(kind);
         Step::Goes(Expected::Argument)
     }
 

@@ -3,6 +3,7 @@
 ghost use Rattle.std.specs.Prelude.{◌≡◌, ◌-◌, ◌^◌, ◌<◌};
 ghost use Rattle.cfglint_shell.specs.KindCounts.{all_counted, count_of, no_kinds, with_kind};
 
+use crate::file_kind::FileKind;
 use cfgprogram::kinds::{YaccKind, YaccOriginalActionKind};
 
 /// How many files were read as each kind.
@@ -13,6 +14,7 @@ pub(crate) struct KindCounts {
     original_genericparsetree: u64,
     grmtools: u64,
     eco: u64,
+    bison: u64,
 }
 
 impl KindCounts {
@@ -26,41 +28,48 @@ impl KindCounts {
             original_genericparsetree: 0,
             grmtools: 0,
             eco: 0,
+            bison: 0,
         }
     }
 
     /// How many files were read as this kind.
-    pub(crate) fn of(&self, kind: YaccKind) -> u64
+    pub(crate) fn of(&self, kind: FileKind) -> u64
         ensures { result ≡ count_of self.now kind }
     {
         match kind {
-            YaccKind::Original(YaccOriginalActionKind::NoAction) => self.original_noaction,
-            YaccKind::Original(YaccOriginalActionKind::UserAction) => self.original_useraction,
-            YaccKind::Original(YaccOriginalActionKind::GenericParseTree) => {
+            FileKind::Yacc(YaccKind::Original(YaccOriginalActionKind::NoAction)) => {
+                self.original_noaction
+            }
+            FileKind::Yacc(YaccKind::Original(YaccOriginalActionKind::UserAction)) => {
+                self.original_useraction
+            }
+            FileKind::Yacc(YaccKind::Original(YaccOriginalActionKind::GenericParseTree)) => {
                 self.original_genericparsetree
             }
-            YaccKind::Grmtools => self.grmtools,
-            YaccKind::Eco => self.eco,
+            FileKind::Yacc(YaccKind::Grmtools) => self.grmtools,
+            FileKind::Yacc(YaccKind::Eco) => self.eco,
+            FileKind::Bison => self.bison,
         }
     }
 
     /// Adds a file that was read as this kind, if it was read as one.
-    pub(crate) fn add(&mut self, kind: Option<YaccKind>)
+    pub(crate) fn add(&mut self, kind: Option<FileKind>)
         requires { all_counted self.old < 2 ^ 64 - 1 }
         ensures { self.new ≡ with_kind self.old kind }
     {
         match kind {
-            Some(YaccKind::Original(YaccOriginalActionKind::NoAction)) => {
+            Some(FileKind::Yacc(YaccKind::Original(YaccOriginalActionKind::NoAction))) => {
                 self.original_noaction += 1
             }
-            Some(YaccKind::Original(YaccOriginalActionKind::UserAction)) => {
+            Some(FileKind::Yacc(YaccKind::Original(YaccOriginalActionKind::UserAction))) => {
                 self.original_useraction += 1
             }
-            Some(YaccKind::Original(YaccOriginalActionKind::GenericParseTree)) => {
+            Some(FileKind::Yacc(YaccKind::Original(YaccOriginalActionKind::GenericParseTree))) => {
                 self.original_genericparsetree += 1
             }
-            Some(YaccKind::Grmtools) => self.grmtools += 1,
-            Some(YaccKind::Eco) => self.eco += 1,
+            Some(FileKind::Yacc(YaccKind::Grmtools)) => self.grmtools += 1,
+            Some(FileKind::Yacc(YaccKind::Eco)) => self.eco += 1,
+            Some(FileKind::Bison) => self.bison += 1,
             None => {}
         }
     }

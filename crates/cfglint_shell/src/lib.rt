@@ -3,6 +3,7 @@
 
 mod answer;
 mod arguments;
+mod file_kind;
 mod files;
 mod format;
 mod kind_counts;
@@ -17,6 +18,7 @@ mod tally;
 mod unit;
 mod usage;
 
+pub use file_kind::{FileKind, KindRequest};
 pub use format::Format;
 pub use linter::{LintOptions, Linter, Report};
 pub use program::lint;

@@ -2,9 +2,8 @@
 
 ghost use Rattle.std.specs.Prelude.{IfOk};
 
+use crate::file_kind::{FileKind, KindRequest};
 use crate::format::Format;
-use cfgprogram::KindArg;
-use cfgprogram::kinds::YaccKind;
 use cfgrammar::ColumnUnit;
 use finding_kinds::Levels;
 use std::alloc::{AllocError, Global};
@@ -13,10 +12,10 @@ use std::marker::Model;
 /// How texts are linted.
 #[derive(Clone, Copy, Debug)]
 pub struct LintOptions {
-    /// The kind that they are read as; without one, each is read as the kind that it names itself.
-    pub kind: Option<KindArg>,
-    /// Without one, the kind of a text that names none.
-    pub default_kind: YaccKind,
+    /// What they are read as; without it, each is read as the kind that it names itself.
+    pub kind: Option<KindRequest>,
+    /// Without that, what a text is read as that names no kind. If it isn't given, the linter decides.
+    pub default_kind: Option<FileKind>,
     /// What becomes of findings.
     pub levels: Levels,
     /// How what is reported is written.
@@ -30,8 +29,8 @@ pub struct LintOptions {
 pub struct Report {
     /// Its errors, or the findings about its grammar, in the format that the options name.
     pub lines: String,
-    /// The kind that the text was read as, if it was read.
-    pub kind: Option<YaccKind>,
+    /// What the text was read as, if it was read.
+    pub kind: Option<FileKind>,
     /// How many errors are reported.
     pub errors: usize,
     /// How many warnings are reported.

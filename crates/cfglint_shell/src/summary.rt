@@ -4,19 +4,20 @@ ghost use Rattle.std.specs.Prelude.{◌≡◌, ◌++◌, IfOk, OnOk, string_byte
 ghost use Rattle.cfglint_shell.specs.KindCounts.{kinds};
 ghost use Rattle.cfglint_shell.specs.Tally.{counted, kinds_text, listed, read_as, separator, summary};
 
+use crate::file_kind::{FileKind, KindRequest};
 use crate::kind_counts::KindCounts;
 use crate::tally::Tally;
-use cfgprogram::KindArg;
-use cfgprogram::kinds::{YaccKind, YaccOriginalActionKind, kind_name};
+use cfgprogram::kinds::{YaccKind, YaccOriginalActionKind};
 use std::alloc::{AllocError, Global};
 
 /// The kinds, in the order of the summary.
-const KINDS: [YaccKind; 5] = [
-    YaccKind::Original(YaccOriginalActionKind::NoAction),
-    YaccKind::Original(YaccOriginalActionKind::UserAction),
-    YaccKind::Original(YaccOriginalActionKind::GenericParseTree),
-    YaccKind::Grmtools,
-    YaccKind::Eco,
+const KINDS: [FileKind; 6] = [
+    FileKind::Yacc(YaccKind::Original(YaccOriginalActionKind::NoAction)),
+    FileKind::Yacc(YaccKind::Original(YaccOriginalActionKind::UserAction)),
+    FileKind::Yacc(YaccKind::Original(YaccOriginalActionKind::GenericParseTree)),
+    FileKind::Yacc(YaccKind::Grmtools),
+    FileKind::Yacc(YaccKind::Eco),
+    FileKind::Bison,
 ];
 
 /// How many files there were, and what was found in them; and as which kinds they were read, unless this kind is
@@ -24,7 +25,7 @@ const KINDS: [YaccKind; 5] = [
 pub(crate) fn summary(
     alloc: Global,
     tally: &Tally,
-    requested: Option<KindArg>,
+    requested: Option<KindRequest>,
 ) -> Result<String, AllocError>
     ensures { IfOk result (λ text. string_bytes text ≡ summary requested tally.now) }
 {
@@ -43,12 +44,12 @@ pub(crate) fn summary(
 fn write_kinds(
     text: &mut String,
     counts: &KindCounts,
-    requested: Option<KindArg>,
+    requested: Option<KindRequest>,
 ) -> Result<(), AllocError>
     ensures { OnOk result (string_bytes text.new ≡ string_bytes text.old ++ kinds_text requested counts.now) }
 {
     match requested {
-        Some(KindArg::Named(_)) => Ok(()),
+        Some(KindRequest::Named(_)) => Ok(()),
         _ => write_listed(text, counts),
     }
 }
@@ -74,13 +75,13 @@ fn write_kind(
     text: &mut String,
     is_first: bool,
     count: u64,
-    kind: YaccKind,
+    kind: FileKind,
 ) -> Result<(), AllocError>
     ensures { OnOk result (string_bytes text.new
         ≡ string_bytes text.old ++ (separator is_first ++ read_as count kind)) }
 {
     let separator = if is_first { "; " } else { ", " };
-    let name = kind_name(kind);
+    let name = kind.name();
     text.push_str(separator)?;
     write_counted(text, u128::from(count), "file")?;
     write!(text, " read as {name}")

@@ -27,11 +27,13 @@ pub(crate) const HELP: &str =
 
 usage: cfglint [OPTION..] [--] FILE..
 
-  --kind KIND        original-noaction, original-useraction, original-genericparsetree, grmtools, eco or section
-                     (the kind that the file's section names). Without it the section names the kind; a file that
-                     names none is read as the default kind.
+  --kind KIND        bison or yacc, the same: as Bison reads files; original-noaction, original-useraction,
+                     original-genericparsetree, grmtools, eco; or section (the kind that the file's section names).
+                     Without it the section names the kind; a file that names none is read as the default kind.
   --default-kind KIND
-                     The default kind, any but section: original-noaction if this option isn't given.
+                     The default kind, any but section. Without it a file that names no kind is read as
+                     original-noaction; if it then has errors, and something that only Bison's files have, such as %{
+                     or %union, it is read as bison.
   --format FORMAT    text, the default; json: a line with a JSON object for each error and warning; github: a line
                      with a workflow command for each, which GitHub shows at its place; or sarif: a log in SARIF 2.1.0.
                      Only text has a summary.
@@ -268,22 +270,26 @@ const OPTIONS: [&str; 12] = [
 ];
 
 /// The values of `--kind`.
-const KINDS: [&str; 6] = [
+const KINDS: [&str; 8] = [
     "original-noaction",
     "original-useraction",
     "original-genericparsetree",
     "grmtools",
     "eco",
+    "bison",
+    "yacc",
     "section",
 ];
 
 /// The values of `--default-kind`.
-const DEFAULT_KINDS: [&str; 5] = [
+const DEFAULT_KINDS: [&str; 7] = [
     "original-noaction",
     "original-useraction",
     "original-genericparsetree",
     "grmtools",
     "eco",
+    "bison",
+    "yacc",
 ];
 
 /// The values of `--format`.

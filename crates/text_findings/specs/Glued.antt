@@ -1,7 +1,7 @@
 -- Names that directly follow the keyword of their declaration: `%tokens X` is read as `%token s X`.
-use Rattle.std.specs.Prelude.{◌≡◌, ℕ, Bool, ◌==◌, List, [], ◌∷◌, ◌++◌, codes, take, Option, None, Some, option_map, if◌then◌else◌}
+use Rattle.std.specs.Prelude.{◌≡◌, ℕ, Bool, false, ◌==◌, ◌||◌, List, [], ◌∷◌, ◌++◌, codes, slice_get, take, Option, None, Some, option_map, if◌then◌else◌}
 use Rattle.std.specs.List.{ends_with}
-use Rattle.std.specs.Option.{option_and_then}
+use Rattle.std.specs.Option.{option_and_then, option_map_or}
 use Rattle.cfgrammar.specs.FileWords.{Word}
 use Rattle.cfgrammar.specs.Syntax.{Syntax}
 use Rattle.finding_kinds.specs.declared.finding_kind.FindingKind.TheVariants.{GluedKeyword}
@@ -36,10 +36,18 @@ glued_finding word keyword = record {
   text = codes "'" ++ (keyword ++ (word.name ++ (codes "' is read as '" ++ (keyword ++ (codes " " ++ (word.name ++ codes "'"))))));
 }
 
+-- whether the text has a quote at this offset
+abbrev pub is_quote : ℕ → Bool
+is_quote byte = byte == 34 || byte == 39
+
+abbrev pub has_quote : List ℕ → ℕ → Bool
+has_quote text offset = option_map_or is_quote (slice_get text offset) false
+
 -- The finding about a word of the text, if the keyword of a declaration ends where the word begins. A name doesn't begin right after another
--- one, so the word is then the first one of that declaration. One in quotes begins after its quote.
+-- one, so the word is then the first one of that declaration. One in quotes begins after its quote, or with it in a Bison file: a quote
+-- parts it from the keyword.
 abbrev pub glued : List ℕ → Word → Option ShownFinding
-glued text word = option_map (glued_finding word) (keyword_before text word.span.start)
+glued text word = if has_quote text word.span.start then None else option_map (glued_finding word) (keyword_before text word.span.start)
 
 -- the n-th word of a list directly follows the keyword of its declaration
 abbrev pub ReportsGlued : List ℕ → Syntax → Words → ℕ → Option ShownFinding → Type 0

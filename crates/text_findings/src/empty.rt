@@ -1,11 +1,12 @@
 //! Productions without symbols that don't say so.
 
-ghost use Rattle.std.specs.Prelude.{◌≡◌, ◌++◌, length, IfOk, OnOk};
+ghost use Rattle.std.specs.Prelude.{◌≡◌, ◌++◌, length, option_map, IfOk, OnOk};
 ghost use Rattle.std.specs.List.{starts_with};
 ghost use Rattle.cfgrammar.specs.TreeView.{syntax};
 ghost use Rattle.cfgrammar.specs.SyntaxView.{production_view};
 ghost use Rattle.text_findings.specs.Reports.{ReportsBelow};
-ghost use Rattle.text_findings.specs.Empty.{ReportsImplicitlyEmpty, begins_at, implicitly_empty, is_implicitly_empty};
+ghost use Rattle.text_findings.specs.Empty.{ReportsImplicitlyEmpty, begins_at, implicitly_empty, is_action_name};
+ghost use Rattle.text_findings.specs.Empty.{is_implicitly_empty, is_of_action, rule_name_at};
 
 use crate::finding::{Finding, FindingKind};
 use crate::reporter::{Reporter, push_reported};
@@ -43,11 +44,44 @@ impl Reporter for ImplicitlyEmpty<'_> {
     ghost reports = { λ x. ReportsImplicitlyEmpty x.text.now (syntax x.ast.now) };
 
     fn report(&self, alloc: Global, number: usize) -> Result<Option<Finding>, AllocError> {
+        if is_of_action(self.ast, number) {
+            return Ok(None);
+        }
         match self.ast.prods().get(number) {
             Some(production) => implicitly_empty(alloc, self.text, production),
             None => Ok(None),
         }
     }
+}
+
+/// Whether the production with this number is that of an action inside of another one.
+fn is_of_action(ast: &GrammarAST, number: usize) -> bool
+    ensures { result ≡ is_of_action (syntax ast.now) number }
+{
+    match rule_name_at(ast, number) {
+        Some(name) => is_action_name(name),
+        None => false,
+    }
+}
+
+/// The name of the rule of the production with this number.
+fn rule_name_at(ast: &GrammarAST, number: usize) -> Option<&str>
+    ensures { option_map (λ name. name.now) result ≡ rule_name_at (syntax ast.now) number }
+{
+    let Some(rule) = ast.prods_rules().get(number) else {
+        return None;
+    };
+    let Some((name, _)) = ast.rules().get_index(*rule) else {
+        return None;
+    };
+    Some(name.as_str())
+}
+
+/// Whether a rule with this name is that of an action inside of a production.
+fn is_action_name(name: &str) -> bool
+    ensures { result ≡ is_action_name name.now }
+{
+    name.as_bytes().starts_with(b"$@")
 }
 
 /// The finding that a production has no symbols and doesn't say so, if that is true.

@@ -4,7 +4,7 @@ ghost use Rattle.std.specs.Prelude.{◌≡◌, ◌==◌, ◌++◌, length, optio
 ghost use Rattle.std.specs.List.{ends_with};
 ghost use Rattle.cfgrammar.specs.TreeView.{syntax};
 ghost use Rattle.text_findings.specs.Reports.{ReportsBelow};
-ghost use Rattle.text_findings.specs.Glued.{ReportsGlued, glued, keyword_at_end, keyword_before};
+ghost use Rattle.text_findings.specs.Glued.{ReportsGlued, glued, has_quote, keyword_at_end, keyword_before};
 ghost use Rattle.text_findings.specs.Finding.{ShownFinding};
 ghost use Rattle.text_findings.specs.declared.words.Words.TheVariants.{Precedences, RepeatedTokens, Tokens};
 
@@ -81,11 +81,24 @@ impl Reporter for GluedWords<'_> {
 fn glued(alloc: Global, text: &str, name: &str, span: Span) -> Result<Option<Finding>, AllocError>
     ensures { IfOk result (λ found. found ≡ glued text.now (record { name = name.now; span = span })) }
 {
+    if has_quote(text, span.start()) {
+        return Ok(None);
+    }
     let Some(keyword) = keyword_before(text, span.start()) else {
         return Ok(None);
     };
     let words = format!(in alloc; "'{keyword}{name}' is read as '{keyword} {name}'")?;
     Ok(Some(Finding::at(alloc, FindingKind::GluedKeyword, span, words)?))
+}
+
+/// Whether the text has a quote at this offset.
+fn has_quote(text: &str, offset: usize) -> bool
+    ensures { result ≡ has_quote text.now offset }
+{
+    match text.as_bytes().get(offset) {
+        Some(byte) => *byte == b'"' || *byte == b'\'',
+        None => false,
+    }
 }
 
 /// The keyword that ends at this offset of the text, if one does.

@@ -1,5 +1,5 @@
 use Rattle.std.proofs.Common.{◌≡◌, string_bytes, take}
-use Rattle.cfglint.specs.Reported.{finding_lines}
+use Rattle.cfglint.specs.ReportedFindings.{finding_lines}
 use Rattle.cfglint.proofs.reported.finding_lines.Given as goal
 
 -- the lines for the findings so far

@@ -1,5 +1,5 @@
 use Rattle.std.proofs.Common.{◌≡◌, take}
-use Rattle.cfglint.specs.Reported.{reported_by}
+use Rattle.cfglint.specs.ReportedFindings.{reported_by}
 use Rattle.cfglint.proofs.reported.reported_findings.Given as goal
 
 -- those of the findings so far

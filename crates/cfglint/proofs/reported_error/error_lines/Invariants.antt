@@ -1,6 +1,6 @@
 use Rattle.std.proofs.Common.{◌≡◌, string_bytes, take}
-use Rattle.cfglint.specs.Reported.{error_lines}
-use Rattle.cfglint.proofs.reported.error_lines.Given as goal
+use Rattle.cfglint.specs.ReportedErrors.{error_lines}
+use Rattle.cfglint.proofs.reported_error.error_lines.Given as goal
 
 -- the lines for the errors so far
 abbrev pub invariant-loop-error : goal.invariant-loop-error

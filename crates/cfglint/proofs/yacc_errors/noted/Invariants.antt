@@ -1,6 +1,6 @@
 use Rattle.std.proofs.Common.{◌≡◌, map, take}
-use Rattle.cfglint.specs.Reported.{noted}
-use Rattle.cfglint.proofs.reported.noted.Given as goal
+use Rattle.cfglint.specs.ReportedErrors.{noted}
+use Rattle.cfglint.proofs.yacc_errors.noted.Given as goal
 
 -- those of the errors so far
 abbrev pub invariant-loop-error : goal.invariant-loop-error

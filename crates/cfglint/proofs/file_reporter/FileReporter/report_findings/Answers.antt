@@ -1,16 +1,17 @@
 use Rattle.std.proofs.Common.{◌≡◌, List, length, count_by, string_bytes, ◌∙◌, ap, subst, arith}
 use Rattle.std.proofs.lemmas.List.Sums.{count_by-le-length}
-use Rattle.cfglint.specs.Reported.{AreFindingLines, Reported, reported_by}
-use Rattle.cfglint.proofs.linter.FileReporterTextReaderReport.grammar.Goals as goal
+use Rattle.cfglint.specs.ReportedFindings.{Reported, reported_by}
+use Rattle.cfglint.specs.ReportedLines.{AreFindingLines}
+use Rattle.cfglint.proofs.file_reporter.FileReporter.report_findings.Goals as goal
 
 pub returns : goal.returns
 returns c =
     let name = c.args.self.now.name.now in
     let text = c.args.text.now in
     let all = c.in_ok-all.all.items in
-    let shown : List Reported = reported_by c.args.self.now.levels all in
-    let are : c.in_ok-reported.reported.items ≡ shown = c.in_ok-reported.ensures ∙ ap (reported_by c.args.self.now.levels) c.deref.ensures.value in
-    let lines = subst (λ (all : List Reported). AreFindingLines c.args.self.now.format c.args.self.now.columns name text all (string_bytes c.in_ok-lines.lines))
+    let shown : List Reported = reported_by c.args.self.now.options.levels all in
+    let are : c.in_ok-reported.reported.items ≡ shown = c.in_ok-reported.ensures ∙ ap (reported_by c.args.self.now.options.levels) c.deref.ensures.value in
+    let lines = subst (λ (all : List Reported). AreFindingLines c.args.self.now.options.format c.args.self.now.options.columns name text all (string_bytes c.in_ok-lines.lines))
     (c.deref-2.ensures.value ∙ are) c.in_ok-lines.ensures in
     let errors : c.error_count-errors.result ≡ count_by (λ (reported : Reported). reported.is_error) shown =
     c.error_count-errors.ensures ∙ ap (count_by (λ (reported : Reported). reported.is_error)) (c.deref-3.ensures.value ∙ are) in

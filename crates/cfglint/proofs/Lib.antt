@@ -1,0 +1,3 @@
+pub mod OneOf
+pub mod Outcomes
+pub mod Reporting

@@ -1,0 +1,19 @@
+use Rattle.std.proofs.Common.{subst}
+use Rattle.std.proofs.lemmas.Result.{IfOk-weaker}
+use Rattle.cfgrammar.specs.TreeView.{syntax}
+use Rattle.cfglint.specs.BisonReports.{ReportsBison, found}
+use Rattle.cfglint.specs.ReportedLines.{ReportsFindings}
+use Rattle.cfglint.proofs.bison.report_file.Goals as goal
+
+pub returns-in-Ok : goal.returns-in-Ok
+returns-in-Ok c =
+    let options = c.args.reporter.now.options in
+    let name = c.args.reporter.now.name.now in
+    let text = c.args.text.now in
+    let file = c.args.file.now in
+    let answer = c.in-Ok.ensures in
+    let Finds = ReportsFindings options.format options.columns name text options.levels in
+    let read = syntax c.ast.result.now in
+    IfOk-weaker c.report_findings.result (Finds read c.in-Ok.grammar) (ReportsBison options name text file) (λ reported made.
+    found answer.0 answer.1 (subst (λ g. Finds file.syntax g reported) answer.2
+    (subst (λ s. Finds s c.in-Ok.grammar reported) c.ast.ensures made))) c.report_findings.ensures

@@ -1,0 +1,76 @@
+-- The note on an error of a Bison file: what was found, or which name is probably meant.
+use Rattle.std.specs.Prelude.{ℕ, Bool, ◌==◌, List, [], ◌∷◌, ◌++◌, codes, drop, length, map, slice_range, take, Option, Some, None, if◌then◌else◌, unwrap_or}
+use Rattle.std.specs.List.{starts_with}
+use Rattle.cfgrammar.specs.BisonError.{Error}
+use Rattle.cfgrammar.specs.BisonErrorKind.{ErrorKind}
+use Rattle.cfgrammar.specs.BisonErrorKind.TheVariants.{InvalidStart, Unexpected, UnknownSymbol, Word}
+use Rattle.cfgrammar.specs.BisonErrorSpans.{spans_of, spanskind_of}
+use Rattle.cfgrammar.specs.BisonErrorTexts.{error_text}
+use Rattle.cfgrammar.specs.BisonErrorWords.{error_word}
+use Rattle.cfgrammar.specs.BisonWordFaultKind.{WordFaultKind}
+use Rattle.cfgrammar.specs.BisonWordFaultKind.TheVariants.{UnknownDirective}
+use Rattle.cfglint.specs.ReportedErrors.{NotedError}
+use Rattle.cfglint.specs.Suggestions.{Names, most_suggestions, no_names, question_of}
+
+-- the directives that may be meant
+abbrev pub directive_names : List (List ℕ)
+directive_names = codes "%token" ∷ codes "%nterm" ∷ codes "%type" ∷ codes "%left" ∷ codes "%right" ∷ codes "%nonassoc" ∷
+    codes "%precedence" ∷ codes "%start" ∷ codes "%union" ∷ codes "%code" ∷ codes "%destructor" ∷ codes "%printer" ∷
+    codes "%expect" ∷ codes "%expect-rr" ∷ codes "%define" ∷ codes "%require" ∷ codes "%prec" ∷ codes "%empty" ∷ codes "%dprec" ∷
+    codes "%merge" ∷ codes "%param" ∷ codes "%parse-param" ∷ codes "%lex-param" ∷ codes "%initial-action" ∷ codes "%locations" ∷
+    codes "%debug" ∷ codes "%verbose" ∷ codes "%skeleton" ∷ codes "%language" ∷ codes "%output" ∷ codes "%header" ∷
+    codes "%defines" ∷ codes "%name-prefix" ∷ codes "%file-prefix" ∷ codes "%no-lines" ∷ codes "%token-table" ∷
+    codes "%default-prec" ∷ codes "%no-default-prec" ∷ codes "%glr-parser" ∷ codes "%pure-parser" ∷ codes "%error-verbose" ∷
+    codes "%yacc" ∷ []
+
+-- what the end of a text is called, and words that may be long
+abbrev pub begins_with : List ℕ → List ℕ → Bool
+begins_with start word = starts_with (λ a b. a == b) word start
+
+abbrev pub long_word : List ℕ → Option (List ℕ)
+long_word word =
+    if length word == 0 then Some (codes "the end of the file")
+    else if begins_with (codes "{") word then Some (codes "code in braces")
+    else if begins_with (codes "%{") word then Some (codes "a prologue")
+    else if begins_with (codes "%?") word then Some (codes "a predicate")
+    else None
+
+-- that this was found; and the note on a symbol that is neither a token nor a rule
+abbrev pub found_note : List ℕ → List ℕ
+found_note word = codes "found " ++ unwrap_or (long_word word) (codes "'" ++ (word ++ codes "'"))
+
+abbrev pub symbol_note : Names → List ℕ → List ℕ
+symbol_note names name = unwrap_or (question_of names.symbols name) (codes "if it is a token, declare it by %token")
+
+-- the note on a fault in a word, and on an error of this kind whose span has this text
+abbrev pub fault_note : WordFaultKind → List ℕ → Option (List ℕ)
+fault_note UnknownDirective word = question_of directive_names word
+fault_note _ word = None
+
+abbrev pub note_at : Names → ErrorKind → List ℕ → Option (List ℕ)
+note_at names (Unexpected expected) word = Some (found_note word)
+note_at names (Word fault) word = fault_note fault word
+note_at names UnknownSymbol word = Some (symbol_note names word)
+note_at names InvalidStart word = question_of names.symbols word
+note_at names _ word = None
+
+abbrev pub bison_note : List ℕ → Names → Error → Option (List ℕ)
+bison_note text names error = note_at names error.kind (slice_range text error.span.start error.span.end)
+
+-- an error with this note
+abbrev pub bison_noted_as : Error → Option (List ℕ) → NotedError
+bison_noted_as error hint = record {
+  text = error_text error.kind;
+  word = error_word error.kind;
+  spans = spans_of error;
+  spanskind = spanskind_of error.kind;
+  hint = hint;
+}
+
+abbrev pub noted_bison : List ℕ → Names → Error → NotedError
+noted_bison text names error = bison_noted_as error (bison_note text names error)
+
+-- Errors, each with its note. Only the first of them are compared with the names of the file, so that many errors don't take long.
+abbrev pub noted_bison_errors : List ℕ → Names → List Error → List NotedError
+noted_bison_errors text names all =
+    map (noted_bison text names) (take most_suggestions all) ++ map (noted_bison text no_names) (drop most_suggestions all)

@@ -1,0 +1,69 @@
+-- Errors as they are reported, whatever the files that they are in.
+use Rattle.std.specs.Prelude.{ℕ, true, List, [], ◌++◌, codes, drop, map, slice_get, take, Option, Some, None}
+use Rattle.std.specs.List.{flat_map}
+use Rattle.std.specs.Option.{option_map_or, option_or}
+use Rattle.cfgrammar.specs.ColumnUnit.{ColumnUnit}
+use Rattle.cfgrammar.specs.Errors.{GrammarError, spanskind_of}
+use Rattle.cfgrammar.specs.ErrorTexts.{error_text}
+use Rattle.cfgrammar.specs.Hints.{hint_text}
+use Rattle.cfgrammar.specs.Render.{note_line, rendered_in}
+use Rattle.cfgrammar.specs.Span.{Span}
+use Rattle.cfgrammar.specs.SpansKind.{SpansKind}
+use Rattle.cfgjson.specs.Objects.{ShownDiagnostic}
+use Rattle.cfglint.specs.ErrorWords.{error_word}
+use Rattle.cfglint.specs.Suggestions.{Names, most_suggestions, no_names, suggestion}
+
+-- an error as it is reported: what it says, the word of its kind, where it is, which of these spans are shown, and the note on it, if there is one
+pub record NotedError : Type 0 where
+  pub text : List ℕ
+  pub word : List ℕ
+  pub spans : List Span
+  pub spanskind : SpansKind
+  pub hint : Option (List ℕ)
+
+-- the message: with its note, if there is one, since few programs show the line of a note, and with the word of its kind
+abbrev pub said_note : Option (List ℕ) → List ℕ → List ℕ
+said_note None rest = rest
+said_note (Some words) rest = codes ": " ++ (words ++ rest)
+
+abbrev pub error_message : NotedError → List ℕ
+error_message shown = codes "error: " ++ (shown.text ++ said_note shown.hint (codes " [" ++ (shown.word ++ codes "]")))
+
+-- the offset of an error, in bytes: the start of its first span
+abbrev pub error_offset : NotedError → ℕ
+error_offset shown = option_map_or (λ (span : Span). span.start) (slice_get shown.spans 0) 0
+
+-- the line of the note
+abbrev pub hint_line : ColumnUnit → List ℕ → List ℕ → NotedError → List ℕ
+hint_line unit name text shown = option_map_or (λ words. note_line unit name text words (error_offset shown)) shown.hint []
+
+-- the lines for errors in a text with this name, with columns in this unit
+abbrev pub error_lines : ColumnUnit → List ℕ → List ℕ → List NotedError → List ℕ
+error_lines unit name text all = flat_map (λ (shown : NotedError).
+    rendered_in unit name text (error_message shown) shown.spans shown.spanskind ++ hint_line unit name text shown) all
+
+-- an error, as programs read it
+abbrev pub shown_error : NotedError → ShownDiagnostic
+shown_error shown = record { is_error = true; kind = shown.word; text = shown.text; hint = shown.hint; spans = shown.spans }
+
+-- an error of a file of one of the library's kinds, with this note
+abbrev pub noted_as : GrammarError → Option (List ℕ) → NotedError
+noted_as error hint = record {
+  text = error_text error.kind;
+  word = error_word error.kind;
+  spans = error.spans;
+  spanskind = spanskind_of error.kind;
+  hint = hint;
+}
+
+-- the note on such an error, in a text with these names
+abbrev pub note_on : List ℕ → Names → GrammarError → Option (List ℕ)
+note_on text names error = option_or (hint_text text error) (suggestion names error.kind)
+
+abbrev pub noted : List ℕ → Names → GrammarError → NotedError
+noted text names error = noted_as error (note_on text names error)
+
+-- Such errors, each with its note. Only the first of them get names suggested, so that many errors don't take long.
+abbrev pub noted_errors : List ℕ → Names → List GrammarError → List NotedError
+noted_errors text names all =
+    map (noted text names) (take most_suggestions all) ++ map (noted text no_names) (drop most_suggestions all)

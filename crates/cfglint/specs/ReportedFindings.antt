@@ -1,0 +1,45 @@
+-- Findings as they are reported.
+use Rattle.std.specs.Prelude.{ℕ, Bool, true, false, if◌then◌else◌, List, [], ◌∷◌, ◌++◌, codes, None}
+use Rattle.std.specs.List.{flat_map}
+use Rattle.cfgrammar.specs.ColumnUnit.{ColumnUnit}
+use Rattle.cfgrammar.specs.Render.{rendered_in}
+use Rattle.cfgjson.specs.Objects.{ShownDiagnostic}
+use Rattle.finding_kinds.specs.declared.levels.Level.{Level}
+use Rattle.finding_kinds.specs.declared.levels.Level.TheVariants.{Allow, Warn, Deny}
+use Rattle.finding_kinds.specs.declared.levels.Levels.{Levels}
+use Rattle.finding_kinds.specs.FindingKinds.{level_of, word_of}
+use Rattle.cfgfindings.specs.Shown.{ShownFinding, spanskind_of}
+
+-- a finding that is reported, as an error or as a warning
+pub record Reported : Type 0 where
+  pub finding : ShownFinding
+  pub is_error : Bool
+
+-- the findings that are reported with these levels
+abbrev pub reported_at : Level → ShownFinding → List Reported
+reported_at Allow finding = []
+reported_at Warn finding = record { finding = finding; is_error = false } ∷ []
+reported_at Deny finding = record { finding = finding; is_error = true } ∷ []
+
+abbrev pub reported_by : Levels → List ShownFinding → List Reported
+reported_by levels findings = flat_map (λ (finding : ShownFinding). reported_at (level_of levels finding.kind) finding) findings
+
+-- the message of a finding: with its severity, and the word of its kind
+abbrev pub finding_message : Reported → List ℕ
+finding_message reported = (if reported.is_error then codes "error" else codes "warning")
+    ++ (codes ": " ++ (reported.finding.text ++ (codes " [" ++ (word_of reported.finding.kind ++ codes "]"))))
+
+-- the lines for findings about a text with this name, with columns in this unit
+abbrev pub finding_lines : ColumnUnit → List ℕ → List ℕ → List Reported → List ℕ
+finding_lines unit name text all = flat_map (λ (reported : Reported).
+    rendered_in unit name text (finding_message reported) reported.finding.spans (spanskind_of reported.finding.kind)) all
+
+-- a finding, as programs read it
+abbrev pub shown_finding : Reported → ShownDiagnostic
+shown_finding reported = record {
+  is_error = reported.is_error;
+  kind = word_of reported.finding.kind;
+  text = reported.finding.text;
+  hint = None;
+  spans = reported.finding.spans;
+}

@@ -1,0 +1,143 @@
+//! The note on an error of a Bison file.
+
+ghost use Rattle.std.specs.Prelude.{◌≡◌, IfOk, option_map, slice_range, string_bytes};
+ghost use Rattle.cfgrammar.specs.TextSpans.{IsPiece};
+ghost use Rattle.cfglint.specs.BisonNotes.{begins_with, bison_note, fault_note, found_note, long_word, symbol_note};
+
+use crate::suggestion::{Names, question_of};
+use cfgrammar::Span;
+use cfgrammar::bison::{Error, ErrorKind, WordFaultKind};
+use std::alloc::{AllocError, Global};
+
+/// The note on an error, if it has one.
+///
+/// # Errors
+///
+/// Running out of memory.
+pub(crate) fn note_on(
+    alloc: Global,
+    text: &str,
+    names: &Names<'_>,
+    error: &Error,
+) -> Result<Option<String>, AllocError>
+    requires { IsPiece text.now error.now.span }
+    ensures { IfOk result (λ hint. option_map (λ words. string_bytes words) hint
+        ≡ bison_note text.now names.now error.now) }
+{
+    let word = covered(text, error.span);
+    match error.kind {
+        ErrorKind::Unexpected(_) => Ok(Some(found_note(alloc, word)?)),
+        ErrorKind::Word(fault) => fault_note(alloc, fault, word),
+        ErrorKind::UnknownSymbol => Ok(Some(symbol_note(alloc, names, word)?)),
+        ErrorKind::InvalidStart => question_of(alloc, &names.symbols, word),
+        _ => Ok(None),
+    }
+}
+
+/// The note on a fault in a word, if it has one.
+fn fault_note(alloc: Global, fault: WordFaultKind, word: &str) -> Result<Option<String>, AllocError>
+    ensures { IfOk result (λ hint. option_map (λ words. string_bytes words) hint ≡ fault_note fault word.now) }
+{
+    match fault {
+        WordFaultKind::UnknownDirective => question_of(alloc, &DIRECTIVES, word),
+        _ => Ok(None),
+    }
+}
+
+/// The text at a span.
+fn covered(text: &str, span: Span) -> &str
+    requires { IsPiece text.now span }
+    ensures { result.now ≡ slice_range text.now span.start span.end }
+{
+    &text[span.start()..span.end()]
+}
+
+/// The note that says what was found.
+fn found_note(alloc: Global, word: &str) -> Result<String, AllocError>
+    ensures { IfOk result (λ note. string_bytes note ≡ found_note word.now) }
+{
+    match long_word(word) {
+        Some(name) => Ok(format!(in alloc; "found {name}")?),
+        None => Ok(format!(in alloc; "found '{word}'")?),
+    }
+}
+
+/// What the end of a text is called, and words that may be long.
+fn long_word(word: &str) -> Option<&'static str>
+    ensures { option_map (λ name. name.now) result ≡ long_word word.now }
+{
+    if word.is_empty() {
+        Some("the end of the file")
+    } else if begins_with(word, "{") {
+        Some("code in braces")
+    } else if begins_with(word, "%{") {
+        Some("a prologue")
+    } else if begins_with(word, "%?") {
+        Some("a predicate")
+    } else {
+        None
+    }
+}
+
+/// Whether a word begins so.
+fn begins_with(word: &str, start: &str) -> bool
+    ensures { result ≡ begins_with start.now word.now }
+{
+    word.as_bytes().starts_with(start.as_bytes())
+}
+
+/// The note on a symbol that is neither a token nor a rule.
+fn symbol_note(alloc: Global, names: &Names<'_>, name: &str) -> Result<String, AllocError>
+    ensures { IfOk result (λ note. string_bytes note ≡ symbol_note names.now name.now) }
+{
+    match question_of(alloc, &names.symbols, name)? {
+        Some(question) => Ok(question),
+        None => Ok(format!(in alloc; "if it is a token, declare it by %token")?),
+    }
+}
+
+/// The directives that may be meant.
+const DIRECTIVES: [&str; 42] = [
+    "%token",
+    "%nterm",
+    "%type",
+    "%left",
+    "%right",
+    "%nonassoc",
+    "%precedence",
+    "%start",
+    "%union",
+    "%code",
+    "%destructor",
+    "%printer",
+    "%expect",
+    "%expect-rr",
+    "%define",
+    "%require",
+    "%prec",
+    "%empty",
+    "%dprec",
+    "%merge",
+    "%param",
+    "%parse-param",
+    "%lex-param",
+    "%initial-action",
+    "%locations",
+    "%debug",
+    "%verbose",
+    "%skeleton",
+    "%language",
+    "%output",
+    "%header",
+    "%defines",
+    "%name-prefix",
+    "%file-prefix",
+    "%no-lines",
+    "%token-table",
+    "%default-prec",
+    "%no-default-prec",
+    "%glr-parser",
+    "%pure-parser",
+    "%error-verbose",
+    "%yacc",
+];
