@@ -4,8 +4,8 @@ A fault of the text doesn't end the reading: after one in a declaration it goes 
 one in the rules at the next `;` or `%%`. What was skipped may have declared a symbol or given a rule, so then no
 symbol, no start and no rule is reported as missing.
 """
-from .bison_words import DECLARATIONS, DIRECTIVES, FLAGS, IN_PRODUCTIONS, WITH_STRING, TextFault, words_of
-from .lint import nearest
+from .bison_faults import BisonFault
+from .bison_words import DECLARATIONS, FLAGS, IN_PRODUCTIONS, WITH_STRING, words_of
 
 ASSOCIATIVITIES = {
     'left': 'Left', 'right': 'Right', 'nonassoc': 'Nonassoc', 'binary': 'Nonassoc', 'precedence': 'Nonassoc'}
@@ -66,6 +66,7 @@ class Tree:
         self.expectrr = None
         self.has_default_precedence = True
         self.tokens = {}               # name: Token, in order
+        self.listed_again = []         # (name, span) of tokens that %token lists have before
         self.precedences = {}          # name: (level, associativity, span), in order
         self.only_precedence = []      # the names in %precedence lists
         self.rules = {}                # name: Rule, in order of the first productions; then %nterm names without a rule
@@ -103,6 +104,7 @@ class Reader:
         self.faults = faults
         self.symbols = {('identifier', n): Symbol(True, alias) for n, alias in BUILT_IN.items()}
         self.tokens = {}               # key: span, in order
+        self.listed = []               # (key, span) of those in %token lists
         self.rules = {}                # key: span, in order of their first productions
         self.nonterminals = {}         # key: span of %nterm names
         self.owners = {}               # the key of an alias: that of its token
@@ -124,21 +126,21 @@ class Reader:
     def take(self, *kinds):
         return self.advance() if self.at(*kinds) else None
 
-    def need(self, *kinds):
-        return self.take(*kinds) or self.unexpected()
+    def need(self, *kinds, missing=None):
+        return self.take(*kinds) or self.unexpected(missing or kinds[0])
 
     def advance(self):
         self.next, self.expected = self.next + 1, []
         return self.words[self.next - 1]
 
-    def unexpected(self):
+    def unexpected(self, missing):
         word = self.words[self.next]
         if word.kind != 'fault':
-            self.faults.append(TextFault('Unexpected', word.span, None, word.kind, tuple(self.expected)))
+            self.faults.append(BisonFault('Unexpected', word.span, None, word.kind, tuple(self.expected), missing))
         raise Unexpected
 
     def fault(self, kind, span, name=None, repeats=()):
-        self.faults.append(TextFault(kind, span, name, repeats=repeats))
+        self.faults.append(BisonFault(kind, span, name, repeats=repeats))
 
     def skip_to(self, *kinds):
         while self.words[self.next].kind not in (*kinds, 'end'):
@@ -196,28 +198,29 @@ class Reader:
 
     def declaration(self):
         if not self.take(';', 'prologue'):
-            self.at(*PLACED, called='declaration') or self.unexpected()
+            self.at(*PLACED, called='declaration') or self.unexpected('declaration')
             self.declared()
 
     def declared(self):
         directive = self.advance().kind
         PLACED[directive](self, directive[1:])
 
-    def tagged(self, item):
+    def tagged(self, item, missing):
         """Reads items, at least one, and one at least after each tag, which may also be before the first."""
         self.take('tag')
-        item() or self.unexpected()
-        while item() or self.take('tag') and (item() or self.unexpected()):
+        item() or self.unexpected(missing)
+        while item() or self.take('tag') and (item() or self.unexpected(missing)):
             pass
 
     def token_list(self, _):
-        self.tagged(self.token_item)
+        self.tagged(self.token_item, 'token')
 
     def token_item(self):
         word = self.take('identifier', 'literal')
         if word:
             key = self.key(word)
             self.is_a_token(key, word.span)
+            self.listed.append((key, word.span))
             self.take('number')
             alias = self.take('string', 'translatable')
             if alias:
@@ -225,7 +228,7 @@ class Reader:
         return word
 
     def rule_list(self, _):
-        self.tagged(self.rule_item)
+        self.tagged(self.rule_item, 'identifier')
 
     def rule_item(self):
         """A name of a rule. What a token could have besides is a fault."""
@@ -242,7 +245,7 @@ class Reader:
         return word
 
     def type_list(self, _):
-        self.tagged(self.type_item)
+        self.tagged(self.type_item, 'symbol')
 
     def type_item(self):
         word = self.take(*SYMBOLS)
@@ -253,7 +256,7 @@ class Reader:
     def precedence_list(self, name):
         level = self.levels
         self.levels += 1
-        self.tagged(lambda: self.precedence_item(level, name))
+        self.tagged(lambda: self.precedence_item(level, name), 'symbol')
 
     def precedence_item(self, level, name):
         word = self.take(*SYMBOLS)
@@ -265,7 +268,7 @@ class Reader:
         return word
 
     def start_symbol(self, _):
-        word = self.need(*SYMBOLS)
+        word = self.need(*SYMBOLS, missing='symbol')
         while word:
             if self.start is None:
                 self.start = (self.key(word), word.span)
@@ -276,7 +279,7 @@ class Reader:
 
     def code_for_symbols(self, _):
         self.need('code')
-        word = self.need(*SYMBOLS, 'tag', '<*>', '<>')
+        word = self.need(*SYMBOLS, 'tag', '<*>', '<>', missing='symbol or tag')
         while word:
             if word.kind in SYMBOLS:
                 self.mention(word)
@@ -335,16 +338,16 @@ class Reader:
         if self.at('head', called='rule'):
             self.rule()
             return
-        self.at(*AMONG_RULES, called='declaration') or self.unexpected()
+        self.at(*AMONG_RULES, called='declaration') or self.unexpected('rule')
         self.declared()
-        self.need(';')
+        self.need(';', missing='semicolon')
 
     def rule(self):
         head = self.advance()
         self.is_a_rule(head)
         self.rules.setdefault(self.key(head), head.span)
         self.take('name')
-        self.need(':')
+        self.need(':', missing='colon')
         self.production(self.key(head))
         while self.at('|', ';'):
             if self.advance().kind == '|':
@@ -356,7 +359,7 @@ class Reader:
         try:
             while self.item(draft):
                 pass
-            self.ends_production() or self.unexpected()
+            self.ends_production() or self.unexpected('part')
         except Unexpected:
             self.skip_to(';', '%%')
             return
@@ -394,7 +397,7 @@ class Reader:
     def action(self, draft):
         """Code with or without a tag and a name, or a predicate."""
         if self.take('tag'):
-            self.at('code') or self.unexpected()
+            self.at('code') or self.unexpected('code')
         word = self.advance()
         self.close_action(draft)
         draft.pending = word
@@ -417,7 +420,7 @@ class Reader:
         """%prec, %empty or %dprec, each of which a production has once, or one of the others."""
         name = word.kind[1:]
         if name == 'prec':
-            value = self.need(*SYMBOLS)
+            value = self.need(*SYMBOLS, missing='symbol')
             draft.later.append(lambda: self.is_a_token(self.key(value), value.span))
         elif name == 'merge':
             self.need('tag')
@@ -520,6 +523,11 @@ def tree_of(reader, names, epilogue):
     for key, span in reader.tokens.items():
         token = tree.tokens.setdefault(names.name(key), Token(span))
         token.alias = reader.aliases.get(names.resolved(key))
+    listed = set()
+    for name, span in ((names.name(key), span) for key, span in reader.listed):
+        if name in listed:
+            tree.listed_again.append((name, span))
+        listed.add(name)
     for key, level, name, span in reader.precedences:
         tree.precedences.setdefault(names.name(key), (level, ASSOCIATIVITIES[name], span))
         if name == 'precedence' and names.name(key) not in tree.only_precedence:
@@ -549,13 +557,3 @@ def read(t):
     names = Names(reader)
     check_names(reader, names)
     return tree_of(reader, names, epilogue), errors_in_order(faults)
-
-
-def near(tree, error):
-    """The question whether another name is meant, or None."""
-    if error.kind == 'UnknownDirective':
-        question = nearest(error.name, DIRECTIVES)
-        return question and question.replace("'", "'%", 1)
-    if error.kind in ('UnknownSymbol', 'InvalidStart'):
-        return nearest(error.name, [*tree.rules, *tree.tokens])
-    return None

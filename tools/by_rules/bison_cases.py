@@ -1,5 +1,5 @@
 """Files of cases: texts, each with what it means by the rules. The form is that of files of rows."""
-from .bison import near
+from .bison_faults import note_on
 
 
 class Case:
@@ -43,18 +43,18 @@ def at(span):
     return '%d-%d' % span
 
 
-def lines_of(tree, errors):
+def lines_of(t, tree, errors):
     """What a text means, line by line: its errors, or its grammar."""
-    return [error_line(tree, error) for error in errors] or [marked(line) for line in grammar_lines(tree)]
+    return [error_line(t, tree, error) for error in errors] or [marked(line) for line in grammar_lines(tree)]
 
 
-def error_line(tree, error):
+def error_line(t, tree, error):
     parts = ['error', error.kind, *map(at, error.spans)]
     parts += [marked(error.name)] if error.name else []
     parts += ['found ' + error.found] if error.found else []
     parts += ['expected ' + ' '.join(error.expected)] if error.expected else []
-    question = near(tree, error)
-    return ' '.join(parts) + (': ' + question if question else '')
+    note = note_on(t, error, [*tree.rules, *tree.tokens])
+    return ' '.join(parts) + (': ' + note if note and note.startswith('did') else '')
 
 
 def grammar_lines(tree):

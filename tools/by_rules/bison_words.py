@@ -3,7 +3,7 @@
 A fault in a word doesn't end the reading: the fault is listed, and either the word counts all the same (a literal with
 a wrong escape), or a word `fault` comes in its place, which is expected nowhere.
 """
-from .faults import Fault
+from .bison_faults import BisonFault
 from .words import WHITE_SPACE
 
 BLANKS = b' \t\v\f\r\n,'
@@ -34,14 +34,6 @@ DIRECTIVES = tuple(dict.fromkeys((*DECLARATIONS, *SETTINGS, *IN_PRODUCTIONS)))
 OLD = ('default-prec', 'error-verbose', 'expect-rr', 'fixed-output-files', 'name-prefix', 'no-default-prec', 'no-lines',
        'pure-parser', 'token-table')
 ASSIGNED = ('file-prefix', 'name-prefix', 'output')
-
-
-class TextFault(Fault):
-    """A fault of a text: its kind, its span, a name in it, what was found, and what may be there."""
-
-    def __init__(self, kind, span, name=None, found=None, expected=(), repeats=()):
-        Fault.__init__(self, kind, span, name, repeats)
-        self.found, self.expected = found, expected
 
 
 class Word:
@@ -76,7 +68,7 @@ class Scanner:
         return end
 
     def fault(self, kind, begin, end, name=None):
-        self.faults.append(TextFault(kind, (begin, end), name))
+        self.faults.append(BisonFault(kind, (begin, end), name))
 
     def odd_word(self, kind, begin, end, name=None):
         """Lists a fault in place of which there is no word."""

@@ -13,7 +13,7 @@ def number(element, attribute):
 
 
 class Bison:
-    """The grammar of an XML file: its rules (rule, symbols, symbol of %prec or None), its starts, and its tokens."""
+    """The grammar of an XML file: rules (rule, symbols, symbol of %prec or None), starts, tokens, and what is useless."""
 
     def __init__(self, path):
         grammar = ElementTree.parse(path).getroot().find('grammar')
@@ -23,6 +23,8 @@ class Bison:
         tokens = sorted(grammar.find('terminals'), key=lambda it: number(it, 'symbol-number'))
         self.tokens = [(it.get('name'), it.get('prec'), it.get('assoc')) for it in tokens]
         self.own_tokens = {it.get('name') for it in tokens if number(it, 'symbol-number') < FIRST_OF_FILE}
+        self.useless_rules = [it.get('name') for it in grammar.find('nonterminals') if it.get('usefulness') != 'useful']
+        self.unused_tokens = [it.get('name') for it in tokens if it.get('usefulness') != 'useful']
 
     def add(self, rule, symbols):
         head = rule.find('lhs').text

@@ -5,6 +5,7 @@ derivation tree of a rule is one of its productions with a tree for each rule in
 derive comes from what the trees so far derive, until nothing is new.
 """
 import itertools
+from functools import cached_property
 
 LIMIT = 65535
 UNBOUNDED = float('inf')
@@ -16,9 +17,15 @@ class Costs:
     def __init__(self, grammar, costs):
         self.grammar, self.costs = grammar, costs
         self.least = self.least_costs()
-        self.greatest = self.greatest_costs()
-        self.cheapest = [[p for p in rule.productions if self.is_cheapest(p)] for rule in grammar.rules]
         self.minimal = {}
+
+    @cached_property
+    def greatest(self):
+        return self.greatest_costs()
+
+    @cached_property
+    def cheapest(self):
+        return [[p for p in rule.productions if self.is_cheapest(p)] for rule in self.grammar.rules]
 
     def sum(self, production, of_rules):
         """The cost of a production by the costs of rules: None if one of them has none."""

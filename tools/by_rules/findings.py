@@ -168,9 +168,10 @@ def overridden(tree):
 
 
 def glued(t, tree):
-    """Tokens, precedences and repeated tokens that come right after the keyword of their declaration."""
+    """Tokens, precedences and repeated tokens right after the keyword of their declaration, with no quote between."""
     words = [*tree.tokens.items(), *((n, span) for n, (_, _, span) in tree.precedences.items()), *tree.declared_again]
-    found = [(keyword.decode(), n, span) for n, span in words for keyword in KEYWORDS if t[:span[0]].endswith(keyword)]
+    found = [(keyword.decode(), n, span) for n, span in words for keyword in KEYWORDS
+             if t[:span[0]].endswith(keyword) and not t.startswith((b"'", b'"'), span[0])]
     return [Finding('GluedKeyword', [span], "'%s%s' is read as '%s %s'" % (keyword, n, keyword, n)) for keyword, n, span in found]
 
 
@@ -195,6 +196,8 @@ def escapes(tree):
 
 
 def implicitly_empty(t, tree):
-    """Productions without symbols whose text begins neither with `%empty` nor with `%prec`."""
-    return [Finding('ImplicitEmpty', [p.span], 'Empty production without %empty') for p in tree.productions
-            if not p.symbols and not t.startswith((b'%empty', b'%prec'), p.span[0])]
+    """Productions without symbols that begin neither with `%empty` nor with `%prec`, but for actions inside of others."""
+    actions = {index for name, rule in tree.rules.items() if name.startswith('$@') for index in rule.productions}
+    empty = [p for index, p in enumerate(tree.productions) if not p.symbols and index not in actions]
+    return [Finding('ImplicitEmpty', [p.span], 'Empty production without %empty') for p in empty
+            if not t.startswith((b'%empty', b'%prec'), p.span[0])]

@@ -2,10 +2,13 @@
 import re
 
 from . import as_annotation, as_json, as_sarif
+from .bison_faults import NO_TOKEN, TEXTS, BisonFault, note_on
+from .bison_tree import is_bison, read_bison
 from .faults import Fault, HeaderFault
 from .findings import findings_of
 from .grammar import Grammar
 from .hints import hint
+from .near import nearest
 from .rendered import note, placed, rendered, visible
 from .section import named_kind, section
 from .validation import errors_of, every_fault
@@ -16,11 +19,13 @@ HELP = '''cfglint reports errors in Yacc grammar files, and warnings about their
 
 usage: cfglint [OPTION..] [--] FILE..
 
-  --kind KIND        original-noaction, original-useraction, original-genericparsetree, grmtools, eco or section
-                     (the kind that the file's section names). Without it the section names the kind; a file that
-                     names none is read as the default kind.
+  --kind KIND        bison or yacc, the same: as Bison reads files; original-noaction, original-useraction,
+                     original-genericparsetree, grmtools, eco; or section (the kind that the file's section names).
+                     Without it the section names the kind; a file that names none is read as the default kind.
   --default-kind KIND
-                     The default kind, any but section: original-noaction if this option isn't given.
+                     The default kind, any but section. Without it a file that names no kind is read as
+                     original-noaction; if it then has errors, and something that only Bison's files have, such as %{
+                     or %union, it is read as bison.
   --format FORMAT    text, the default; json: a line with a JSON object for each error and warning; github: a line
                      with a workflow command for each, which GitHub shows at its place; or sarif: a log in SARIF 2.1.0.
                      Only text has a summary.
@@ -65,7 +70,9 @@ the output can't be written; 3 if there is no memory left
 '''
 OPTIONS = ('--kind', '--default-kind', '--format', '--columns', '--allow', '--warn', '--deny', '--deny-warnings', '--quiet',
            '--stdin-name', '--help', '--version')
-KINDS = ('original-noaction', 'original-useraction', 'original-genericparsetree', 'grmtools', 'eco', 'section')
+KINDS = ('original-noaction', 'original-useraction', 'original-genericparsetree', 'grmtools', 'eco', 'bison', 'yacc',
+         'section')
+SAME = {'yacc': 'bison'}
 FINDINGS = ('unused-rule', 'unused-token', 'shadowed-rule', 'start-without-sentence', 'no-sentence', 'unusable-rule',
             'unusable-production', 'useless-symbol', 'cyclic-rule', 'repeated-production', 'unused-precedence',
             'repeated-token', 'overridden-precedence', 'glued-keyword', 'needless-expect-unused', 'escaped-token', 'implicit-empty')
@@ -78,8 +85,8 @@ RULES = (*FINDINGS,
          'reached-eol', 'invalid-string', 'no-start-rule', 'unknown-symbol', 'invalid-start-rule', 'unknown-rule',
          'unknown-token', 'no-precedence', 'unknown-epp', 'expected-input', 'invalid-yacc-kind', 'storage-too-small',
          'missing-section', 'section-illegal-name', 'section-expected-token', 'section-unexpected-token',
-         'section-duplicate-entry', 'section-invalid-entry', 'section-conversion', 'unreadable-file',
-         'invalid-encoding')
+         'section-duplicate-entry', 'section-invalid-entry', 'section-conversion')
+RULES = tuple(dict.fromkeys((*RULES, *(word for _, word in TEXTS.values()), 'unreadable-file', 'invalid-encoding')))
 ALLOWED = ('unusable-rule', 'unusable-production', 'useless-symbol', 'escaped-token', 'implicit-empty')
 LEVELS = {'--allow': None, '--warn': 'warning', '--deny': 'error'}
 VALIDATION = ('NoStartRule', 'InvalidStartRule', 'UnknownRuleRef', 'UnknownToken', 'NoPrecForToken', 'UnknownEPP')
@@ -87,7 +94,6 @@ WORDS = {'UnknownRuleRef': 'unknown-rule', 'NoPrecForToken': 'no-precedence', 'M
          'ConversionError': 'section-conversion'}
 UNKNOWN = ('InvalidStartRule', 'UnknownRuleRef', 'UnknownToken', 'UnknownEPP')
 SUGGESTIONS = 20                                   # how many of the errors of a file are compared with its names
-NO_TOKEN = 'if it is a token, declare it by %token'
 STILL_NO_TOKEN = '%left, %right and %nonassoc declare no token: declare it by %token too'
 NO_PRECEDENCE = 'no %left, %right or %nonassoc names it'
 WRITERS = {'json': as_json.line_of, 'github': as_annotation.line_of, 'sarif': as_sarif.line_of}
@@ -112,7 +118,7 @@ class Wrong(Exception):
 
 class Options:
     def __init__(self):
-        self.kind, self.default_kind = None, 'original-noaction'
+        self.kind, self.default_kind = None, None
         self.denies, self.is_quiet, self.stdin_name, self.files = False, False, '-', []
         self.levels = dict.fromkeys(FINDINGS, 'warning') | dict.fromkeys(ALLOWED) | {'start-without-sentence': 'error'}
         self.format, self.columns = 'text', 'characters'
@@ -121,9 +127,9 @@ class Options:
         if option == '--stdin-name':
             self.stdin_name = value
         elif option == '--kind':
-            self.kind = named(value, 'kind', KINDS)
+            self.kind = kind_named(value, 'kind', KINDS)
         elif option == '--default-kind':
-            self.default_kind = named(value, 'default kind', KINDS[:-1])
+            self.default_kind = kind_named(value, 'default kind', KINDS[:-1])
         elif option == '--format':
             self.format = named(value, 'format', FORMATS)
         elif option == '--columns':
@@ -137,6 +143,11 @@ def named(value, what, values):
     if value not in values:
         raise unknown(what, value, value, values)
     return value
+
+
+def kind_named(value, what, kinds):
+    """The word of the kind that a value names."""
+    return SAME.get(value, named(value, what, kinds))
 
 
 def unknown(what, word, name, names):
@@ -188,7 +199,7 @@ class Tally:
             return self.add_errors(options, name, t, refused, None)
         if options.kind in (None, 'section'):
             self.kinds.append(word)
-        tree, errors = errors_of(word.partition('-')[0].capitalize(), t)
+        tree, errors = read_as(word, t)
         if errors:
             return self.add_errors(options, name, t, errors, tree)
         grammar = Grammar(tree)
@@ -199,7 +210,7 @@ class Tally:
 
     def add_errors(self, options, name, t, errors, tree):
         for index, error in enumerate(shown_errors(errors, tree)):
-            self.add_error(options, name, t, error, hint(t, error) or suggestion(error, tree, index < SUGGESTIONS))
+            self.add_error(options, name, t, error, words_on(t, error, tree, index < SUGGESTIONS))
 
     def add_error(self, options, name, t, error, words):
         self.errors += 1
@@ -241,7 +252,7 @@ class Tally:
         self.lines += ''.join(line + '\n' for line in lines)
 
     def summary(self):
-        counts = [(word, self.kinds.count(word)) for word in KINDS[:-1]]
+        counts = [(word, self.kinds.count(word)) for word in KINDS if word not in SAME]
         kinds = ', '.join('%s read as %s' % (counted(n, 'file'), word) for word, n in counts if n)
         return '%s: %s, %s%s\n' % (counted(self.texts, 'file'), counted(self.errors, 'error'),
                                    counted(self.warnings, 'warning'), kinds and '; ' + kinds)
@@ -254,6 +265,8 @@ class Tally:
 
 def error_word(error):
     """The word of an error's kind: mostly the name of the kind, with dashes."""
+    if isinstance(error, BisonFault):
+        return error.word()
     if error.kind in WORDS:
         return WORDS[error.kind]
     name = re.sub('^(Duplicate.*)Declaration$', r'\1', error.kind)
@@ -262,12 +275,21 @@ def error_word(error):
 
 def shown_errors(errors, tree):
     """The errors of a text that are printed: unless one stopped the reading, each fault of its tree."""
+    if any(isinstance(error, BisonFault) for error in errors):
+        return errors
     shown = [error for error in errors if error.kind not in VALIDATION]
     if any(map(stops_reading, errors)):
         return shown
     shown += [fault for fault in every_fault(tree) if fault.kind != 'NoPrecForToken']
     lacking = [p for p in tree.productions if p.precedence is not None and p.precedence not in tree.precedences]
     return shown + [Fault('NoPrecForToken', p.span, p.precedence) for p in lacking]
+
+
+def words_on(t, error, tree, looks_up):
+    """The note on an error, or None."""
+    if isinstance(error, BisonFault):
+        return note_on(t, error, [*tree.rules, *tree.tokens] if looks_up else [])
+    return hint(t, error) or suggestion(error, tree, looks_up)
 
 
 def suggestion(error, tree, looks_up):
@@ -281,23 +303,6 @@ def suggestion(error, tree, looks_up):
     return NO_TOKEN if near is None and error.kind == 'UnknownRuleRef' else near
 
 
-def nearest(unknown, names):
-    """The question whether the nearest of the names is meant, or None if none is near."""
-    most = min((len(unknown) + 2) // 3, len(unknown) - 1)
-    near = [(edits, index, n) for index, n in enumerate(names) if n != unknown for edits in [distance(unknown, n)] if edits <= most]
-    return "did you mean '%s'?" % min(near)[2] if near else None
-
-
-def distance(one, other):
-    """How many characters are inserted, deleted or replaced, at least, to make one text of another."""
-    row = list(range(len(other) + 1))
-    for x in one:
-        before, row[0] = row[0], row[0] + 1
-        for j, y in enumerate(other, 1):
-            before, row[j] = row[j], min(row[j] + 1, row[j - 1] + 1, before + (x != y))
-    return row[-1]
-
-
 def stops_reading(error):
     repeats = error.kind.startswith('Duplicate') and not isinstance(error, HeaderFault)
     return not repeats and error.kind not in VALIDATION and error.kind != 'StorageTooSmall'
@@ -309,9 +314,14 @@ def read_kind(option, default, t):
         return option, []
     values, errors, _ = section(t, False)
     if option is None and not errors and 'yacckind' not in values:
-        return default, []
+        return default or ('bison' if is_bison(t) else 'original-noaction'), []
     kind, errors = named_kind(t)
     return kind and kind.replace('(', '-').rstrip(')').lower(), errors
+
+
+def read_as(word, t):
+    """The tree and the errors of a text that is read as the kind of this word."""
+    return read_bison(t) if word == 'bison' else errors_of(word.partition('-')[0].capitalize(), t)
 
 
 def counted(n, word):

@@ -4,8 +4,8 @@ from .antt import FOLLOWED, NAME, OPEN, Definition, closing
 RESERVED = set("""data record deriving module where use mod pub package open as unfoldable abbrev axiom unfold unfolding
 ruleset mutual infix infixl infixr elim let in do λ ∀ Type 𝕀 𝔽 coe fcoe tcoe hcom com ∨ ∧ → × ↦ | : = _
 ; , . ⟦ ⟧ ⌜ ⌝ ⊔ ( ) { } [ ] @ « » ?""".split())
-# words of the logic that need no import
-KNOWN = set("⊥ Unit tt absurd ¬ 𝓛 V vin vproj Prim refl IsProp IsSet Discrete yes no".split())
+# words of the logic that need no import, and the tactics that prove what a definition has to have, as that of a kind of words
+KNOWN = set("⊥ Unit tt absurd ¬ 𝓛 V vin vproj Prim refl IsProp IsSet Discrete yes no cc omega".split())
 
 
 class Names:
