@@ -2,6 +2,7 @@
 //! may write them. `tools/surface check` sees that each line of docs/SURFACE.txt is here or in the code of rows and
 //! consumers. Nothing here runs. What calls make is returned, since a function that drops it proves how.
 
+pub mod bison;
 pub mod own;
 pub mod paths;
 pub mod programs;

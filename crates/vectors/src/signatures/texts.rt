@@ -1,8 +1,10 @@
 //! What is read of texts.
 
-use cfgrammar::header::{HeaderErrorKind, KindFault, Setting, Value};
-use cfgrammar::yacc::ast::{ASTModificationError, KindSource};
-use cfgrammar::yacc::{AssocKind, Precedence, YaccGrammarErrorKind, YaccGrammarWarning, YaccKind};
+use cfgrammar::header::{HeaderErrorKind, HeaderFault, KindFault, Setting, Value, kind_if_named};
+use cfgrammar::yacc::ast::{ASTModificationError, ASTWithValidityInfo, KindSource};
+use cfgrammar::yacc::{
+    AssocKind, Precedence, YaccGrammarErrorKind, YaccGrammarResult, YaccGrammarWarning, YaccKind,
+};
 use cfgrammar::{ColumnUnit, Location, Positions, Source, Span, Spanned, SpansKind};
 use std::alloc::{AllocError, Global};
 
@@ -12,6 +14,20 @@ pub fn is_named(source: KindSource) -> bool {
         KindSource::Section => true,
         KindSource::Default => false,
     }
+}
+
+/// What a text says as a file of the kind that it names or, if it names none, of the default kind.
+pub fn read_or(
+    alloc: Global,
+    default: YaccKind,
+    text: &str,
+) -> YaccGrammarResult<(ASTWithValidityInfo, KindSource)> {
+    ASTWithValidityInfo::from_str_or(alloc, default, text)
+}
+
+/// The kind that a text names, if it names one, and what follows its section.
+pub fn named_in(alloc: Global, text: &str) -> Result<(Option<YaccKind>, &str), HeaderFault> {
+    kind_if_named(alloc, text)
 }
 
 /// The level of a precedence whose tokens associate.

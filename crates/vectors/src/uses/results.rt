@@ -1,5 +1,6 @@
 //! What these callers return for a text, by their names.
 
+use super::bison::print_bison;
 use super::errors::show_errors;
 use super::findings::show_findings;
 use super::keys::print_indent;
@@ -7,6 +8,7 @@ use super::nullable::print_nullable;
 use super::productions::print_productions;
 use super::repairs::print_repairs;
 use super::tables::print_table;
+use cfgrammar::bison;
 use cfgrammar::header::HeaderFault;
 use cfgrammar::yacc::ast::ASTWithValidityInfo;
 use cfgrammar::yacc::{YaccFault, YaccGrammar, YaccKind, YaccOriginalActionKind};
@@ -32,6 +34,7 @@ fn answer(alloc: Global, call: &str, text: &str) -> Result<String, YaccFault> {
         "show_errors" => Ok(show_errors(alloc, "list.y", text)?),
         "print_indent" => Ok(indent(alloc, text)?),
         "show_findings" => shown_findings(alloc, kind, text),
+        "print_bison" => Ok(printed_bison(alloc, text)?),
         _ => lend(YaccGrammar::<u32>::new(alloc, kind, text), |grammar| {
             Ok(answer_of(alloc, call, grammar)?)
         }),
@@ -58,6 +61,10 @@ fn findings_of(
             Ok(show_findings(alloc, "list.y", text, made)?)
         },
     )
+}
+
+fn printed_bison(alloc: Global, text: &str) -> Result<String, AllocError> {
+    lend(bison::read(alloc, text), |file| print_bison(alloc, file))
 }
 
 fn indent(alloc: Global, text: &str) -> Result<String, AllocError> {
