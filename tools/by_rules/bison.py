@@ -71,6 +71,7 @@ class Tree:
         self.only_precedence = []      # the names in %precedence lists
         self.rules = {}                # name: Rule, in order of the first productions; then %nterm names without a rule
         self.productions = []          # those of `$@N` come before the one that has the action
+        self.unneeded = []             # (name, span) of tokens that no production needs: the end of the text, and Bison's own
         self.programs = None           # the epilogue
 
     def precedence_token(self, production):
@@ -105,6 +106,7 @@ class Reader:
         self.symbols = {('identifier', n): Symbol(True, alias) for n, alias in BUILT_IN.items()}
         self.tokens = {}               # key: span, in order
         self.listed = []               # (key, span) of those in %token lists
+        self.declared_tokens = []      # (key, span, whether its number is 0) of those in lists of tokens and precedences
         self.rules = {}                # key: span, in order of their first productions
         self.nonterminals = {}         # key: span of %nterm names
         self.owners = {}               # the key of an alias: that of its token
@@ -164,6 +166,11 @@ class Reader:
         self.symbol(key).is_token = True
         self.tokens.setdefault(key, span)
 
+    def note_declared(self, key, span):
+        """Notes a token, after which its number may be."""
+        number = self.words[self.next]
+        self.declared_tokens.append((key, span, number.kind == 'number' and number.value == 0))
+
     def is_a_rule(self, word):
         """Says that a symbol is a rule."""
         if self.key(word)[1] in BUILT_IN:
@@ -221,6 +228,7 @@ class Reader:
             key = self.key(word)
             self.is_a_token(key, word.span)
             self.listed.append((key, word.span))
+            self.note_declared(key, word.span)
             self.take('number')
             alias = self.take('string', 'translatable')
             if alias:
@@ -263,6 +271,7 @@ class Reader:
         if word:
             self.is_a_token(self.key(word), word.span)
             self.precedences.append((self.key(word), level, name, word.span))
+            self.note_declared(self.key(word), word.span)
         if word and word.kind != 'string':
             self.take('number')
         return word
@@ -467,6 +476,11 @@ class Names:
         """'token', 'rule', or None for a symbol of which the file says neither."""
         return 'rule' if key[0] == 'inner' else self.reader.symbol(self.resolved(key)).kind
 
+    def is_own(self, key):
+        """Whether the token is one of Bison's own."""
+        kind, value = self.resolved(key)
+        return kind == 'identifier' and value in BUILT_IN
+
     def name(self, key):
         """A literal is its character, unless an identifier has that name; a string without a token keeps its quotes."""
         kind, value = self.resolved(key)
@@ -528,6 +542,7 @@ def tree_of(reader, names, epilogue):
         if name in listed:
             tree.listed_again.append((name, span))
         listed.add(name)
+    tree.unneeded = [(names.name(key), span) for key, span, is_end in reader.declared_tokens if is_end or names.is_own(key)]
     for key, level, name, span in reader.precedences:
         tree.precedences.setdefault(names.name(key), (level, ASSOCIATIVITIES[name], span))
         if name == 'precedence' and names.name(key) not in tree.only_precedence:

@@ -69,6 +69,8 @@ def grammar_lines(tree):
         if token.alias:
             alias = ', alias "%s" %s' % (token.alias[0], at(token.alias[1]))
         yield 'token %s %s%s' % (n, at(token.span), alias)
+    for n, span in tree.unneeded:
+        yield 'unneeded %s %s' % (n, at(span))
     for n, (level, associativity, span) in tree.precedences.items():
         only = ' only' if n in tree.only_precedence else ''
         yield 'precedence %s %s: %d %s%s' % (n, at(span), level, associativity, only)

@@ -7,7 +7,6 @@ from .grammar import Grammar
 from .rendered import visible
 
 # what explains differences
-END = 'only here is the token unused whose number is 0, which is that of the end'
 OWN = 'only here is a token unused that is one of Bison itself'
 NAMED = 'only here is a token useless that a %prec names too'
 LISTED = 'only Bison has a useless rule that only lists such as those of %type name'
@@ -66,10 +65,8 @@ def differences(compared, t):
 
 def of_token(compared, name):
     """Why only the findings say that a token is unused."""
-    if name in ('error', 'YYEOF', 'YYUNDEF'):
+    if name in ('error', 'YYEOF', 'YYUNDEF') or name in {*map(compared.name, compared.bison.own_tokens)}:
         return True, OWN
-    if name in {*map(compared.name, compared.bison.own_tokens)}:
-        return True, END
     if name in {it.precedence for it in compared.tree.productions}:
         return True, NAMED
     return False, "only here is token '%s' unused" % visible(name)

@@ -30,6 +30,7 @@ def read_bison(t):
     tree.start, tree.expect, tree.expectrr, tree.programs = found.start, found.expect, found.expectrr, found.programs
     tree.precedences, tree.declared_again = found.precedences, found.listed_again
     tree.tokens = {name: token.span for name, token in found.tokens.items()}
+    tree.unused = [(True, name, span) for name, span in found.unneeded]
     tree.printed = {name: (token.span, token.alias[0], token.alias[1])
                     for name, token in found.tokens.items() if token.alias}
     for name, rule in found.rules.items():

@@ -21,7 +21,7 @@ use Rattle.bison_tree.specs.declared.piece.Piece.TheVariants.{Symbol, Inner}
 use Rattle.bison_tree.specs.Names.{name_at, names_of}
 use Rattle.bison_tree.specs.Tokens.{lexeme_at, nowhere, span_at, token_names, tokens_of}
 use Rattle.bison_tree.specs.Productions.{action_of, code_at, code_in, code_of, end_after, inner_production, is_code, is_followed, pieces_after, precedence_of, precedences_of, production_items, span_of, symbol_of, word_at}
-use Rattle.bison_tree.specs.Tree.{counts_items, first_start, inners_with, last_expected, listed, named_rule, printed_form, programs_items, rule_in, rules_items, said, said_after, text_in, token_quoted, tree_items}
+use Rattle.bison_tree.specs.Tree.{counts_items, expected_unused, first_start, inners_with, is_unneeded, last_expected, listed, named_rule, printed_form, programs_items, rule_in, rules_items, said, said_after, text_in, token_quoted, tree_items}
 use Rattle.bison_grammar.proofs.ItemSpans.{EachItemSpan}
 
 module _ (text : List ℕ) (words : List Word) (utf8 : IsUtf8 text) (each : All (IsWordAt text) words) where
@@ -116,15 +116,17 @@ module _ (text : List ℕ) (words : List Word) (utf8 : IsUtf8 text) (each : All 
     counts_at : (items : List Item) → All IsItemAt (counts_items words items)
     counts_at items = All-append IsItemAt _ _ (listed_at _ word_span (last_expected items).0) (listed_at _ word_span (last_expected items).1)
 
-    printed_form_at : (token string : ℕ) → All IsItemAt (printed_form words names token string)
-    printed_form_at token string = go (bytes_eq (name_at names token) (name_at names string))
-      where
-        form : tree.Item
-        form = tree.PrintedFormDeclared (word_at words names token) (text_in (lexeme_at words string), span_at words string)
+    one_at_if : (holds : Bool) (item : tree.Item) → IsItemAt item → All IsItemAt (if holds then item ∷ [] else [])
+    one_at_if true item here = one_at item here
+    one_at_if false item here = All-nil IsItemAt
 
-        go : (b : Bool) → All IsItemAt (if b then form ∷ [] else [])
-        go true = one_at form (word_span token, word_span string)
-        go false = All-nil IsItemAt
+    printed_form_at : (token string : ℕ) → All IsItemAt (printed_form words names token string)
+    printed_form_at token string = one_at_if (bytes_eq (name_at names token) (name_at names string))
+        (tree.PrintedFormDeclared (word_at words names token) (text_in (lexeme_at words string), span_at words string)) (word_span token, word_span string)
+
+    unused_at : (symbol : ℕ) → All IsItemAt (expected_unused words names symbol)
+    unused_at symbol = one_at_if (is_unneeded words names symbol)
+        (tree.ExpectedUnused (tree.TokenSymbol (word_at words names symbol))) (word_span symbol)
 
     module _ (is_token : List ℕ → Bool) where
       symbol_at : (piece : Piece) → IsPiece text (symbol_of words names is_token piece).span
@@ -144,9 +146,9 @@ module _ (text : List ℕ) (words : List Word) (utf8 : IsUtf8 text) (each : All 
           ))
 
       said_at : (n : ℕ) (item : Item) → All IsItemAt (said words names is_token n item)
-      said_at n (TokenGiven symbol) = one_at _ (word_span symbol)
+      said_at n (TokenGiven symbol) = All-cons IsItemAt _ (expected_unused words names symbol) (word_span symbol) (unused_at symbol)
       said_at n (AliasGiven token string) = printed_form_at token string
-      said_at n (PrecedenceGiven associativity symbol) = one_at _ (word_span symbol)
+      said_at n (PrecedenceGiven associativity symbol) = All-cons IsItemAt _ (expected_unused words names symbol) (word_span symbol) (unused_at symbol)
       said_at n (LevelEnded associativity) = one_at _ tt
       said_at n (HeadRead symbol) =
           All-cons IsItemAt (tree.RuleBegun (word_at words names symbol)) (named_rule words names symbol ∷ []) (word_span symbol)

@@ -28,7 +28,7 @@ use Rattle.bison_tree.specs.declared.piece.Piece.TheVariants.{Symbol, Inner}
 use Rattle.bison_tree.specs.Names.{name_at, names_of}
 use Rattle.bison_tree.specs.Tokens.{token_names, tokens_of}
 use Rattle.bison_tree.specs.Productions.{inner_production, pieces_after}
-use Rattle.bison_tree.specs.Tree.{counts_items, first_start, inners_with, last_expected, listed, named_rule, printed_form, programs_items, rule_in, rules_items, said, said_after, start_items, token_quoted, tree_items}
+use Rattle.bison_tree.specs.Tree.{counts_items, expected_unused, first_start, inners_with, is_unneeded, last_expected, listed, named_rule, printed_form, programs_items, rule_in, rules_items, said, said_after, start_items, token_quoted, tree_items}
 use Rattle.bison_tree.proofs.NameStarts.{IsNameStart, name_starts}
 
 -- a byte of names, or `$`
@@ -96,11 +96,14 @@ module _ (words : List Word) (items : List Item) (all : All (λ word. BeginsAsNa
     printed_named : (token string : ℕ) → AllName (printed_form words names token string)
     printed_named token string = one_if (bytes_eq (name_at names token) (name_at names string)) _ tt
 
+    unused_named : (symbol : ℕ) → AllName (expected_unused words names symbol)
+    unused_named symbol = one_if (is_unneeded words names symbol) _ tt
+
     module _ (is_token : List ℕ → Bool) where
       said_named : (n : ℕ) (item : Item) → IsWellSorted (sorts_of words) item → AllName (said words names is_token n item)
-      said_named n (TokenGiven symbol) is = one _ tt
+      said_named n (TokenGiven symbol) is = All-cons NamesRule _ (expected_unused words names symbol) tt (unused_named symbol)
       said_named n (AliasGiven token string) is = printed_named token string
-      said_named n (PrecedenceGiven associativity symbol) is = one _ tt
+      said_named n (PrecedenceGiven associativity symbol) is = All-cons NamesRule _ (expected_unused words names symbol) tt (unused_named symbol)
       said_named n (LevelEnded associativity) is = one _ tt
       said_named n (HeadRead symbol) is = All-cons NamesRule _ (named_rule words names symbol ∷ []) tt (one (named_rule words names symbol) (named_at symbol is))
       said_named n (ProductionRead production) is =

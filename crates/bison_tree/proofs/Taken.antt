@@ -17,8 +17,14 @@ or-right true b h = absurd (true≢false h)
 or-right false b h = h
 
 module _ (aliases : List (List ℕ × List ℕ)) (string token : List ℕ) (free : is_taken aliases (string, token) ≡ false) where
+  abbrev is_other : Bool
+  is_other = has_entry token aliases
+
+  abbrev has_other : Bool
+  has_other = list_any (λ alias. bytes_eq token alias.1) aliases
+
   pub no_entry : has_entry string aliases ≡ false
-  no_entry = or-left (has_entry string aliases) (list_any (λ alias. bytes_eq token alias.1) aliases) free
+  no_entry = or-left (has_entry string aliases) (is_other || has_other) free
 
   pub with_free : with_alias aliases (string, token) ≡ aliases ++ (string, token) ∷ []
   with_free = ap (λ b. pushed_unless b aliases (string, token)) free
@@ -26,7 +32,7 @@ module _ (aliases : List (List ℕ × List ℕ)) (string token : List ℕ) (free
   pub tokens-free : with_one (map (λ alias. alias.1) aliases) token ≡ map (λ alias. alias.1) (aliases ++ (string, token) ∷ [])
   tokens-free =
       ap (λ b. pushed_unless b (map second aliases) token)
-      (list_any-map (bytes_eq token) second aliases ∙ or-right (has_entry string aliases) (list_any (λ alias. bytes_eq token alias.1) aliases) free)
+      (list_any-map (bytes_eq token) second aliases ∙ or-right is_other has_other (or-right (has_entry string aliases) (is_other || has_other) free))
       ∙ sym (map-append second aliases ((string, token) ∷ []))
     where
       second : List ℕ × List ℕ → List ℕ

@@ -47,9 +47,11 @@ own_name is_letter _ = []
 abbrev pub own_names : List Word → List (List ℕ)
 own_names words = map (λ word. own_name (λ name. has_name name (letters_of words)) word.lexeme) words
 
--- Names, each with the token that it is another name of. Of a name's tokens and of a token's other names the first counts.
+-- Names, each with the token that it is another name of. Of a name's tokens and of a token's other names the first counts, and a token
+-- by another name has that one.
 abbrev pub is_taken : List (List ℕ × List ℕ) → List ℕ × List ℕ → Bool
-is_taken aliases (string, token) = has_entry string aliases || list_any (λ alias. bytes_eq token alias.1) aliases
+is_taken aliases (string, token) = has_entry string aliases
+    || (has_entry token aliases || list_any (λ alias. bytes_eq token alias.1) aliases)
 
 abbrev pub with_alias : List (List ℕ × List ℕ) → List ℕ × List ℕ → List (List ℕ × List ℕ)
 with_alias aliases alias = pushed_unless (is_taken aliases alias) aliases alias

@@ -1,5 +1,5 @@
 -- The tree of a file: what its items say of its grammar, as the tree's other readers say it.
-use Rattle.std.specs.Prelude.{ℕ, Bool, List, [], ◌∷◌, ◌++◌, map, fold, filter_map, Option, Some, None, if◌then◌else◌}
+use Rattle.std.specs.Prelude.{ℕ, Bool, false, ◌+◌, ◌==◌, ◌||◌, List, [], ◌∷◌, ◌++◌, map, fold, filter_map, Option, Some, None, if◌then◌else◌}
 use Rattle.std.specs.Str.{bytes_eq}
 use Rattle.cfgbase.specs.declared.span.Span.{Span}
 use Rattle.cfgitems.specs.declared.precedence.AssocKind.{AssocKind}
@@ -11,7 +11,7 @@ use Rattle.bison_reader.specs.Items.{Item, TokenGiven, AliasGiven, RuleGiven, Pr
 use Rattle.bison_reader.specs.declared.item.Associativity.{Associativity}
 use Rattle.bison_reader.specs.declared.item.Associativity.TheVariants as associativities
 use Rattle.bison_tree.specs.Names.{name_at, names_of}
-use Rattle.bison_tree.specs.Tokens.{lexeme_at, span_at, tokens_of, token_names}
+use Rattle.bison_tree.specs.Tokens.{is_built_in, lexeme_at, span_at, tokens_of, token_names}
 use Rattle.bison_tree.specs.Productions.{head_at, word_at, inners_after, production_items}
 
 -- in the tree `%precedence` is `%nonassoc`
@@ -33,6 +33,10 @@ number_in _ = 0
 abbrev pub listed : {A B : Type 0} → (A → B) → Option A → List B
 listed f None = []
 listed f (Some a) = f a ∷ []
+
+abbrev pub is_zero : Lexeme → Bool
+is_zero (Number number) = number == 0
+is_zero _ = false
 
 -- the word by which the first `%start` names the start
 abbrev pub first_start : List Item → Option ℕ
@@ -79,6 +83,14 @@ module _ (words : List Word) where
     abbrev pub named_rule : ℕ → tree.Item
     named_rule symbol = tree.RuleNamed (head_at words names symbol)
 
+    -- No production needs the end of the text, which is a token of the number 0 (it stands after the name), and none Bison's own tokens.
+    abbrev pub is_unneeded : ℕ → Bool
+    is_unneeded symbol = is_zero (lexeme_at words (symbol + 1)) || is_built_in (name_at names symbol)
+
+    abbrev pub expected_unused : ℕ → List tree.Item
+    expected_unused symbol = if is_unneeded symbol
+        then tree.ExpectedUnused (tree.TokenSymbol (word_at words names symbol)) ∷ [] else []
+
     -- a string is the printed form of the token that it is another name of
     abbrev pub printed_form : ℕ → ℕ → List tree.Item
     printed_form token string = if bytes_eq (name_at names token) (name_at names string)
@@ -87,9 +99,10 @@ module _ (words : List Word) where
     module _ (is_token : List ℕ → Bool) where
       -- what an item says, if n actions inside of productions precede it
       abbrev pub said : ℕ → Item → List tree.Item
-      said n (TokenGiven symbol) = tree.TokenDeclared (word_at words names symbol) ∷ []
+      said n (TokenGiven symbol) = tree.TokenDeclared (word_at words names symbol) ∷ expected_unused symbol
       said n (AliasGiven token string) = printed_form token string
-      said n (PrecedenceGiven associativity symbol) = tree.PrecedenceDeclared (kind_of associativity) (word_at words names symbol) ∷ []
+      said n (PrecedenceGiven associativity symbol) =
+          tree.PrecedenceDeclared (kind_of associativity) (word_at words names symbol) ∷ expected_unused symbol
       said n (LevelEnded associativity) = tree.LevelEnded (kind_of associativity) ∷ []
       said n (HeadRead symbol) = tree.RuleBegun (word_at words names symbol) ∷ named_rule symbol ∷ []
       said n (ProductionRead production) = production_items words names is_token n production

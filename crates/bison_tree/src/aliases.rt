@@ -1,7 +1,10 @@
 //! Strings that are other names of tokens.
 
 ghost use Rattle.std.specs.Prelude.{◌≡◌, [], map, fold, filter_map, IfOk, OnOk};
+ghost use Rattle.std.specs.List.{list_any};
+ghost use Rattle.std.specs.Str.{bytes_eq};
 ghost use Rattle.std.specs.String.{string_bytes};
+ghost use Rattle.cfgitems.specs.Building.{has_entry};
 ghost use Rattle.bison_reader.specs.Items.{item_view};
 ghost use Rattle.bison_words.specs.Words.{word_view};
 ghost use Rattle.bison_tree.specs.Inner.Views.{IsConsistent, aliases_view};
@@ -54,12 +57,27 @@ impl Aliases {
         Ok(aliases)
     }
 
-    /// Whether the string or the token has another name already.
+    /// Whether this is another name of a token.
+    fn has(&self, name: &str) -> bool
+        ensures { result ≡ has_entry name.now (aliases_view self.now) }
+    {
+        self.of_strings.contains_key(name)
+    }
+
+    /// Whether the token has another name.
+    fn has_token(&self, token: &str) -> bool
+        requires { IsConsistent self.now }
+        ensures { result ≡ list_any (λ alias. bytes_eq token.now alias.1) (aliases_view self.now) }
+    {
+        has_name(&self.tokens, token)
+    }
+
+    /// Whether the string or the token has another name already, or the token is one.
     fn is_taken(&self, string: &str, token: &str) -> bool
         requires { IsConsistent self.now }
         ensures { result ≡ is_taken (aliases_view self.now) (string.now, token.now) }
     {
-        self.of_strings.contains_key(string) || has_name(&self.tokens, token)
+        self.has(string) || self.has(token) || self.has_token(token)
     }
 
     /// Makes the string another name of the token, unless one of the two has another already.

@@ -38,7 +38,7 @@ pub fn span_at(words: &[Word<'_>], word: usize) -> Span
 }
 
 /// Whether a token of this name needs no declaration.
-fn is_built_in(name: &str) -> bool
+pub(crate) fn is_built_in(name: &str) -> bool
     ensures { result ≡ is_built_in name.now }
 {
     name == "error" || name == "YYerror" || name == "YYEOF" || name == "YYUNDEF"

@@ -1,8 +1,8 @@
 //! The tree of a file.
 
-ghost use Rattle.std.specs.Prelude.{◌≡◌, ◌∷◌, [], map, filter_map, length, option_map, IfOk, OnOk};
+ghost use Rattle.std.specs.Prelude.{◌≡◌, ◌+◌, ◌∷◌, [], map, filter_map, length, option_map, IfOk, OnOk};
 ghost use Rattle.cfgitems.specs.Building.{adds};
-ghost use Rattle.cfgitems.specs.Items.{RuleBegun};
+ghost use Rattle.cfgitems.specs.Items.{PrecedenceDeclared, RuleBegun, TokenDeclared};
 ghost use Rattle.cfgitems.specs.Syntax.{syntax_of};
 ghost use Rattle.cfgitems.specs.SyntaxView.{syntax_built, syntax_view};
 ghost use Rattle.bison_reader.specs.Items.{item_view};
@@ -10,15 +10,18 @@ ghost use Rattle.bison_words.specs.Words.{lexeme_view, word_view};
 ghost use Rattle.bison_tree.specs.Inner.Views.{is_token_in, names_in, words_in};
 ghost use Rattle.bison_tree.specs.Names.{names_of};
 ghost use Rattle.bison_tree.specs.Productions.{word_at};
+ghost use Rattle.bison_tree.specs.Tokens.{lexeme_at};
 ghost use Rattle.std.specs.String.{string_bytes};
-ghost use Rattle.bison_tree.specs.Tree.{first_start, inners_with, kind_of, last_expected, number_at, number_in};
-ghost use Rattle.bison_tree.specs.Tree.{printed_form, rule_in, said, said_after, start_items, text_in, token_quoted};
-ghost use Rattle.bison_tree.specs.Tree.{counts_items, named_rule, programs_items, rules_items, tree_items};
+ghost use Rattle.bison_tree.specs.Tree.{counts_items, expected_unused, first_start, inners_with};
+ghost use Rattle.bison_tree.specs.Tree.{is_unneeded, is_zero, kind_of, last_expected, named_rule, number_at, number_in};
+ghost use Rattle.bison_tree.specs.Tree.{printed_form, programs_items};
+ghost use Rattle.bison_tree.specs.Tree.{rule_in, rules_items, said, said_after, start_items, text_in, token_quoted};
+ghost use Rattle.bison_tree.specs.Tree.{tree_items};
 
 use crate::aliases::name_at;
 use crate::productions::add_production;
 use crate::symbols::Symbols;
-use crate::tokens::{lexeme_at, token_names, tokens_of};
+use crate::tokens::{is_built_in, lexeme_at, token_names, tokens_of};
 use bison_reader::{Associativity, FileText, Item};
 use bison_words::{Lexeme, Word};
 use cfgbase::Span;
@@ -56,6 +59,16 @@ pub fn number_in(lexeme: Lexeme<'_>) -> usize
     }
 }
 
+/// Whether this is the number 0.
+fn is_zero(lexeme: Lexeme<'_>) -> bool
+    ensures { result ≡ is_zero (lexeme_view lexeme.entry) }
+{
+    match lexeme {
+        Lexeme::Number(number) => number == 0,
+        _ => false,
+    }
+}
+
 #[tactic(auto, unfolding(cfgitems::specs::Building::adds), using(crate::proofs::Adds::adds_append))]
 impl<'a> Symbols<'a> {
     /// The number that a word is, and its span.
@@ -79,6 +92,70 @@ impl<'a> Symbols<'a> {
             builder.quote_token(alloc, self.word(*token))?;
         }
         Ok(())
+    }
+
+    /// Whether the number 0 stands after this word.
+    fn is_end(self, word: usize) -> bool
+        ensures { result ≡ is_zero (lexeme_at (words_in self.entry) (word + 1)) }
+    {
+        match word.checked_add(1) {
+            Some(next) => is_zero(lexeme_at(self.words, next)),
+            None => false,
+        }
+    }
+
+    /// Whether no production needs a token: the end of the text, and Bison's own.
+    fn is_unneeded(self, symbol: usize) -> bool
+        ensures { result ≡ is_unneeded (words_in self.entry) (names_in self.entry) symbol }
+    {
+        self.is_end(symbol) || is_built_in(name_at(self.names, symbol))
+    }
+
+    /// Adds that a token is expected to be unused, if no production needs it.
+    fn add_expected_unused(
+        self,
+        alloc: Global,
+        builder: &mut AstBuilder,
+        symbol: usize,
+    ) -> Result<(), AllocError>
+        ensures { OnOk result (syntax_built builder.new ≡ adds (syntax_built builder.old)
+            (expected_unused (words_in self.entry) (names_in self.entry) symbol)) }
+    {
+        if self.is_unneeded(symbol) {
+            builder.expect_unused_token(alloc, self.word(symbol))?;
+        }
+        Ok(())
+    }
+
+    /// Adds a token.
+    fn add_token(
+        self,
+        alloc: Global,
+        builder: &mut AstBuilder,
+        symbol: usize,
+    ) -> Result<(), AllocError>
+        ensures { OnOk result (syntax_built builder.new ≡ adds (syntax_built builder.old)
+            (TokenDeclared (word_at (words_in self.entry) (names_in self.entry) symbol)
+            ∷ expected_unused (words_in self.entry) (names_in self.entry) symbol)) }
+    {
+        builder.declare_token(alloc, self.word(symbol))?;
+        self.add_expected_unused(alloc, builder, symbol)
+    }
+
+    /// Adds a token of a level of precedences.
+    fn add_precedence(
+        self,
+        alloc: Global,
+        builder: &mut AstBuilder,
+        associativity: Associativity,
+        symbol: usize,
+    ) -> Result<(), AllocError>
+        ensures { OnOk result (syntax_built builder.new ≡ adds (syntax_built builder.old)
+            (PrecedenceDeclared (kind_of associativity) (word_at (words_in self.entry) (names_in self.entry) symbol)
+            ∷ expected_unused (words_in self.entry) (names_in self.entry) symbol)) }
+    {
+        builder.declare_precedence(alloc, kind_of(associativity), self.word(symbol))?;
+        self.add_expected_unused(alloc, builder, symbol)
     }
 
     /// Adds the string as the printed form of the token, if it is another name of it.
@@ -129,10 +206,10 @@ impl<'a> Symbols<'a> {
             ≡ inners_with (length inners.old.items) (item_view item.now)) }
     {
         match item {
-            Item::Token(symbol) => builder.declare_token(alloc, self.word(*symbol)),
+            Item::Token(symbol) => self.add_token(alloc, builder, *symbol),
             Item::Alias { token, string } => self.add_printed_form(alloc, builder, *token, *string),
             Item::Precedence(associativity, symbol) => {
-                builder.declare_precedence(alloc, kind_of(*associativity), self.word(*symbol))
+                self.add_precedence(alloc, builder, *associativity, *symbol)
             }
             Item::LevelEnd(associativity) => builder.end_level(kind_of(*associativity)),
             Item::Head(symbol) => self.add_rule(alloc, builder, *symbol),
