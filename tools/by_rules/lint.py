@@ -206,7 +206,7 @@ class Tally:
         if not grammar.fits(GREATEST):
             return self.add_errors(options, name, t, [Fault('StorageTooSmall', (0, 0))], tree)
         for finding in findings_of(t, tree, grammar, is_printed):
-            # Files of Bison have no %expect-unused: only the tokens that are the end of the text may be unused there.
+            # Files of Bison have no %expect-unused: only tokens that no production needs are expected to be unused there.
             if word != 'bison' or finding.kind != 'NeedlessExpectUnused':
                 self.add_finding(options, name, t, finding)
 
@@ -231,7 +231,7 @@ class Tally:
 
     def add_finding(self, options, name, t, finding):
         word = re.sub('(?<=.)[A-Z]', lambda capital: '-' + capital.group(), finding.kind).lower()
-        level = options.levels[word]
+        level = None if is_allowed(t, word, finding.spans[0][0]) else options.levels[word]
         self.errors += level == 'error'
         self.warnings += level == 'warning'
         if level and options.format in WRITERS:
@@ -263,6 +263,13 @@ class Tally:
         if self.faults:
             return 2
         return 1 if self.errors or denies and self.warnings else 0
+
+
+def is_allowed(t, word, offset):
+    """Whether a comment in the line or in the line before allows findings of this word there."""
+    number = t.count(b'\n', 0, offset)
+    lines = t.split(b'\n')[max(number - 1, 0):number + 1]
+    return any(line.partition(b'cfglint-allow ')[2].startswith(word.encode()) for line in lines)
 
 
 def error_word(error):

@@ -4,6 +4,7 @@ pub mod ShownErrors
 pub mod Signs
 pub mod BisonNotes
 pub mod ReportedErrors
+pub mod Allowed
 pub mod ReportedFindings
 pub mod ReportedLines
 pub mod Readings

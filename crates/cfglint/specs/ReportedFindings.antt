@@ -9,20 +9,25 @@ use Rattle.finding_kinds.specs.declared.levels.Level.TheVariants.{Allow, Warn, D
 use Rattle.finding_kinds.specs.declared.levels.Levels.{Levels}
 use Rattle.finding_kinds.specs.FindingKinds.{level_of, word_of}
 use Rattle.cfgfindings.specs.Shown.{ShownFinding, spanskind_of}
+use Rattle.cfglint.specs.Allowed.{is_allowed}
 
 -- a finding that is reported, as an error or as a warning
 pub record Reported : Type 0 where
   pub finding : ShownFinding
   pub is_error : Bool
 
--- the findings that are reported with these levels
+-- a finding with this level, as it is reported, if it is
 abbrev pub reported_at : Level → ShownFinding → List Reported
 reported_at Allow finding = []
 reported_at Warn finding = record { finding = finding; is_error = false } ∷ []
 reported_at Deny finding = record { finding = finding; is_error = true } ∷ []
 
-abbrev pub reported_by : Levels → List ShownFinding → List Reported
-reported_by levels findings = flat_map (λ (finding : ShownFinding). reported_at (level_of levels finding.kind) finding) findings
+-- what becomes of a finding about the text: with its kind's level, unless a comment allows it
+abbrev pub level_in : List ℕ → Levels → ShownFinding → Level
+level_in text levels finding = if is_allowed text finding then Allow else level_of levels finding.kind
+
+abbrev pub reported_by : List ℕ → Levels → List ShownFinding → List Reported
+reported_by text levels findings = flat_map (λ (finding : ShownFinding). reported_at (level_in text levels finding) finding) findings
 
 -- the message of a finding: with its severity, and the word of its kind
 abbrev pub finding_message : Reported → List ℕ

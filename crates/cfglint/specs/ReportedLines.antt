@@ -50,9 +50,10 @@ module _ (format : Format) (unit : ColumnUnit) (name text : List ℕ) where
       AreErrorLines (noted_errors text (option_map_or names_of syntax no_names) (shown_errors syntax all)) reported.lines
       × (reported.errors ≡ length (shown_errors syntax all)) × (reported.warnings ≡ 0)
 
-  -- the findings about its grammar, given its syntax and its numbers, with these levels; those that are no errors are warnings
+  -- the findings about its grammar, given its syntax and its numbers, with these levels but for those that comments allow; those
+  -- that are no errors are warnings
   abbrev pub ReportsFindings : Levels → Syntax → Numbered → Printed → Type 0
   ReportsFindings levels s g reported = (all : List ShownFinding) × AreFindings text s g all
-      × AreFindingLines (reported_by levels all) reported.lines
-      × (reported.errors ≡ count_by (λ (finding : Reported). finding.is_error) (reported_by levels all))
-      × (reported.errors + reported.warnings ≡ length (reported_by levels all))
+      × AreFindingLines (reported_by text levels all) reported.lines
+      × (reported.errors ≡ count_by (λ (finding : Reported). finding.is_error) (reported_by text levels all))
+      × (reported.errors + reported.warnings ≡ length (reported_by text levels all))

@@ -59,7 +59,7 @@ impl FileReporter<'_> {
             text.now self.now.options.levels (syntax ast.now) grammar.now) }
     {
         let all = findings(alloc, text, ast, grammar)?;
-        let reported = reported_findings(alloc, &all, &self.options.levels)?;
+        let reported = reported_findings(alloc, text, &all, &self.options.levels)?;
         let lines = self.finding_lines(alloc, text, &reported)?;
         let errors = error_count(&reported);
         Ok(Report {

@@ -1,6 +1,7 @@
 //! The program `cfglint` as a library: what is reported of a text, and a run of the program.
 #![tactic(auto)]
 
+mod allowed;
 mod bison;
 mod bison_notes;
 mod error_words;

@@ -2,8 +2,10 @@
 
 ghost use Rattle.std.specs.Prelude.{◌≡◌, IfOk, string_bytes};
 ghost use Rattle.std.specs.List.{count_by};
-ghost use Rattle.cfglint.specs.ReportedFindings.{finding_lines, reported_by};
+ghost use Rattle.cfglint.specs.Allowed.{AreOf};
+ghost use Rattle.cfglint.specs.ReportedFindings.{finding_lines, level_in, reported_by};
 
+use crate::allowed::Allowances;
 use cfgfindings::Finding;
 use cfgjson::{Diagnosed, Diagnostic};
 use cfgrammar::{ColumnUnit, Source, Span, Spanned, SpansKind};
@@ -76,17 +78,19 @@ impl Diagnosed for ReportedFinding<'_> {
     }
 }
 
-/// The findings that are reported with these levels, in order.
+/// The findings about a text that are reported with these levels, in order: those that no comment allows.
 pub(crate) fn reported_findings<'a>(
     alloc: Global,
+    text: &str,
     findings: &'a [Finding],
     levels: &Levels,
 ) -> Result<Vec<ReportedFinding<'a>>, AllocError>
-    ensures { IfOk result (λ reported. reported.items ≡ reported_by levels.now findings.now) }
+    ensures { IfOk result (λ reported. reported.items ≡ reported_by text.now levels.now findings.now) }
 {
+    let allowances = Allowances::of(alloc, text)?;
     let mut reported = Vec::new(alloc);
     for finding in findings {
-        let is_error = match levels.of(finding.kind()) {
+        let is_error = match level_of(text, &allowances, levels, finding) {
             Level::Allow => continue,
             Level::Warn => false,
             Level::Deny => true,
@@ -94,6 +98,18 @@ pub(crate) fn reported_findings<'a>(
         reported.push(ReportedFinding { finding, is_error })?;
     }
     Ok(reported)
+}
+
+/// What becomes of a finding about the text.
+fn level_of(text: &str, allowances: &Allowances<'_>, levels: &Levels, finding: &Finding) -> Level
+    requires { AreOf text.now allowances.now }
+    ensures { result ≡ level_in text.now levels.now finding.now }
+{
+    if allowances.cover(text, finding) {
+        Level::Allow
+    } else {
+        levels.of(finding.kind())
+    }
 }
 
 /// The findings as people read them.

@@ -9,8 +9,8 @@ returns c =
     let name = c.args.self.now.name.now in
     let text = c.args.text.now in
     let all = c.in_ok-all.all.items in
-    let shown : List Reported = reported_by c.args.self.now.options.levels all in
-    let are : c.in_ok-reported.reported.items ≡ shown = c.in_ok-reported.ensures ∙ ap (reported_by c.args.self.now.options.levels) c.deref.ensures.value in
+    let shown : List Reported = reported_by text c.args.self.now.options.levels all in
+    let are : c.in_ok-reported.reported.items ≡ shown = c.in_ok-reported.ensures ∙ ap (reported_by text c.args.self.now.options.levels) c.deref.ensures.value in
     let lines = subst (λ (all : List Reported). AreFindingLines c.args.self.now.options.format c.args.self.now.options.columns name text all (string_bytes c.in_ok-lines.lines))
     (c.deref-2.ensures.value ∙ are) c.in_ok-lines.ensures in
     let errors : c.error_count-errors.result ≡ count_by (λ (reported : Reported). reported.is_error) shown =
