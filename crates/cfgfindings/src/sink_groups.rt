@@ -6,8 +6,8 @@ ghost use Rattle.cfgrammar.specs.Accessors.{IsSymbolWithin};
 ghost use Rattle.cfgrammar.specs.CyclicGroups.{AreGroups};
 ghost use Rattle.cfgrammar.specs.NumberedSymbols.{sym_of};
 ghost use Rattle.cfgrammar.specs.StepLists.{AreWithin, HasStep};
-ghost use Rattle.cfgfindings.specs.Inner.SinkGroups.{AreFirsts, AreGroupOf, AreNeeds, AreNeedsBelow, IsSet, LeadTo, Puts};
-ghost use Rattle.cfgfindings.specs.Inner.SinkGroups.{AllLeadTo, IsNeededIn, IsMarked, NeedsBy};
+ghost use Rattle.cfgfindings.specs.Inner.SinkGroups.{AllLeadTo, AreFirsts, AreGroupOf, AreNeeds, AreNeedsBelow};
+ghost use Rattle.cfgfindings.specs.Inner.SinkGroups.{IsMarked, IsNeededIn, IsSet, LeadTo, NeedsBy, Puts};
 
 use crate::sentences::Unproductive;
 use cfgrammar::laws::cyclic_rules_are_in_one_group;

@@ -60,8 +60,8 @@ fn unproductive_name<'a>(unproductive: &'a Unproductive<'_>, number: usize) -> O
     Some(grammar.rule_name_str(rule))
 }
 
-/// Whether the rule, which has this group, is in a sink group and its first rule of the file, and the group doesn't have
-/// the start rule.
+/// Whether the rule, which has this group, is in a sink group and its first rule of the file, and the group doesn't
+/// have the start rule.
 fn is_first_of_sink_group(
     grammar: &YaccGrammar<u32>,
     ast: &GrammarAST,

@@ -4,8 +4,8 @@ ghost use Rattle.std.specs.Prelude.{◌≡◌, ◌++◌, IfOk, OnOk, codes, map,
 ghost use Rattle.std.specs.List.{flat_map};
 ghost use Rattle.cfgnear.specs.Nearest.{nearest};
 ghost use Rattle.cfglint_shell.specs.Inner.{usage_error_view};
-ghost use Rattle.cfglint_shell.specs.Requests.{choice, listed_names, option_name, option_named, option_part, unknown_text};
-ghost use Rattle.cfglint_shell.specs.Requests.{usage, usage_error_text};
+ghost use Rattle.cfglint_shell.specs.Requests.{choice, listed_names, option_name, option_named, option_part};
+ghost use Rattle.cfglint_shell.specs.Requests.{unknown_text, usage, usage_error_text};
 
 use cfgnear::nearest;
 use cfgrammar::Visible;

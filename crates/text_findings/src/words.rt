@@ -21,7 +21,8 @@ pub enum Words {
 impl Words {
     /// The word with this number in the list, if it has so many.
     pub fn get(self, ast: &GrammarAST, number: usize) -> Option<(&str, Span)>
-        ensures { option_map (λ word. record { name = word.0.now; span = word.1 }) result ≡ word_at self (syntax ast.now) number }
+        ensures { option_map (λ word. record { name = word.0.now; span = word.1 }) result
+            ≡ word_at self (syntax ast.now) number }
     {
         match self {
             Words::Tokens => token_at(ast, number),
@@ -33,7 +34,8 @@ impl Words {
 
 /// The token with this number, where it first occurs.
 pub fn token_at(ast: &GrammarAST, number: usize) -> Option<(&str, Span)>
-    ensures { option_map (λ word. record { name = word.0.now; span = word.1 }) result ≡ token_at (syntax ast.now) number }
+    ensures { option_map (λ word. record { name = word.0.now; span = word.1 }) result
+        ≡ token_at (syntax ast.now) number }
 {
     let Some(name) = ast.tokens().get_index(number) else {
         return None;
@@ -46,7 +48,8 @@ pub fn token_at(ast: &GrammarAST, number: usize) -> Option<(&str, Span)>
 
 /// The token with this number among those that are given a precedence, where it is first given one.
 fn precedence_at(ast: &GrammarAST, number: usize) -> Option<(&str, Span)>
-    ensures { option_map (λ word. record { name = word.0.now; span = word.1 }) result ≡ precedence_at (syntax ast.now) number }
+    ensures { option_map (λ word. record { name = word.0.now; span = word.1 }) result
+        ≡ precedence_at (syntax ast.now) number }
 {
     let Some((name, (_, span))) = ast.precs().get_index(number) else {
         return None;
@@ -56,7 +59,8 @@ fn precedence_at(ast: &GrammarAST, number: usize) -> Option<(&str, Span)>
 
 /// The repeated token with this number, where it is repeated.
 fn repeated_token_at(ast: &GrammarAST, number: usize) -> Option<(&str, Span)>
-    ensures { option_map (λ word. record { name = word.0.now; span = word.1 }) result ≡ slice_get (syntax ast.now).repeated_tokens number }
+    ensures { option_map (λ word. record { name = word.0.now; span = word.1 }) result
+        ≡ slice_get (syntax ast.now).repeated_tokens number }
 {
     let Some((name, span)) = ast.repeated_tokens().get(number) else {
         return None;
