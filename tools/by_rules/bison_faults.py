@@ -60,6 +60,9 @@ SUGGESTED = ('%token', '%nterm', '%type', '%left', '%right', '%nonassoc', '%prec
              '%token-table', '%default-prec', '%no-default-prec', '%glr-parser', '%pure-parser', '%error-verbose',
              '%yacc')
 NO_TOKEN = 'if it is a token, declare it by %token'
+# what would end a word that has no end
+CLOSING = {'IncompleteComment': "'*/'", 'IncompleteLiteral': 'quote', 'IncompleteString': 'quote', 'IncompleteTag': "'>'",
+           'IncompleteName': "']'", 'IncompleteCode': "'}'", 'IncompletePrologue': "'%}'"}
 
 
 class BisonFault(Fault):
@@ -85,6 +88,8 @@ def note_on(t, error, names):
     covered = t[slice(*error.span)]
     if error.kind == 'Unexpected':
         return 'found ' + found(covered)
+    if error.kind in CLOSING:
+        return 'no %s closes it' % CLOSING[error.kind]
     word = covered.decode('utf-8')
     if error.kind == 'UnknownDirective':
         return nearest(word, SUGGESTED)

@@ -1,6 +1,7 @@
 -- The note on an error of a Bison file: what was found, or which name is probably meant.
 use Rattle.std.specs.Prelude.{ℕ, Bool, ◌==◌, List, [], ◌∷◌, ◌++◌, codes, drop, length, map, slice_range, take, Option, Some, None, if◌then◌else◌, unwrap_or}
 use Rattle.std.specs.List.{starts_with}
+use Rattle.std.specs.Option.{option_map_or}
 use Rattle.cfgrammar.specs.BisonError.{Error}
 use Rattle.cfgrammar.specs.BisonErrorKind.{ErrorKind}
 use Rattle.cfgrammar.specs.BisonErrorKind.TheVariants.{InvalidStart, Unexpected, UnknownSymbol, Word}
@@ -8,7 +9,7 @@ use Rattle.cfgrammar.specs.BisonErrorSpans.{spans_of, spanskind_of}
 use Rattle.cfgrammar.specs.BisonErrorTexts.{error_text}
 use Rattle.cfgrammar.specs.BisonErrorWords.{error_word}
 use Rattle.cfgrammar.specs.BisonWordFaultKind.{WordFaultKind}
-use Rattle.cfgrammar.specs.BisonWordFaultKind.TheVariants.{UnknownDirective}
+use Rattle.cfgrammar.specs.BisonWordFaultKind.TheVariants.{IncompleteCode, IncompleteComment, IncompleteLiteral, IncompleteName, IncompletePrologue, IncompleteString, IncompleteTag, UnknownDirective}
 use Rattle.cfglint.specs.ReportedErrors.{NotedError}
 use Rattle.cfglint.specs.Suggestions.{Names, most_suggestions, no_names, question_of}
 
@@ -42,10 +43,27 @@ found_note word = codes "found " ++ unwrap_or (long_word word) (codes "'" ++ (wo
 abbrev pub symbol_note : Names → List ℕ → List ℕ
 symbol_note names name = unwrap_or (question_of names.symbols name) (codes "if it is a token, declare it by %token")
 
+-- what would end a word that has no end
+abbrev pub closing : WordFaultKind → Option (List ℕ)
+closing IncompleteComment = Some (codes "'*/'")
+closing IncompleteLiteral = Some (codes "quote")
+closing IncompleteString = Some (codes "quote")
+closing IncompleteTag = Some (codes "'>'")
+closing IncompleteName = Some (codes "']'")
+closing IncompleteCode = Some (codes "'}'")
+closing IncompletePrologue = Some (codes "'%}'")
+closing _ = None
+
+abbrev pub closing_note : List ℕ → List ℕ
+closing_note end = codes "no " ++ (end ++ codes " closes it")
+
+abbrev pub directive_note : WordFaultKind → List ℕ → Option (List ℕ)
+directive_note UnknownDirective word = question_of directive_names word
+directive_note _ word = None
+
 -- the note on a fault in a word, and on an error of this kind whose span has this text
 abbrev pub fault_note : WordFaultKind → List ℕ → Option (List ℕ)
-fault_note UnknownDirective word = question_of directive_names word
-fault_note _ word = None
+fault_note fault word = option_map_or (λ end. Some (closing_note end)) (closing fault) (directive_note fault word)
 
 abbrev pub note_at : Names → ErrorKind → List ℕ → Option (List ℕ)
 note_at names (Unexpected expected) word = Some (found_note word)

@@ -2,7 +2,8 @@
 
 ghost use Rattle.std.specs.Prelude.{◌≡◌, IfOk, option_map, slice_range, string_bytes};
 ghost use Rattle.cfgrammar.specs.TextSpans.{IsPiece};
-ghost use Rattle.cfglint.specs.BisonNotes.{begins_with, bison_note, fault_note, found_note, long_word, symbol_note};
+ghost use Rattle.cfglint.specs.BisonNotes.{begins_with, bison_note, closing, directive_note, fault_note, found_note};
+ghost use Rattle.cfglint.specs.BisonNotes.{long_word, symbol_note};
 
 use crate::suggestion::{Names, question_of};
 use cfgrammar::Span;
@@ -37,6 +38,35 @@ pub(crate) fn note_on(
 /// The note on a fault in a word, if it has one.
 fn fault_note(alloc: Global, fault: WordFaultKind, word: &str) -> Result<Option<String>, AllocError>
     ensures { IfOk result (λ hint. option_map (λ words. string_bytes words) hint ≡ fault_note fault word.now) }
+{
+    match closing(fault) {
+        Some(end) => Ok(Some(format!(in alloc; "no {end} closes it")?)),
+        None => directive_note(alloc, fault, word),
+    }
+}
+
+/// What would end a word that has no end.
+fn closing(fault: WordFaultKind) -> Option<&'static str>
+    ensures { option_map (λ end. end.now) result ≡ closing fault }
+{
+    match fault {
+        WordFaultKind::IncompleteComment => Some("'*/'"),
+        WordFaultKind::IncompleteLiteral | WordFaultKind::IncompleteString => Some("quote"),
+        WordFaultKind::IncompleteTag => Some("'>'"),
+        WordFaultKind::IncompleteName => Some("']'"),
+        WordFaultKind::IncompleteCode => Some("'}'"),
+        WordFaultKind::IncompletePrologue => Some("'%}'"),
+        _ => None,
+    }
+}
+
+/// The note on a misspelled directive, if the word is one.
+fn directive_note(
+    alloc: Global,
+    fault: WordFaultKind,
+    word: &str,
+) -> Result<Option<String>, AllocError>
+    ensures { IfOk result (λ hint. option_map (λ words. string_bytes words) hint ≡ directive_note fault word.now) }
 {
     match fault {
         WordFaultKind::UnknownDirective => question_of(alloc, &DIRECTIVES, word),
