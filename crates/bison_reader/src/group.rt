@@ -7,7 +7,7 @@ ghost use Rattle.bison_reader.specs.Groups.{is_symbol};
 use crate::sort::{Declaration, Sort};
 
 /// What may be at some place.
-#[derive(Clone, Copy, Debug)]
+#[derive(Clone, Copy)]
 pub enum Group {
     /// An identifier that isn't the name of a rule before its colon.
     Identifier,

@@ -15,7 +15,7 @@ pub enum Associativity {
 }
 
 /// An item.
-#[derive(Debug, Drop)]
+#[derive(Drop)]
 pub enum Item {
     /// A declaration says that this symbol is a token.
     Token(usize),
@@ -47,7 +47,7 @@ pub enum Item {
 }
 
 /// A production without faults: its rule's name, the word at which it begins, and its parts.
-#[derive(Debug, Drop)]
+#[derive(Drop)]
 pub struct Production {
     pub rule: usize,
     pub start: usize,
@@ -55,14 +55,14 @@ pub struct Production {
 }
 
 /// A part of a production: its main word, and its last one.
-#[derive(Clone, Copy, Debug)]
+#[derive(Clone, Copy)]
 pub struct Part {
     pub kind: PartKind,
     pub word: usize,
     pub last: usize,
 }
 
-#[derive(Clone, Copy, Debug)]
+#[derive(Clone, Copy)]
 pub enum PartKind {
     Symbol,
     /// Code; its main word is the code.

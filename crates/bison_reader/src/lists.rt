@@ -13,7 +13,7 @@ use crate::sort::Sort;
 use std::alloc::AllocError;
 
 /// What a list of symbols, with tags between them, declares.
-#[derive(Clone, Copy, Debug)]
+#[derive(Clone, Copy)]
 pub(crate) enum Listed {
     /// `%token`.
     Tokens,

@@ -17,7 +17,7 @@ use bison_words::{Words, read_words};
 use std::alloc::{AllocError, Global};
 
 /// What is read of a text.
-#[derive(Debug, Drop)]
+#[derive(Drop)]
 pub struct FileText<'a> {
     /// Its words, the faults in them, and what follows the second `%%`.
     pub words: Words<'a>,

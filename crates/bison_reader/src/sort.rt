@@ -3,7 +3,7 @@
 use crate::item::Associativity;
 
 /// What a word is, without its text.
-#[derive(Clone, Copy, Debug)]
+#[derive(Clone, Copy)]
 pub enum Sort {
     Identifier,
     /// A character between single quotes.
@@ -42,7 +42,7 @@ pub enum Sort {
 }
 
 /// What a directive declares, by what follows it.
-#[derive(Clone, Copy, Debug)]
+#[derive(Clone, Copy)]
 pub enum Declaration {
     /// `%token`, `%term`.
     Tokens,
@@ -79,7 +79,7 @@ pub enum Declaration {
 }
 
 /// A directive of a production.
-#[derive(Clone, Copy, Debug)]
+#[derive(Clone, Copy)]
 pub enum Modifier {
     /// `%prec`.
     Precedence,

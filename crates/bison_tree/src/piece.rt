@@ -1,7 +1,7 @@
 //! What the parts of a production become.
 
 /// A symbol of a production.
-#[derive(Clone, Copy, Debug)]
+#[derive(Clone, Copy)]
 pub enum Piece {
     /// The symbol of this word.
     Symbol(usize),

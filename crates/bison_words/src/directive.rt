@@ -5,7 +5,7 @@ ghost use Rattle.bison_words.specs.Directives.{named, directive_named, takes_equ
 ghost use Rattle.bison_words.specs.Inner.Directives.{shown_row};
 
 /// A directive: what the name after a `%` says.
-#[derive(Clone, Copy, Debug, PartialEq, Eq)]
+#[derive(Clone, Copy)]
 pub enum Directive {
     Token,
     Term,

@@ -4,14 +4,14 @@ use crate::directive::Directive;
 use cfgbase::Span;
 
 /// Code: its text without white space around it, and a span that begins after the brace and is as long as that text.
-#[derive(Clone, Copy, Debug)]
+#[derive(Clone, Copy)]
 pub struct Code<'a> {
     pub text: &'a str,
     pub span: Span,
 }
 
 /// What a word is.
-#[derive(Clone, Copy, Debug)]
+#[derive(Clone, Copy)]
 pub enum Lexeme<'a> {
     /// A letter, `_` or `.`, then letters, digits, `_`, `.` and `-`.
     Identifier(&'a str),
@@ -52,7 +52,7 @@ pub enum Lexeme<'a> {
 }
 
 /// A word, and its span.
-#[derive(Clone, Copy, Debug)]
+#[derive(Clone, Copy)]
 pub struct Word<'a> {
     pub lexeme: Lexeme<'a>,
     pub span: Span,
@@ -94,14 +94,14 @@ pub enum WordFaultKind {
 }
 
 /// A fault in a word, and where it is.
-#[derive(Clone, Copy, Debug, PartialEq, Eq)]
+#[derive(Clone, Copy)]
 pub struct WordFault {
     pub kind: WordFaultKind,
     pub span: Span,
 }
 
 /// The words of a text, the faults in them, and what follows the second `%%`.
-#[derive(Debug, Drop)]
+#[derive(Drop)]
 pub struct Words<'a> {
     pub words: Vec<Word<'a>>,
     pub faults: Vec<WordFault>,
