@@ -23,8 +23,8 @@ module _ {whole : List ℕ} {T : List ℕ → ℕ → Type 0} {A : Type 0} where
   pub gives_leads : {a : A} → Leads whole T T (Exactly (read.gives a))
   gives_leads = record { gets = λ text done t. gives_gets t }
 
-  pub then_leads : {T1 T' : List ℕ → ℕ → Type 0} {B : Type 0} {G : List ℕ → Read Item ⊥ B → Type 0} {H : B → List ℕ → Read Item ⊥ A → Type 0}
-      → Leads whole T T1 G → ((b : B) → Leads whole T1 T' (H b)) → Leads whole T T' (Then G H)
+  pub then_leads : {Next T' : List ℕ → ℕ → Type 0} {B : Type 0} {G : List ℕ → Read Item ⊥ B → Type 0} {H : B → List ℕ → Read Item ⊥ A → Type 0}
+      → Leads whole T Next G → ((b : B) → Leads whole Next T' (H b)) → Leads whole T T' (Then G H)
   then_leads p q = record { gets = λ text done t. then_gets (weaker_gets (λ b rest done t. (q b).gets rest done t) (p.gets text done t)) }
 
   pub choice_leads : {T' : List ℕ → ℕ → Type 0} {test : List ℕ → Bool} {G H : List ℕ → Read Item ⊥ A → Type 0}
@@ -32,39 +32,39 @@ module _ {whole : List ℕ} {T : List ℕ → ℕ → Type 0} {A : Type 0} where
   choice_leads p q = record { gets = λ text done t. choice_gets (p.gets text done t) (q.gets text done t) }
 
   -- from what has more, and to what has less
-  pub sooner_leads : {T0 T' : List ℕ → ℕ → Type 0} {G : List ℕ → Read Item ⊥ A → Type 0}
-      → ((text : List ℕ) (done : ℕ) → T0 text done → T text done) → Leads whole T T' G → Leads whole T0 T' G
+  pub sooner_leads : {Sooner T' : List ℕ → ℕ → Type 0} {G : List ℕ → Read Item ⊥ A → Type 0}
+      → ((text : List ℕ) (done : ℕ) → Sooner text done → T text done) → Leads whole T T' G → Leads whole Sooner T' G
   sooner_leads h p = record { gets = λ text done t. p.gets text done (h text done t) }
 
-  pub later_leads : {T' T2 : List ℕ → ℕ → Type 0} {G : List ℕ → Read Item ⊥ A → Type 0}
-      → ((text : List ℕ) (done : ℕ) → T' text done → T2 text done) → Leads whole T T' G → Leads whole T T2 G
+  pub later_leads : {T' Later : List ℕ → ℕ → Type 0} {G : List ℕ → Read Item ⊥ A → Type 0}
+      → ((text : List ℕ) (done : ℕ) → T' text done → Later text done) → Leads whole T T' G → Leads whole T Later G
   later_leads h p = record { gets = λ text done t. weaker_gets (λ a rest done t. h rest done t) (p.gets text done t) }
 
--- after a piece T1 holds where T did before it
-abbrev pub Advances : (T T1 : List ℕ → ℕ → Type 0) → Type 0
-Advances T T1 = (text rest : List ℕ) (done : ℕ) → T text done → IsCut text rest → T1 rest done
+-- after a piece Next holds where T did before it
+abbrev pub Advances : (T Next : List ℕ → ℕ → Type 0) → Type 0
+Advances T Next = (text rest : List ℕ) (done : ℕ) → T text done → IsCut text rest → Next rest done
 
-module _ {whole : List ℕ} {T T1 T' : List ℕ → ℕ → Type 0} (on : Advances T T1) {A : Type 0} {H : List ℕ → Read Item ⊥ A → Type 0} where
+module _ {whole : List ℕ} {T Next T' : List ℕ → ℕ → Type 0} (on : Advances T Next) {A : Type 0} {H : List ℕ → Read Item ⊥ A → Type 0} where
   pub case_leads : {word : List ℕ} {G : List ℕ → Read Item ⊥ A → Type 0} → is_ascii_word word ≡ true
-      → Leads whole T1 T' G → Leads whole T T' H → Leads whole T T' (Case word G H)
+      → Leads whole Next T' G → Leads whole T T' H → Leads whole T T' (Case word G H)
   case_leads {word = word} ascii p q = record {
     gets = λ text done t. case_gets (λ rest e. p.gets rest done (on text rest done t (word_cut word text rest ascii e))) (q.gets text done t);
   }
 
   pub some_leads : {class : Class} {G : List ℕ → List ℕ → Read Item ⊥ A → Type 0}
-      → ((word : List ℕ) → Leads whole T1 T' (G word)) → Leads whole T T' H → Leads whole T T' (WordOr (IsSome class) (λ text word rest. word) G H)
+      → ((word : List ℕ) → Leads whole Next T' (G word)) → Leads whole T T' H → Leads whole T T' (WordOr (IsSome class) (λ text word rest. word) G H)
   some_leads {class = class} p q = record {
     gets = λ text done t. word_gets (λ word rest is. (p word).gets rest done (on text rest done t (run_cut class text word rest is.run))) (q.gets text done t);
   }
 
   pub byte_leads : {class : Class} {G : ℕ → List ℕ → Read Item ⊥ A → Type 0}
-      → ((byte : ℕ) → Leads whole T1 T' (G byte)) → Leads whole T T' H → Leads whole T T' (WordOr (IsByte class) (λ text byte rest. byte) G H)
+      → ((byte : ℕ) → Leads whole Next T' (G byte)) → Leads whole T T' H → Leads whole T T' (WordOr (IsByte class) (λ text byte rest. byte) G H)
   byte_leads {class = class} p q = record {
     gets = λ text done t. word_gets (λ byte rest is. (p byte).gets rest done (on text rest done t (byte_cut class text byte rest is))) (q.gets text done t);
   }
 
   pub first_leads : {b : ℕ} {needle : List ℕ} {G : List ℕ → List ℕ → Read Item ⊥ A → Type 0} → b < 128 → is_ascii_word (b ∷ needle) ≡ true
-      → ((body : List ℕ) → Leads whole T1 T' (G body)) → Leads whole T T' H → Leads whole T T' (WordOr (IsFirst (b ∷ needle)) (λ text body rest. body) G H)
+      → ((body : List ℕ) → Leads whole Next T' (G body)) → Leads whole T T' H → Leads whole T T' (WordOr (IsFirst (b ∷ needle)) (λ text body rest. body) G H)
   first_leads {b = b} {needle = needle} small ascii p q = record {
     gets = λ text done t. word_gets (λ body rest is. (p body).gets rest done (on text rest done t (first_cut b needle text body rest small ascii is))) (q.gets text done t);
   }

@@ -3,7 +3,8 @@
 ghost use Rattle.std.specs.Prelude.{◌≡◌, ◌≤◌, length, OnOk, codes};
 ghost use Rattle.constructs.specs.Construct.{goes_on, repeat};
 ghost use Rattle.bison_words.specs.NestedHere.{closing};
-ghost use Rattle.bison_words.specs.Code.{code_end, braces, code, predicate, prologue_piece, prologue_end, prologue, code_piece};
+ghost use Rattle.bison_words.specs.Code.{code_end, braces, code, predicate, code_piece};
+ghost use Rattle.bison_words.specs.Code.{prologue_piece, prologue_end, prologue};
 ghost use Rattle.bison_words.specs.Words.{lexeme_view};
 ghost use Rattle.bison_words.specs.Inner.Bodies.{braces_lexeme};
 
@@ -38,7 +39,8 @@ impl<'a> Scanner<'a> {
     /// What the word is whose brace precedes `opened`, and which ends here.
     fn braces_lexeme(&self, opened: &'a str, is_predicate: bool) -> Lexeme<'a>
         requires { IsSuffix opened.now self.now.rest.now }
-        ensures { lexeme_view result ≡ braces_lexeme (length self.now.text.now) is_predicate opened.now self.now.rest.now }
+        ensures { lexeme_view result
+            ≡ braces_lexeme (length self.now.text.now) is_predicate opened.now self.now.rest.now }
     {
         if is_predicate {
             return Lexeme::Predicate;

@@ -74,12 +74,10 @@ impl<'a> Scanner<'a> {
     {
         let start = self.rest;
         if self.accept("<*>") {
-            self.word_from(start, Lexeme::AnyTag)?;
-            return Ok(true);
+            return self.found_word(start, Lexeme::AnyTag);
         }
         if self.accept("<>") {
-            self.word_from(start, Lexeme::NoTag)?;
-            return Ok(true);
+            return self.found_word(start, Lexeme::NoTag);
         }
         if !self.accept("<") {
             return Ok(false);

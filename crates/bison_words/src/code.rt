@@ -2,9 +2,9 @@
 
 ghost use Rattle.std.specs.Prelude.{◌≡◌, ◌≤◌, ◌+◌, length, Some, OnOk};
 ghost use Rattle.constructs.specs.Construct.{goes_on, repeat};
-ghost use Rattle.bison_words.specs.Code.{is_line_left, is_splice, splice, splice_turn, splices, line_part, comment_part};
-ghost use Rattle.bison_words.specs.Code.{escaped_part, quotes_part, less_piece, percent_piece, without_brace};
-ghost use Rattle.bison_words.specs.Code.{code_comment, slash_piece, code_quotes, code_piece};
+ghost use Rattle.bison_words.specs.Code.{is_line_left, is_splice, splice, splice_turn, splices, line_part};
+ghost use Rattle.bison_words.specs.Code.{comment_part, escaped_part, quotes_part, less_piece, percent_piece};
+ghost use Rattle.bison_words.specs.Code.{without_brace, code_comment, slash_piece, code_quotes, code_piece};
 
 use crate::blanks::from_end;
 use crate::class::Class;

@@ -69,10 +69,7 @@ impl<'a> Scanner<'a> {
     {
         let start = self.rest;
         match self.some(Class::NameByte) {
-            Some(name) => {
-                self.word_from(start, Lexeme::Identifier(name))?;
-                Ok(true)
-            }
+            Some(name) => self.found_word(start, Lexeme::Identifier(name)),
             None => Ok(false),
         }
     }
@@ -144,20 +141,16 @@ impl<'a> Scanner<'a> {
     {
         let start = self.rest;
         if self.accept(";") {
-            self.word_from(start, Lexeme::Semicolon)?;
-            return Ok(true);
+            return self.found_word(start, Lexeme::Semicolon);
         }
         if self.accept("|") {
-            self.word_from(start, Lexeme::Bar)?;
-            return Ok(true);
+            return self.found_word(start, Lexeme::Bar);
         }
         if self.accept("=") {
-            self.word_from(start, Lexeme::Equals)?;
-            return Ok(true);
+            return self.found_word(start, Lexeme::Equals);
         }
         if self.accept(":") {
-            self.word_from(start, Lexeme::Colon)?;
-            return Ok(true);
+            return self.found_word(start, Lexeme::Colon);
         }
         Ok(false)
     }

@@ -258,8 +258,7 @@ impl<'a> Scanner<'a> {
         } else {
             Lexeme::String(text)
         };
-        self.word_from(start, lexeme)?;
-        Ok(true)
+        self.found_word(start, lexeme)
     }
 
     #[tactic(auto, unfolding(crate::specs::Quotes::string))]

@@ -1,6 +1,6 @@
 //! Runs of one class of bytes, single bytes, and characters.
 
-ghost use Rattle.std.specs.Prelude.{◌≡◌, ◌+◌, ◌≤◌, ◌<◌, ◌-◌, ◌⊎◌, length, min, take, drop, false, IfSome, option_map, get_or, ℕ};
+ghost use Rattle.std.specs.Prelude.{◌≡◌, ◌-◌, ◌⊎◌, length, min, take, drop, option_map};
 ghost use Rattle.std.specs.List.{prefix_len};
 ghost use Rattle.constructs.specs.Pieces.{starts, run};
 ghost use Rattle.bison_words.specs.Bytes.{holds, is_continuation};

@@ -1,7 +1,8 @@
 //! The scanner: the rest of a text, and the words and faults that were read.
 
-ghost use Rattle.std.specs.Prelude.{◌≡◌, ◌≤◌, ◌-◌, ◌+◌, ◌⊎◌, [], length, drop, Some, None, Ok, MatchBool, IfOk, IfSome, OnOk};
+ghost use Rattle.std.specs.Prelude.{◌≡◌, ◌≤◌, ◌-◌, ◌+◌, ◌⊎◌, [], length, drop, Some, None, Ok, MatchBool, OnOk};
 ghost use Rattle.std.specs.List.{prefix_len};
+ghost use Rattle.constructs.specs.Construct.{then, again, goes_on};
 ghost use Rattle.constructs.specs.Pieces.{strip, split_first};
 ghost use Rattle.bison_words.specs.Bytes.{holds};
 ghost use Rattle.bison_words.specs.Runs.{some_of, byte_of};
@@ -194,6 +195,21 @@ impl<'a> Scanner<'a> {
         ensures passed { OnOk result (Passed self.old self.new) }
     {
         self.word_between(start, self.rest, lexeme)
+    }
+
+    /// The same for a turn that goes on after the word.
+    pub(crate) fn found_word(
+        &mut self,
+        start: &'a str,
+        lexeme: Lexeme<'a>,
+    ) -> Result<bool, AllocError>
+        requires { length self.old.rest.now ≤ length start.now }
+        ensures read { Builds goes_on self.old self.new result
+            (then (word_from (length self.old.text.now) start.now (lexeme_view lexeme.entry)) again) }
+        ensures passed { OnOk result (Passed self.old self.new) }
+    {
+        self.word_from(start, lexeme)?;
+        Ok(true)
     }
 
     /// Adds a fault from one rest of the text to another.

@@ -4,7 +4,7 @@ ghost use Rattle.std.specs.Prelude.{◌≡◌, ◌≤◌, length, Some, IfOk, On
 ghost use Rattle.constructs.specs.Construct.{goes_on, computes};
 ghost use Rattle.bison_words.specs.WordSpans.{AreInText};
 ghost use Rattle.bison_words.specs.Words.{IsWords};
-ghost use Rattle.bison_words.specs.TextWords.{is_predicate, is_equals, equals, is_mark, directive_end, directive_word, directive_name};
+ghost use Rattle.bison_words.specs.TextWords.{is_predicate, is_equals, equals, is_mark, directive_end, directive_name};
 ghost use Rattle.bison_words.specs.TextWords.{directive, percent, bracketed, word, word_turn, words, epilogue};
 ghost use Rattle.bison_words.specs.TextWords.{mark_then, sections, text_words};
 
