@@ -3,8 +3,9 @@
 ghost use Rattle.std.specs.Prelude.{◌≡◌, ◌<◌, length, Ok};
 ghost use Rattle.constructs.specs.Construct.{again, goes_on, recovers, repeat, then};
 ghost use Rattle.bison_reader.specs.Declarations.{codes, declaration, declaration_rest, declaration_turn, declared};
-ghost use Rattle.bison_reader.specs.Declarations.{declared_by, expected_conflicts, level, named_code, only, start};
-ghost use Rattle.bison_reader.specs.Declarations.{start_turn, symbol_or_tag, symbol_or_tag_turn, symbols_code, variable};
+ghost use Rattle.bison_reader.specs.Declarations.{declared_by, expected_conflicts, level, named_code, only};
+ghost use Rattle.bison_reader.specs.Declarations.{start, start_turn, symbol_or_tag, symbol_or_tag_turn};
+ghost use Rattle.bison_reader.specs.Declarations.{symbols_code, variable};
 ghost use Rattle.bison_reader.specs.Here.{sort_of};
 ghost use Rattle.bison_reader.specs.Items.{ExpectGiven, ExpectReduceReduceGiven};
 
