@@ -1,7 +1,6 @@
--- The items of a whole file, added in three parts.
-use Rattle.std.proofs.Common.{◌≡◌, ℕ, List, ◌++◌, Option, map, fold, sym, ap, ◌∙◌}
-use Rattle.std.proofs.lemmas.List.Sums.{fold-append}
-use Rattle.cfgitems.specs.Building.{add, adds, has_name}
+-- The items of a whole file.
+use Rattle.std.proofs.Common.{◌≡◌, ℕ, List, ◌++◌, Option, map, ap, ◌∙◌}
+use Rattle.cfgitems.specs.Building.{adds, has_name}
 use Rattle.cfgitems.specs.Items as tree
 use Rattle.cfgitems.specs.Syntax.{Syntax}
 use Rattle.bison_reader.specs.Items.{Item}
@@ -10,10 +9,6 @@ use Rattle.bison_tree.specs.Names.{each_once, names_of}
 use Rattle.bison_tree.specs.Tokens.{token_names, tokens_of}
 use Rattle.bison_tree.specs.Tree.{programs_items, rules_items, token_quoted, tree_items}
 use Rattle.bison_tree.proofs.Once.{rules_items_once}
-
-added : (s : Syntax) (xs ys zs : List tree.Item) → adds (adds (adds s xs) ys) zs ≡ adds s (xs ++ (ys ++ zs))
-unfolding adds
-added s xs ys zs = sym (fold-append add s xs (ys ++ zs) ∙ fold-append add (fold add s xs) ys zs)
 
 module _ (words : List Word) (items : List Item) (epilogue : Option (List ℕ)) where
   whole : List (List ℕ) → List ℕ → List tree.Item
@@ -25,14 +20,13 @@ module _ (words : List Word) (items : List Item) (epilogue : Option (List ℕ)) 
   unfolding tree_items whole
   whole-is names tokens n t = λ i. whole (n i) (t i)
 
-  pub all_added : (s0 s1 s2 s3 : Syntax) (names keys : List (List ℕ)) (tokens : List ℕ) → names ≡ names_of words items → tokens ≡ tokens_of words items
-      → keys ≡ each_once (token_names names tokens) → s1 ≡ adds s0 (map (token_quoted words names) tokens)
-      → s2 ≡ adds s1 (rules_items words names (λ name. has_name name keys) items) → s3 ≡ adds s2 (programs_items epilogue)
-      → s3 ≡ adds s0 (tree_items words items epilogue)
+  pub all_added : (s0 s : Syntax) (names keys : List (List ℕ)) (tokens : List ℕ) → names ≡ names_of words items → tokens ≡ tokens_of words items
+      → keys ≡ each_once (token_names names tokens)
+      → s ≡ adds s0 (map (token_quoted words names) tokens ++ (rules_items words names (λ name. has_name name keys) items ++ programs_items epilogue))
+      → s ≡ adds s0 (tree_items words items epilogue)
   unfolding whole
-  all_added s0 s1 s2 s3 names keys tokens n t k e1 e2 e3 =
+  all_added s0 s names keys tokens n t k e =
       let quoted = map (token_quoted words names) tokens in
       let rules : List (List ℕ) → List tree.Item = λ keys. rules_items words names (λ name. has_name name keys) items in
       let same : rules keys ≡ rules (token_names names tokens) = ap rules k ∙ rules_items_once words names (token_names names tokens) items in
-      e3 ∙ ap (λ s. adds s (programs_items epilogue)) (e2 ∙ ap (λ s. adds s (rules keys)) e1) ∙ added s0 quoted (rules keys) (programs_items epilogue)
-      ∙ ap (λ rules. adds s0 (quoted ++ (rules ++ programs_items epilogue))) same ∙ ap (adds s0) (whole-is names tokens n t)
+      e ∙ ap (λ rules. adds s0 (quoted ++ (rules ++ programs_items epilogue))) same ∙ ap (adds s0) (whole-is names tokens n t)

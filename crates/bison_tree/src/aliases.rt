@@ -11,6 +11,7 @@ ghost use Rattle.bison_tree.specs.Inner.Views.{IsConsistent, aliases_view};
 ghost use Rattle.bison_tree.specs.Names.{alias_in, aliases_of, built_in, called, is_taken, name_at, names_of};
 ghost use Rattle.bison_tree.specs.Names.{with_alias};
 
+use crate::added::if_added;
 use crate::names::own_names;
 use crate::sets::{add_name, has_name};
 use bison_reader::Item;
@@ -52,9 +53,8 @@ impl Aliases {
         ensures consistent { IfOk result IsConsistent }
     {
         let mut aliases = Aliases::none(alloc);
-        aliases.give(alloc, "YYerror", "error")?;
-        aliases.give(alloc, "$undefined", "YYUNDEF")?;
-        Ok(aliases)
+        let given = aliases.give_built_in(alloc);
+        if_added(aliases, given)
     }
 
     /// Whether this is another name of a token.
@@ -98,6 +98,36 @@ impl Aliases {
         Ok(())
     }
 
+    /// Gives those that need no declaration.
+    fn give_built_in(&mut self, alloc: Global) -> Result<(), AllocError>
+        requires none { aliases_view self.old ≡ [] }
+        requires consistent { IsConsistent self.old }
+        ensures given { OnOk result (aliases_view self.new ≡ built_in) }
+        ensures consistent { OnOk result (IsConsistent self.new) }
+    {
+        self.give(alloc, "YYerror", "error")?;
+        self.give(alloc, "$undefined", "YYUNDEF")
+    }
+
+    /// Gives those of items.
+    fn give_items(
+        &mut self,
+        alloc: Global,
+        own: &[String],
+        items: &[Item],
+    ) -> Result<(), AllocError>
+        requires { IsConsistent self.old }
+        ensures { OnOk result (aliases_view self.new ≡ fold with_alias (aliases_view self.old)
+            (filter_map (alias_in (map string_bytes own.now)) (map item_view items.now))) }
+    {
+        for item in items {
+            if let Item::Alias { token, string } = item {
+                self.give(alloc, name_at(own, *string), name_at(own, *token))?;
+            }
+        }
+        Ok(())
+    }
+
     /// What a name is called: a string that is another name of a token is called by the token's name.
     fn called<'a>(&'a self, name: &'a str) -> &'a str
         ensures { result.now ≡ called (aliases_view self.now) name.now }
@@ -115,12 +145,8 @@ fn aliases_of(alloc: Global, own: &[String], items: &[Item]) -> Result<Aliases, 
         ≡ aliases_of (map string_bytes own.now) (map item_view items.now)) }
 {
     let mut aliases = Aliases::built_in(alloc)?;
-    for item in items {
-        if let Item::Alias { token, string } = item {
-            aliases.give(alloc, name_at(own, *string), name_at(own, *token))?;
-        }
-    }
-    Ok(aliases)
+    let given = aliases.give_items(alloc, own, items);
+    if_added(aliases, given)
 }
 
 /// The names of words, by the names that they have by themselves.
@@ -151,6 +177,5 @@ pub fn names_of(
 {
     let own = own_names(alloc, words)?;
     let aliases = aliases_of(alloc, own.as_slice(), items)?;
-    let names = called(alloc, &aliases, own.as_slice())?;
-    Ok(names)
+    called(alloc, &aliases, own.as_slice())
 }

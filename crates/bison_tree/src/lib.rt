@@ -1,6 +1,7 @@
 //! The tree of a Yacc or Bison file: what it says of the grammar, as the trees of other files say it.
 #![tactic(auto)]
 
+mod added;
 mod aliases;
 mod laws;
 mod names;

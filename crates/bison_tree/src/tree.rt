@@ -1,6 +1,6 @@
 //! The tree of a file.
 
-ghost use Rattle.std.specs.Prelude.{◌≡◌, ◌+◌, ◌∷◌, [], map, filter_map, length, option_map, IfOk, OnOk};
+ghost use Rattle.std.specs.Prelude.{◌≡◌, ◌+◌, ◌∷◌, ◌++◌, [], map, filter_map, length, option_map, IfOk, OnOk};
 ghost use Rattle.cfgitems.specs.Building.{adds};
 ghost use Rattle.cfgitems.specs.Items.{PrecedenceDeclared, RuleBegun, TokenDeclared};
 ghost use Rattle.cfgitems.specs.Syntax.{syntax_of};
@@ -18,6 +18,7 @@ ghost use Rattle.bison_tree.specs.Tree.{printed_form, programs_items};
 ghost use Rattle.bison_tree.specs.Tree.{rule_in, rules_items, said, said_after, start_items, text_in, token_quoted};
 ghost use Rattle.bison_tree.specs.Tree.{tree_items};
 
+use crate::added::if_added;
 use crate::aliases::name_at;
 use crate::productions::add_production;
 use crate::symbols::Symbols;
@@ -304,6 +305,26 @@ impl<'a> Symbols<'a> {
         self.add_named_rules(alloc, builder, items)?;
         self.add_counts(builder, items)
     }
+
+    /// Adds tokens, everything else that items say, and what follows the second `%%`.
+    fn add_all(
+        self,
+        alloc: Global,
+        builder: &mut AstBuilder,
+        tokens: &[usize],
+        items: &[Item],
+        epilogue: Option<&str>,
+    ) -> Result<(), AllocError>
+        ensures { OnOk result (syntax_built builder.new ≡ adds (syntax_built builder.old)
+            (map (token_quoted (words_in self.entry) (names_in self.entry)) tokens.now
+            ++ (rules_items (words_in self.entry) (names_in self.entry) (is_token_in self.entry)
+            (map item_view items.now)
+            ++ programs_items (option_map (λ text. text.now) epilogue.entry)))) }
+    {
+        self.add_tokens(alloc, builder, tokens)?;
+        self.add_rules(alloc, builder, items)?;
+        add_programs(alloc, builder, epilogue)
+    }
 }
 
 /// The word by which the first `%start` names the start.
@@ -371,10 +392,13 @@ fn add_file(
         names,
         tokens: &set,
     };
-    symbols.add_tokens(alloc, builder, tokens.as_slice())?;
-    symbols.add_rules(alloc, builder, items)?;
-    add_programs(alloc, builder, file.words.epilogue)?;
-    Ok(())
+    symbols.add_all(
+        alloc,
+        builder,
+        tokens.as_slice(),
+        items,
+        file.words.epilogue,
+    )
 }
 
 /// What a file says of its grammar, by the names of its words.
@@ -389,7 +413,7 @@ pub fn syntax_of(alloc: Global, file: &FileText<'_>, names: &[String]) -> Result
         (map item_view file.now.items.items) (option_map (λ text. text.now) file.now.words.epilogue))) }
 {
     let mut builder = AstBuilder::new(alloc);
-    add_file(alloc, &mut builder, file, names)?;
+    let added = add_file(alloc, &mut builder, file, names);
     built_is_syntax();
-    Ok(builder.finish())
+    if_added(builder.finish(), added)
 }

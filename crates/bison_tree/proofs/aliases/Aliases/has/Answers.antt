@@ -1,4 +1,4 @@
-use Rattle.std.proofs.Common.{◌≡◌, string_bytes, sym, ◌∙◌}
+use Rattle.std.proofs.Common.{string_bytes, sym, ◌∙◌}
 use Rattle.cfgitems.proofs.Views.{has_entry-entries}
 use Rattle.bison_tree.proofs.aliases.Aliases.has.Goals as goal
 

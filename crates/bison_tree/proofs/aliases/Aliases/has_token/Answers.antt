@@ -1,4 +1,4 @@
-use Rattle.std.proofs.Common.{◌≡◌, List, ℕ, bytes_eq, ap, ◌∙◌}
+use Rattle.std.proofs.Common.{List, ℕ, bytes_eq, ap, ◌∙◌}
 use Rattle.lemmas.proofs.Tests.{list_any-map}
 use Rattle.cfgitems.specs.Building.{has_name}
 use Rattle.bison_tree.specs.Inner.Views.{aliases_view}
