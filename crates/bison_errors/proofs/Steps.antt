@@ -1,0 +1,30 @@
+-- Steps of loops that collect errors.
+use Rattle.std.proofs.Common.{◌≡◌, ℕ, ◌+◌, ◌<◌, List, [], ◌∷◌, ◌++◌, Option, length, get_or, map, take, drop, append_assoc, sym, ap, ◌∙◌}
+use Rattle.std.proofs.lemmas.List.{at_drop_more, map-append, take_more}
+use Rattle.bison_reader.specs.declared.item.Part.{Part}
+use Rattle.bison_words.specs.Words.{Word}
+use Rattle.bison_errors.specs.declared.error.Error.{Error}
+use Rattle.bison_errors.specs.declared.error.Once.{Once}
+use Rattle.bison_errors.specs.Errors.{noted, parts_errors, priority_error, repeat_error, with_noted}
+
+-- one more of what f makes of each item
+pub mapped_more : {X Y : Type 0} (f : X → Y) (xs : List X) (i : ℕ) (x : X) → i < length xs → (sofar more : List Y) (y : Y)
+    → more ≡ sofar ++ y ∷ [] → y ≡ f (get_or xs i x) → sofar ≡ map f (take i xs) → more ≡ map f (take (i + 1) xs)
+mapped_more f xs i x less sofar more y e is invariant =
+    e ∙ (λ j. invariant j ++ is j ∷ []) ∙ sym (map-append f (take i xs) (get_or xs i x ∷ [])) ∙ ap (map f) (sym (take_more xs i x less))
+
+-- what is wrong with the parts so far, with what is wrong with the rest, after one more part
+pub parts_more : (words : List Word) (parts : List Part) (i : ℕ) (x : Part) → i < length parts → (once once' : Once) (first : Option ℕ) (sofar m more whole : List Error)
+    → m ≡ sofar ++ priority_error words (get_or parts i x) → more ≡ m ++ repeat_error words first (get_or parts i x)
+    → first ≡ noted once (get_or parts i x).kind → once' ≡ with_noted once (get_or parts i x).kind (get_or parts i x).word
+    → sofar ++ parts_errors words once (drop i parts) ≡ whole → more ++ parts_errors words once' (drop (i + 1) parts) ≡ whole
+parts_more words parts i x less once once' first sofar m more whole e1 e2 is next invariant =
+    let part = get_or parts i x in
+    let rest = parts_errors words (with_noted once part.kind part.word) (drop (i + 1) parts) in
+    let repeated = repeat_error words (noted once part.kind) part in
+    let opened : parts_errors words once (drop i parts) ≡ priority_error words part ++ (repeated ++ rest) = at_drop_more (parts_errors words once) parts i x less in
+    (λ j. e2 j ++ parts_errors words (next j) (drop (i + 1) parts))
+    ∙ (λ j. (e1 j ++ repeat_error words (is j) part) ++ rest)
+    ∙ append_assoc (sofar ++ priority_error words part) repeated rest
+    ∙ append_assoc sofar (priority_error words part) (repeated ++ rest)
+    ∙ ap (λ t. sofar ++ t) (sym opened) ∙ invariant

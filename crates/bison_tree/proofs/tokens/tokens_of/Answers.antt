@@ -1,0 +1,14 @@
+use Rattle.std.proofs.Common.{map, refl}
+use Rattle.std.specs.List.{flat_map}
+use Rattle.bison_reader.specs.Items.{item_view}
+use Rattle.bison_words.specs.Words.{word_view}
+use Rattle.bison_tree.specs.Tokens.{tokens_in}
+use Rattle.bison_tree.proofs.Steps.{stepped_by}
+use Rattle.bison_tree.proofs.tokens.tokens_of.Goals as goal
+
+pub loop-item-preserved : goal.loop-item-preserved
+loop-item-preserved c =
+    let tokens = tokens_in (map word_view c.args.words.now) in
+    stepped_by item_view (flat_map tokens) tokens (λ y ys. refl)
+    c.args.items.now c.loop-item.item-index c.item-item.result c.loop-item-test.true c.item-item.is
+    c.loop-item.tokens.items c.push_of_item.new.tokens.items _ c.in_ok-push_of_item.ensures c.loop-item.invariant
