@@ -29,4 +29,4 @@ is_allowed text finding = let line = line_number text (offset_of finding) in
 -- these are the allowances of the text
 pub record AreOf (text : List ℕ) (allowances : Allowances) : Type 0 where
   pub lines : map (λ line. line.now) allowances.lines.items ≡ allowed_lines text
-  pub newlines : StandsFor allowances.newlines.now text
+  pub newlines : StandsFor allowances.newlines text

@@ -2,7 +2,8 @@
 
 ghost use Rattle.std.specs.Prelude.{◌≡◌, [], IfOk, get_or, is_some, map};
 ghost use Rattle.std.specs.List.{slice_split};
-ghost use Rattle.cfgrammar.specs.Lines.{StandsFor, is_newline};
+ghost use Rattle.cfgrammar.specs.Lines.{StandsFor, is_newline, line_number};
+ghost use Rattle.cfgfindings.specs.Shown.{offset_of};
 ghost use Rattle.cfgrammar.specs.Pieces.{strip};
 ghost use Rattle.finding_kinds.specs.FindingKinds.{word_of};
 ghost use Rattle.cfglint.specs.Allowed.{AreOf, allowed_in, allowed_lines, allows, is_allowed};
@@ -37,12 +38,13 @@ fn lines<'a>(alloc: Global, text: &'a str) -> Result<Vec<&'a str>, AllocError>
     text.split('\n').collect(alloc)
 }
 
-/// What the lines of a text allow.
-fn allowed_lines<'a>(alloc: Global, text: &'a str) -> Result<Vec<&'a str>, AllocError>
-    ensures { IfOk result (λ lines. map (λ line. line.now) lines.items ≡ allowed_lines text.now) }
+/// What lines allow, line by line.
+fn allowed_lines<'a>(alloc: Global, lines: &[&'a str]) -> Result<Vec<&'a str>, AllocError>
+    ensures { IfOk result (λ allowed. map (λ line. line.now) allowed.items
+        ≡ map allowed_in (map (λ line. line.now) lines.now)) }
 {
     let mut allowed = Vec::new(alloc);
-    for line in &lines(alloc, text)? {
+    for line in lines {
         allowed.push(allowed_in(line))?;
     }
     Ok(allowed)
@@ -68,7 +70,7 @@ impl<'a> Allowances<'a> {
         ensures { IfOk result (AreOf text.now) }
     {
         Ok(Allowances {
-            lines: allowed_lines(alloc, text)?,
+            lines: allowed_lines(alloc, &lines(alloc, text)?)?,
             newlines: newlines(alloc, text)?,
         })
     }
@@ -81,19 +83,22 @@ impl<'a> Allowances<'a> {
         after_word(allowed, kind.word()).is_some()
     }
 
+    /// The number of the line of a finding about the text, from 1.
+    fn line_of(&self, text: &str, finding: &Finding) -> usize
+        requires { AreOf text.now self.now }
+        ensures { result ≡ line_number text.now (offset_of finding.now) }
+    {
+        let offset = finding.offset().min(text.len());
+        self.newlines.byte_to_line_num(offset).unwrap_or(0)
+    }
+
     /// Whether a comment allows a finding about the text.
     pub(crate) fn cover(&self, text: &str, finding: &Finding) -> bool
         requires { AreOf text.now self.now }
         ensures { result ≡ is_allowed text.now finding.now }
     {
         let kind = finding.kind();
-        match self
-            .newlines
-            .byte_to_line_num(finding.offset().min(text.len()))
-        {
-            Some(line) => self.allows(kind, line.saturating_sub(1))
-                || self.allows(kind, line.saturating_sub(2)),
-            None => false,
-        }
+        let line = self.line_of(text, finding);
+        self.allows(kind, line.saturating_sub(1)) || self.allows(kind, line.saturating_sub(2))
     }
 }

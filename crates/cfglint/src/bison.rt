@@ -66,10 +66,9 @@ fn levels_of(levels: Levels) -> Levels
 
 /// The reporter with the levels of a Bison file.
 fn with_levels<'a>(reporter: &FileReporter<'a>) -> FileReporter<'a>
-    ensures name { result.name.now ≡ reporter.now.name.now }
-    ensures format { result.options.format ≡ reporter.now.options.format }
-    ensures columns { result.options.columns ≡ reporter.now.options.columns }
-    ensures levels { result.options.levels ≡ levels_of reporter.now.options.levels }
+    ensures { result ≡ record reporter.now {
+      options = record reporter.now.options { levels = levels_of reporter.now.options.levels };
+    } }
 {
     FileReporter {
         name: reporter.name,

@@ -1,4 +1,4 @@
-use Rattle.std.proofs.Common.{lit<, tt}
+use Rattle.std.proofs.Common.{lit<}
 use Rattle.std.proofs.lemmas.Iterator.Consumers.{map_from_collect}
 use Rattle.std.proofs.lemmas.Iterator.Splits.{YieldsList-from_str_split}
 use Rattle.cfglint.proofs.allowed.lines.Goals as goal

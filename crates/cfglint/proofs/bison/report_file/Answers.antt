@@ -1,8 +1,9 @@
-use Rattle.std.proofs.Common.{subst}
+use Rattle.std.proofs.Common.{IfOk, subst}
 use Rattle.std.proofs.lemmas.Result.{IfOk-weaker}
 use Rattle.cfgrammar.specs.TreeView.{syntax}
-use Rattle.cfglint.specs.BisonReports.{ReportsBison, found}
+use Rattle.cfglint.specs.BisonReports.{ReportsBison, found, levels_of}
 use Rattle.cfglint.specs.ReportedLines.{ReportsFindings}
+use Rattle.cfglint.specs.declared.file_reporter.FileReporter.{FileReporter}
 use Rattle.cfglint.proofs.bison.report_file.Goals as goal
 
 pub returns-in-Ok : goal.returns-in-Ok
@@ -12,8 +13,10 @@ returns-in-Ok c =
     let text = c.args.text.now in
     let file = c.args.file.now in
     let answer = c.in-Ok.ensures in
-    let Finds = ReportsFindings options.format options.columns name text options.levels in
+    let Finds = ReportsFindings options.format options.columns name text (levels_of options.levels) in
     let read = syntax c.ast.result.now in
     IfOk-weaker c.report_findings.result (Finds read c.in-Ok.grammar) (ReportsBison options name text file) (λ reported made.
     found answer.0 answer.1 (subst (λ g. Finds file.syntax g reported) answer.2
-    (subst (λ s. Finds s c.in-Ok.grammar reported) c.ast.ensures made))) c.report_findings.ensures
+    (subst (λ s. Finds s c.in-Ok.grammar reported) c.ast.ensures made)))
+    (subst (λ (reporter : FileReporter). IfOk c.report_findings.result (ReportsFindings reporter.options.format reporter.options.columns
+    reporter.name.now text reporter.options.levels read c.in-Ok.grammar)) c.with_levels.ensures c.report_findings.ensures)
