@@ -47,8 +47,9 @@ impl Model for BisonFile {
 /// After an error the reading goes on, so that all errors are found: first those of the text, and then those of its
 /// names, each by offset. What was passed over is missing in the tree.
 ///
-/// Each span of the tree and of an error begins and ends at a character boundary of the text. But an action's span is as
-/// long as its trimmed text and begins after its brace, so it may end inside a character: it only lies within the text.
+/// Each span of the tree and of an error begins and ends at a character boundary of the text. But an action's span is
+/// as long as its trimmed text and begins after its brace, so it may end inside a character: it only lies within the
+/// text.
 ///
 /// # Errors
 ///

@@ -1,5 +1,5 @@
-//! A Yacc or Bison file: what it says, its errors, and its grammar, as the numbering and the tables of all grammars take
-//! it.
+//! A Yacc or Bison file: what it says, its errors, and its grammar, as the numbering and the tables of all grammars
+//! take it.
 #![tactic(auto)]
 
 mod fault;
