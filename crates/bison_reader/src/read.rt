@@ -5,15 +5,15 @@ ghost use Rattle.constructs.specs.Construct.{computes};
 ghost use Rattle.bison_reader.specs.FileGrammar.{file, items_of};
 ghost use Rattle.bison_reader.specs.Inner.Builds.{items_read};
 ghost use Rattle.bison_reader.specs.Items.{item_view};
-ghost use Rattle.bison_reader.specs.Sorts.{items_in, scanned, sorts_of};
+ghost use Rattle.bison_reader.specs.Sorts.{items_in, scanned};
 ghost use Rattle.bison_words.specs.WordSpans.{AreInText};
-ghost use Rattle.bison_words.specs.Words.{IsWords, word_view};
+ghost use Rattle.bison_words.specs.Words.{IsWords};
 
 use crate::item::Item;
 use crate::reader::{Reader, Stop};
 use crate::sort::Sort;
 use crate::sorts::sorts_of;
-use bison_words::{Word, Words, read_words};
+use bison_words::{Words, read_words};
 use std::alloc::{AllocError, Global};
 
 /// What is read of a text.
@@ -38,16 +38,9 @@ pub fn read_text<'a>(alloc: Global, text: &'a str) -> Result<FileText<'a>, Alloc
     ensures items { IfOk result (λ file. map item_view file.items.items ≡ items_in text.now) }
 {
     let words = read_words(alloc, text)?;
-    let items = items_in(alloc, words.words.as_slice())?;
+    let sorts = sorts_of(alloc, words.words.as_slice())?;
+    let items = read_items(alloc, sorts.as_slice())?;
     Ok(FileText { words, items })
-}
-
-/// What words say, item by item.
-fn items_in(alloc: Global, words: &[Word<'_>]) -> Result<Vec<Item>, AllocError>
-    ensures { IfOk result (λ items. map item_view items.items ≡ items_of (sorts_of (map word_view words.now))) }
-{
-    let sorts = sorts_of(alloc, words)?;
-    read_items(alloc, sorts.as_slice())
 }
 
 /// Reads a file whose words are of these sorts: what it says, item by item. A word that can't be where it is is an item
