@@ -1,6 +1,7 @@
 -- Steps of loops that collect errors.
-use Rattle.std.proofs.Common.{◌≡◌, ℕ, ◌+◌, ◌<◌, List, [], ◌∷◌, ◌++◌, Option, length, get_or, map, take, drop, append_assoc, sym, ap, ◌∙◌}
+use Rattle.std.proofs.Common.{◌≡◌, ℕ, ◌+◌, ◌<◌, List, [], ◌∷◌, ◌++◌, Option, Some, None, length, get_or, map, filter_map, take, drop, append_assoc, refl, sym, ap, ◌∙◌}
 use Rattle.std.proofs.lemmas.List.{at_drop_more, map-append, take_more}
+use Rattle.bison_tree.proofs.Steps.{stepped_by}
 use Rattle.bison_reader.specs.declared.item.Part.{Part}
 use Rattle.bison_words.specs.Words.{Word}
 use Rattle.bison_errors.specs.declared.error.Error.{Error}
@@ -12,6 +13,23 @@ pub mapped_more : {X Y : Type 0} (f : X → Y) (xs : List X) (i : ℕ) (x : X) �
     → more ≡ sofar ++ y ∷ [] → y ≡ f (get_or xs i x) → sofar ≡ map f (take i xs) → more ≡ map f (take (i + 1) xs)
 mapped_more f xs i x less sofar more y e is invariant =
     e ∙ (λ j. invariant j ++ is j ∷ []) ∙ sym (map-append f (take i xs) (get_or xs i x ∷ [])) ∙ ap (map f) (sym (take_more xs i x less))
+
+-- f of an item says what is kept of it
+abbrev pub kept : {E : Type 0} → Option E → List E
+kept None = []
+kept (Some e) = e ∷ []
+
+kept_first : {Y E : Type 0} (f : Y → Option E) (y : Y) (ys : List Y) → filter_map f (y ∷ ys) ≡ kept (f y) ++ filter_map f ys
+kept_first f y ys = go (f y) refl
+  where
+    go : (o : Option _) → f y ≡ o → filter_map f (y ∷ ys) ≡ kept o ++ filter_map f ys
+    go None e = rw e
+    go (Some x) e = rw e
+
+pub kept_more : {X Y E : Type 0} (view : X → Y) (f : Y → Option E) (xs : List X) (i : ℕ) (x : X) → i < length xs → x ≡ get_or xs i x
+    → (sofar more whole : List E) → more ≡ sofar ++ kept (f (view x)) → sofar ++ filter_map f (map view (drop i xs)) ≡ whole
+    → more ++ filter_map f (map view (drop (i + 1) xs)) ≡ whole
+kept_more view f = stepped_by view (filter_map f) (λ y. kept (f y)) (kept_first f)
 
 -- what is wrong with the parts so far, with what is wrong with the rest, after one more part
 pub parts_more : (words : List Word) (parts : List Part) (i : ℕ) (x : Part) → i < length parts → (once once' : Once) (first : Option ℕ) (sofar m more whole : List Error)
