@@ -1,0 +1,9 @@
+use Rattle.std.proofs.Common.{◌<◌, Some, ap, arith, rules, sym, subst, ◌∙◌}
+use Rattle.std.specs.Result.{result_ok}
+use Rattle.cfgcosts.proofs.generator.SentenceGenerator.is_free.Goals as goal
+
+pub to_storage-requires : goal.to_storage-requires
+to_storage-requires g c = omega (arith, c.requires, c.invariant_holds.ensures.rules)
+
+pub min_sentence_cost-requires : goal.min_sentence_cost-requires
+min_sentence_cost-requires g c = subst (λ r. r < c.args.self.now.grammar.rules) (sym c.to_storage.ensures) c.requires
