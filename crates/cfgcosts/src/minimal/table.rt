@@ -48,8 +48,8 @@ impl<'a, S: Storage, T: Tables<S>> SentenceGenerator<'a, S, T> {
         }
     }
 
-    /// The sentences of rules that chain productions lead to from each other, if the table has those of the other rules
-    /// in their optimal productions.
+    /// The sentences of rules that lead to each other by chain productions, if the table has those of the other rules in
+    /// their optimal productions.
     ///
     /// # Errors
     ///
@@ -100,8 +100,8 @@ impl<'a, S: Storage, T: Tables<S>> SentenceGenerator<'a, S, T> {
     }
 
     /// All cheapest sentences of each rule, by the rules' numbers: lists of token indices, each once, in lexicographic
-    /// order; none for a rule of which [`min_sentence_cost`](SentenceGenerator::min_sentence_cost) returns an error.
-    /// Each optimal production is visited once, whatever the number of rules whose sentences it makes.
+    /// order; none where [`min_sentence_cost`](SentenceGenerator::min_sentence_cost) returns an error. Each production
+    /// makes its sentences once, for all rules that have them.
     ///
     /// # Errors
     ///

@@ -1,4 +1,4 @@
-use Rattle.std.proofs.Common.{◌≡◌, ◌<◌, ◌++◌, ◌∷◌, ℕ, [], All, Contains, length, map, ap, rules, sym, subst, ◌∙◌}
+use Rattle.std.proofs.Common.{◌<◌, ◌++◌, ◌∷◌, ℕ, [], All, Contains, length, map, ap, rules, sym, subst, ◌∙◌}
 use Rattle.std.proofs.lemmas.List.Elements.{All-contains_itself, All-weaker, Contains-get_or}
 use Rattle.cfgchoices.specs.Kinds.{production_numbers}
 use Rattle.cfgcosts.specs.Inner.Minimal.{AreListed}

@@ -1,5 +1,4 @@
-use Rattle.std.proofs.Common.{◌<◌, Some, ap, arith, rules, sym, subst, ◌∙◌}
-use Rattle.std.specs.Result.{result_ok}
+use Rattle.std.proofs.Common.{◌<◌, arith, sym, subst}
 use Rattle.cfgcosts.proofs.generator.SentenceGenerator.is_free.Goals as goal
 
 pub to_storage-requires : goal.to_storage-requires

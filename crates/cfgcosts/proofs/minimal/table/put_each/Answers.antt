@@ -1,4 +1,4 @@
-use Rattle.std.proofs.Common.{ℕ, length, map, sym, ap, subst, take, ◌∙◌, ◌<◌, ◌+◌, arith}
+use Rattle.std.proofs.Common.{map, subst}
 use Rattle.std.proofs.lemmas.List.{take_all}
 use Rattle.cfgcosts.specs.Inner.Minimal.{PutsEach, sentences_in}
 use Rattle.cfgcosts.specs.Sentences.{numbers_of}
