@@ -37,7 +37,13 @@ fn rule_lines(
     let all = generator.all_min_sentences(alloc)?;
     let mut lines = String::new(alloc);
     for ridx in grammar.iter_rules() {
-        write_rule(&mut lines, grammar, generator, ridx, &all[usize::from(ridx)])?;
+        write_rule(
+            &mut lines,
+            grammar,
+            generator,
+            ridx,
+            &all[usize::from(ridx)],
+        )?;
     }
     Ok(lines)
 }
