@@ -1,4 +1,4 @@
--- All minimal sentences of a rule, from a table that is filled by increasing cost.
+-- All minimal sentences, from a table: of a rule, filled by increasing cost, or of all rules, filled component by component.
 use Rattle.std.specs.Prelude.{◌≡◌, ◌↔◌, ℕ, ◌<◌, ◌⊎◌, List, [], ◌∷◌, ◌++◌, Some, Contains, map, Vec}
 use Rattle.std.specs.Ordering.{nat_cmp}
 use Rattle.std.specs.BTreeMap.{BTreeMap, get}

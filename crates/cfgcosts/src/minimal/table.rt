@@ -48,7 +48,7 @@ impl<'a, S: Storage, T: Tables<S>> SentenceGenerator<'a, S, T> {
         }
     }
 
-    /// The sentences of rules that lead to each other by chain productions, if the table has those of the other rules in
+    /// The sentences of rules that lead to each other by chain productions. The table has those of the other rules in
     /// their optimal productions.
     ///
     /// # Errors
