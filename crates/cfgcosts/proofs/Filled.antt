@@ -24,7 +24,7 @@ use Rattle.search.proofs.Keys.{itself_found, same_key}
 use Rattle.cfgchoices.proofs.Optimal.{free_minimal, minimal_free, minimal_made, base_less, base_makes}
 
 -- another split of the word, as the rules of the list allow
-cut_within : (F G : ℕ → List ℕ → Type 0) {a : List Sym} {w : List ℕ} → ((r : ℕ) (u : List ℕ) → Contains a (Rule r) → F r u → G r u) → Split F a w → Split G a w
+pub cut_within : (F G : ℕ → List ℕ → Type 0) {a : List Sym} {w : List ℕ} → ((r : ℕ) (u : List ℕ) → Contains a (Rule r) → F r u → G r u) → Split F a w → Split G a w
 cut_within F G f done = done
 cut_within F G f (itself {a = a} s) = itself (cut_within F G (λ r u h k. f r u (contains_later _ (Rule r) a h) k) s)
 cut_within F G f (part {r = r} {a = a} {u = u} h s e) =
@@ -35,14 +35,19 @@ module _ {S : Type 0} (number : S → ℕ) where
   abbrev read : Option (Vec (Vec (TIdx S) Global) Global) → List (List ℕ)
   read o = unwrap_or (option_map (words_of number) o) []
 
+  -- the others keep theirs, whatever is put for a rule, and also if it is removed
+  pub keeps : (old new : BTreeMap ℕ (Vec (Vec (TIdx S) Global) Global)) (r : ℕ) (o : Option (Vec (Vec (TIdx S) Global) Global))
+      → ((q : ℕ) → get nat_cmp new q ≡ cond (is_at (nat_cmp r) q) o (get nat_cmp old q)) → (q : ℕ) → (q ≡ r → ⊥) → sentences_in number new q ≡ sentences_in number old q
+  keeps old new r o updates q apart = elim (same_key r q) [
+    | inl h ↦ absurd (apart (sym h.1))
+    | inr h ↦ ap read (updates q ∙ ap (λ b. cond b o (get nat_cmp old q)) h.0)
+  ]
+
   pub puts : (old new : BTreeMap ℕ (Vec (Vec (TIdx S) Global) Global)) (r : ℕ) (words : Vec (Vec (TIdx S) Global) Global)
       → ((q : ℕ) → get nat_cmp new q ≡ cond (is_at (nat_cmp r) q) (Some words) (get nat_cmp old q)) → Puts r (words_of number words) (sentences_in number old) (sentences_in number new)
   puts old new r words updates = record {
     here = ap read (updates r ∙ ap (λ b. cond b (Some words) (get nat_cmp old r)) (itself_found r));
-    others = λ q apart. elim (same_key r q) [
-      | inl h ↦ absurd (apart (sym h.1))
-      | inr h ↦ ap read (updates q ∙ ap (λ b. cond b (Some words) (get nat_cmp old q)) h.0)
-    ];
+    others = keeps old new r (Some words) updates;
   }
 
   -- those of a rule that are removed from it

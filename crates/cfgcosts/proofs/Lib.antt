@@ -12,3 +12,4 @@ pub mod OnlyTargets
 pub mod ReachedBases
 pub mod RequestedRules
 pub mod Filled
+pub mod Components

@@ -2,6 +2,7 @@
 use Rattle.std.proofs.Common.{◌≡◌, ◌↔◌, ℕ, ◌+◌, ◌<◌, ◌≤◌, inl, inr, List, [], ◌∷◌, ◌++◌, Contains, get_or, length, take, refl, sym, ap, subst, ◌∙◌}
 use Rattle.std.proofs.lemmas.List.{take_all, take_more}
 use Rattle.std.proofs.lemmas.List.Elements.{Contains-append_left, Contains-push, Contains-push_cases}
+use Rattle.derivation.specs.Grammar.{Grammar}
 use Rattle.cfgtables.specs.Openings.{nth_production, ArePositionsOf}
 use Rattle.search.specs.Reachable.{FoundBy, Reachable, Reaches, SearchState, led, seed}
 use Rattle.search.proofs.Reaching.{Begun, Searching, popped_reachable, reaches_as, search_begins, search_ends, search_goes_on}
@@ -23,21 +24,21 @@ lists_one base base' Is p e to from q = (
   ])),
 )
 
--- the rules that chain productions lead to, and the base productions
-module _ (x : CostTables) where
-  abbrev pub BaseAmong : List ℕ → ℕ → Type 0
-  BaseAmong positions q = Contains positions q × IsBase x q
+-- of the productions with these numbers those that satisfy `Is`
+module _ (Is : ℕ → Type 0) where
+  abbrev pub IsAmong : List ℕ → ℕ → Type 0
+  IsAmong positions q = Contains positions q × Is q
 
   module _ (positions : List ℕ) where
-    pub owns_begin : (base : List ℕ) → Lists (BaseAmong (take 0 positions)) base base
-    owns_begin base = lists_none base (BaseAmong []) (λ p h. contains_none p h.0)
+    pub owns_begin : (listed : List ℕ) → Lists (IsAmong (take 0 positions)) listed listed
+    owns_begin listed = lists_none listed (IsAmong []) (λ p h. contains_none p h.0)
 
     module _ (n p : ℕ) (lt : n < length positions) (is : p ≡ get_or positions n p) where
       longer : take (n + 1) positions ≡ take n positions ++ (p ∷ [])
       longer = take_more positions n p lt ∙ ap (λ q. take n positions ++ (q ∷ [])) (sym is)
 
-      pub owns_more : (old mid new : List ℕ) → Lists (BaseAmong (take n positions)) old mid → Lists (λ q. (q ≡ p) × IsBase x q) mid new
-          → Lists (BaseAmong (take (n + 1) positions)) old new
+      pub owns_more : (old mid new : List ℕ) → Lists (IsAmong (take n positions)) old mid → Lists (λ q. (q ≡ p) × Is q) mid new
+          → Lists (IsAmong (take (n + 1) positions)) old new
       owns_more old mid new w v q = (
         (λ h. elim ((v q).0 h) [
           | inl i ↦ elim ((w q).0 i) [
@@ -55,19 +56,22 @@ module _ (x : CostTables) where
         ])),
       )
 
-    module _ (rule : ℕ) (are : ArePositionsOf x.grammar rule positions) where
-      pub targets_end : (old new : SearchState) → Reaches (FoundBy (IsChain x) positions) old new → Reaches (LeadsTo x rule) old new
-      targets_end old new w = reaches_as (FoundBy (IsChain x) positions) (LeadsTo x rule) old new
-          (λ q h. record { index = h.thing; owner = (are.listed h.thing h.finds.optimal.index).0 h.among; target = h.finds })
-          (λ q h. record { thing = h.index; among = (are.listed h.index h.target.optimal.index).1 h.owner; finds = h.target })
-          w
-
-      pub owns_end : (n : ℕ) → length positions ≤ n → (old new : List ℕ) → Lists (BaseAmong (take n positions)) old new → Lists (λ p. ((nth_production x.grammar p).rule ≡ rule) × IsBase x p) old new
+    module _ (g : Grammar) (rule : ℕ) (are : ArePositionsOf g rule positions) (within : (p : ℕ) → Is p → p < length g.productions) where
+      pub owns_end : (n : ℕ) → length positions ≤ n → (old new : List ℕ) → Lists (IsAmong (take n positions)) old new
+          → Lists (λ p. ((nth_production g p).rule ≡ rule) × Is p) old new
       owns_end n le old new w q =
-          let all = subst (λ l. Lists (BaseAmong l) old new) (take_all n positions le) w in (
-            (λ h. elim ((all q).0 h) [ inl i ↦ inl i | inr i ↦ inr ((are.listed q i.1.optimal.index).0 i.0, i.1) ]),
-            (λ h. (all q).1 (elim h [ inl i ↦ inl i | inr i ↦ inr ((are.listed q i.1.optimal.index).1 i.0, i.1) ])),
+          let all = subst (λ l. Lists (IsAmong l) old new) (take_all n positions le) w in (
+            (λ h. elim ((all q).0 h) [ inl i ↦ inl i | inr i ↦ inr ((are.listed q (within q i.1)).0 i.0, i.1) ]),
+            (λ h. (all q).1 (elim h [ inl i ↦ inl i | inr i ↦ inr ((are.listed q (within q i.1)).1 i.0, i.1) ])),
           )
+
+-- the rules that chain productions lead to
+pub targets_end : (x : CostTables) (positions : List ℕ) (rule : ℕ) → ArePositionsOf x.grammar rule positions
+    → (old new : SearchState) → Reaches (FoundBy (IsChain x) positions) old new → Reaches (LeadsTo x rule) old new
+targets_end x positions rule are old new w = reaches_as (FoundBy (IsChain x) positions) (LeadsTo x rule) old new
+    (λ q h. record { index = h.thing; owner = (are.listed h.thing h.finds.optimal.index).0 h.among; target = h.finds })
+    (λ q h. record { thing = h.index; among = (are.listed h.index h.target.optimal.index).1 h.owner; finds = h.target })
+    w
 
 -- rules that links reach from a rule are those along the links
 module _ (Link : ℕ → ℕ → Type 0) (r : ℕ) where

@@ -1,5 +1,5 @@
 -- The results for a rule's greatest cost and for its minimal sentences.
-use Rattle.std.specs.Prelude.{◌≡◌, ◌↔◌, ℕ, ◌<◌, ◌≤◌, List, Option, Some, None, Result, Ok, Err, Contains, map, Vec, codes}
+use Rattle.std.specs.Prelude.{◌≡◌, ◌↔◌, ℕ, ◌<◌, ◌≤◌, List, [], Option, Some, None, Result, Ok, Err, Contains, length, map, slice_index_or, Vec, codes}
 use Rattle.std.specs.List.Sorted.{IsStrictlySortedBy}
 use Rattle.std.specs.declared.alloc.Global.{Global}
 use Rattle.cfgindex.specs.declared.idxnewtype.TIdx.{TIdx}
@@ -39,3 +39,8 @@ pub record ReturnsGreatest (P : ℕ → List Sym → Type 0) (cost : ℕ → ℕ
 pub record ListsMinimal (P : ℕ → List Sym → Type 0) (cost : ℕ → ℕ) (r : ℕ) (sentences : List (List ℕ)) : Type 0 where
   pub all : (w : List ℕ) → Contains sentences w ↔ (Minimal P cost r w × (cost_of cost w ≤ 65535))
   pub order : IsStrictlySortedBy lexicographic sentences
+
+-- for each of so many rules its cheapest sentences
+pub record ListAllMinimal (P : ℕ → List Sym → Type 0) (cost : ℕ → ℕ) (rules : ℕ) (all : List (List (List ℕ))) : Type 0 where
+  pub entries : length all ≡ rules
+  pub each : (r : ℕ) → r < rules → ListsMinimal P cost r (slice_index_or all r [])

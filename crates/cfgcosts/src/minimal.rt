@@ -2,5 +2,7 @@
 
 mod all;
 mod base;
+mod optimal;
 mod products;
 mod requested;
+mod table;

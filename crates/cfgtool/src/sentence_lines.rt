@@ -10,7 +10,7 @@ ghost use Rattle.cfgtool.specs.SentenceLines.{AreNamed, AreSentenceLines, Report
 ghost use Rattle.cfgtool.specs.SentenceLines.{cost_line, greatest_word, least_word, sentence_line, token_text};
 
 use cfgrammar::yacc::YaccGrammar;
-use cfgrammar::yacc::sentences::{CostError, SentenceError, SentenceGenerator};
+use cfgrammar::yacc::sentences::{CostError, SentenceGenerator};
 use cfgrammar::{RIdx, TIdx};
 use std::alloc::{AllocError, Global};
 
@@ -34,31 +34,40 @@ fn rule_lines(
         (length grammar.now.rules)
         (string_bytes lines)) }
 {
+    let all = generator.all_min_sentences(alloc)?;
     let mut lines = String::new(alloc);
     for ridx in grammar.iter_rules() {
-        write_rule(alloc, &mut lines, grammar, generator, ridx)?;
+        write_rule(
+            &mut lines,
+            grammar,
+            generator,
+            ridx,
+            &all[usize::from(ridx)],
+        )?;
     }
     Ok(lines)
 }
 
-/// Writes the lines of a rule.
+/// Writes the lines of a rule that has these cheapest sentences.
 fn write_rule(
-    alloc: Global,
     lines: &mut String,
     grammar: &YaccGrammar<u32>,
     generator: &SentenceGenerator<'_, u32, YaccGrammar<u32>>,
     ridx: RIdx<u32>,
+    sentences: &[Vec<TIdx<u32>>],
 ) -> Result<(), AllocError>
     requires within { ridx.0 < length grammar.now.rules }
     requires same { generator.now.grammar ≡ core grammar.now }
+    requires minimal { ListsMinimal (HasProduction (core grammar.now)) (token_cost generator.now)
+        ridx.0 (map (numbers_of (λ s. s)) sentences.now) }
     ensures { OnOk result ((text : _) × ReportsRule grammar.now (token_cost generator.now) ridx.0 text
         × (string_bytes lines.new ≡ string_bytes lines.old ++ text)) }
 {
+    grammar.invariant_holds();
     let least = generator.min_sentence_cost(ridx);
     let greatest = generator.max_sentence_cost(ridx);
     write_costs(lines, grammar.rule_name_str(ridx), least, greatest)?;
-    let sentences = minimal_sentences(alloc, grammar, generator, ridx)?;
-    write_sentences(lines, grammar, &sentences)
+    write_sentences(lines, grammar, sentences)
 }
 
 /// Writes the line of a rule's costs.
@@ -100,30 +109,6 @@ fn write_greatest(
         Ok(Some(cost)) => write!(lines, "{cost}"),
         Err(CostError::NoSentence) => lines.push_str("none"),
         Err(CostError::CostTooLarge) => lines.push_str("too large"),
-    }
-}
-
-/// The cheapest sentences of a rule; none if they cost more than 65535.
-fn minimal_sentences(
-    alloc: Global,
-    grammar: &YaccGrammar<u32>,
-    generator: &SentenceGenerator<'_, u32, YaccGrammar<u32>>,
-    ridx: RIdx<u32>,
-) -> Result<Vec<Vec<TIdx<u32>>>, AllocError>
-    requires within { ridx.0 < length grammar.now.rules }
-    requires same { generator.now.grammar ≡ core grammar.now }
-    ensures minimal { IfOk result (λ sentences. ListsMinimal (HasProduction (core grammar.now))
-        (token_cost generator.now)
-        ridx.0 (map (numbers_of (λ s. s)) sentences.items)) }
-    ensures tokens { IfOk result (λ sentences. All (AreNamed grammar.now)
-        (map (numbers_of (λ s. s)) sentences.items)) }
-{
-    grammar.invariant_holds();
-    match generator.min_sentences(alloc, ridx) {
-        Ok(sentences) => Ok(sentences),
-        Err(SentenceError::NoSentence) => Ok(Vec::new(alloc)),
-        Err(SentenceError::CostTooLarge) => Ok(Vec::new(alloc)),
-        Err(SentenceError::OutOfMemory) => Err(AllocError),
     }
 }
 

@@ -1,5 +1,5 @@
--- All minimal sentences of a rule, from a table that is filled by increasing cost.
-use Rattle.std.specs.Prelude.{◌≡◌, ◌↔◌, ℕ, ◌⊎◌, List, [], ◌∷◌, ◌++◌, Some, Contains, map, Vec}
+-- All minimal sentences, from a table: of a rule, filled by increasing cost, or of all rules, filled component by component.
+use Rattle.std.specs.Prelude.{◌≡◌, ◌↔◌, ℕ, ◌<◌, ◌⊎◌, List, [], ◌∷◌, ◌++◌, Some, Contains, map, Vec}
 use Rattle.std.specs.Ordering.{nat_cmp}
 use Rattle.std.specs.BTreeMap.{BTreeMap, get}
 use Rattle.std.specs.List.{flat_map, fold}
@@ -7,13 +7,14 @@ use Rattle.std.specs.List.Sorted.{IsStrictlySortedBy}
 use Rattle.std.specs.Option.{option_map, unwrap_or}
 use Rattle.std.specs.declared.alloc.Global.{Global}
 use Rattle.cfgindex.specs.declared.idxnewtype.TIdx.{TIdx}
-use Rattle.derivation.specs.Grammar.{Grammar, Sym, Rule, Token}
+use Rattle.derivation.specs.Grammar.{Grammar, Sym, Rule, Token, HasProduction}
 use Rattle.cfgtables.specs.Openings.{nth_production}
-use Rattle.cfgleast.specs.Generator.{CostTables, cost_answer}
+use Rattle.cfgleast.specs.Generator.{CostTables, cost_answer, token_cost}
 use Rattle.cfgchoices.specs.FirstSentence.{lexicographic}
 use Rattle.cfgchoices.specs.Splits.{Split}
-use Rattle.cfgchoices.specs.Kinds.{IsMinimal, ReachesBase}
-use Rattle.cfgcosts.specs.Sentences.{numbers_of}
+use Rattle.cfgchoices.specs.Kinds.{IsMinimal, IsOptimal, ReachesBase}
+use Rattle.cfgcosts.specs.Sentences.{ListsMinimal, numbers_of}
+use Rattle.search.specs.Components.{ReachableFrom}
 
 -- the new list has what the old one has, and what satisfies `Is`
 abbrev pub Lists : (ℕ → Type 0) → List ℕ → List ℕ → Type 0
@@ -70,3 +71,26 @@ pub record AreMinimal (x : CostTables) (r : ℕ) (words : List (List ℕ)) : Typ
 -- the table has the minimal sentences of each rule in a base production that the rule reaches
 abbrev pub IsReadyFor : CostTables → (ℕ → List (List ℕ)) → ℕ → Type 0
 IsReadyFor x sentences r = (p q : ℕ) → ReachesBase x r p → Contains (nth_production x.grammar p).symbols (Rule q) → AreMinimal x q (sentences q)
+
+-- the words are those that are to be listed for the rule
+abbrev pub AreListed : CostTables → ℕ → List (List ℕ) → Type 0
+AreListed x = ListsMinimal (HasProduction x.grammar) (token_cost x)
+
+-- an optimal production of rule r contains rule q
+pub record Uses (x : CostTables) (r q : ℕ) : Type 0 where
+  pub index : ℕ
+  pub optimal : IsOptimal x index
+  pub owner : (nth_production x.grammar index).rule ≡ r
+  pub holds : Contains (nth_production x.grammar index).symbols (Rule q)
+
+-- Each of the rules uses each other one, and none has sentences yet. Those of the other rules that they use are listed.
+pub record IsReadyComponent (x : CostTables) (sentences : ℕ → List (List ℕ)) (rules : List ℕ) : Type 0 where
+  pub within : (r : ℕ) → Contains rules r → r < x.grammar.rules
+  pub together : (r q : ℕ) → Contains rules r → Contains rules q → ReachableFrom (Uses x) r q
+  pub none : (r : ℕ) → Contains rules r → sentences r ≡ []
+  pub used : (r q : ℕ) → Contains rules r → Uses x r q → Contains rules q ⊎ AreListed x q (sentences q)
+
+-- these are now the sentences of each of the rules, and the other rules keep theirs
+pub record PutsEach (rules : List ℕ) (words : List (List ℕ)) (sentences sentences' : ℕ → List (List ℕ)) : Type 0 where
+  pub here : (r : ℕ) → Contains rules r → sentences' r ≡ words
+  pub others : (q : ℕ) → (Contains rules q → ⊥) → sentences' q ≡ sentences q

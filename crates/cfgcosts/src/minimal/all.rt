@@ -36,7 +36,7 @@ impl<'a, S: Storage, T: Tables<S>> SentenceGenerator<'a, S, T> {
     /// # Errors
     ///
     /// Out of memory.
-    fn made_words(
+    pub(crate) fn made_words(
         &self,
         alloc: Global,
         base: &[PIdx<S>],

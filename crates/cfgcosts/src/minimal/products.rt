@@ -13,6 +13,24 @@ use std::slice::from_ref;
 /// Sentences of some rules.
 pub(crate) type SentenceTable<S> = BTreeMap<usize, Vec<Vec<TIdx<S>>>>;
 
+/// A copy of the words.
+///
+/// # Errors
+///
+/// Out of memory.
+pub(crate) fn copied<S: Storage>(
+    alloc: Global,
+    words: &[Vec<TIdx<S>>],
+) -> Result<Vec<Vec<TIdx<S>>>, AllocError>
+    ensures { IfOk result (λ copy. words_of S.number copy ≡ map (numbers_of S.number) words.now) }
+{
+    let mut copy = Vec::new(alloc);
+    for word in words {
+        copy.push(Vec::from_slice(alloc, word)?)?;
+    }
+    Ok(copy)
+}
+
 /// Two words, concatenated.
 ///
 /// # Errors

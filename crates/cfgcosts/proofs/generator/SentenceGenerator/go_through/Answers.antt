@@ -4,7 +4,7 @@ use Rattle.search.proofs.Each.{each_none, each_more, each_all, found_mapped}
 use Rattle.cfgtables.specs.Openings.{ArePositionsOf}
 use Rattle.cfgtables.proofs.Slices.{mapped_within, mapped_at, mapped_all}
 use Rattle.cfgleast.specs.Generator.{CostTables}
-use Rattle.cfgchoices.specs.Kinds.{IsChain, production_numbers}
+use Rattle.cfgchoices.specs.Kinds.{IsBase, IsChain, production_numbers}
 use Rattle.cfgcosts.proofs.ReachedBases.{targets_end, owns_begin, owns_more, owns_end}
 use Rattle.cfgcosts.proofs.generator.SentenceGenerator.go_through.Goals as goal
 
@@ -14,7 +14,7 @@ rule_to_prods-p-items-requires g c = subst (λ (x : CostTables). g.S.Storage.num
 pub loop-p-init : goal.loop-p-init
 loop-p-init g c =
     let positions = production_numbers g.S.Storage.number c.rule_to_prods-p-items.result.now in
-    record { targets = each_none _ _; base = owns_begin c.args.self.now positions (production_numbers g.S.Storage.number c.args.base.now.items) }
+    record { targets = each_none _ _; base = owns_begin (IsBase c.args.self.now) positions (production_numbers g.S.Storage.number c.args.base.now.items) }
 
 pub add_production-requires-clause-index : goal.add_production-requires-clause-index
 add_production-requires-clause-index g c = subst (λ (x : CostTables). g.S.Storage.number c.p-item.result.0 < length x.grammar.productions) c.self.view_is
@@ -33,7 +33,7 @@ loop-p-preserved g c =
     let at = mapped_at (λ p. g.S.Storage.number p.0) _ _ _ c.p-item.is lt in
     record {
       targets = each_more _ _ _ _ _ _ _ lt c.p-item.is c.loop-p.invariant.targets c.in_ok-add_production.ensures.target;
-      base = owns_more x positions c.loop-p.p-index (g.S.Storage.number c.p-item.result.0) within at _ _ _ c.loop-p.invariant.base c.in_ok-add_production.ensures.base;
+      base = owns_more (IsBase x) positions c.loop-p.p-index (g.S.Storage.number c.p-item.result.0) within at _ _ _ c.loop-p.invariant.base c.in_ok-add_production.ensures.base;
     }
 
 pub returns : goal.returns
@@ -45,5 +45,5 @@ returns g c =
     record {
       targets = targets_end x positions rule are _ _ (found_mapped (λ p. g.S.Storage.number p.0) (IsChain x) c.rule_to_prods-p-items.result.now _ _
           (each_all _ _ _ _ _ (omega (arith, c.loop-p-test.false, c.loop-p.auto.p-index-end)) c.loop-p.invariant.targets));
-      base = owns_end x positions rule are c.loop-p.p-index (simp length-map (omega (arith, c.loop-p-test.false, c.loop-p.auto.p-index-end))) _ _ c.loop-p.invariant.base;
+      base = owns_end (IsBase x) positions x.grammar rule are (λ p h. h.optimal.index) c.loop-p.p-index (simp length-map (omega (arith, c.loop-p-test.false, c.loop-p.auto.p-index-end))) _ _ c.loop-p.invariant.base;
     }
