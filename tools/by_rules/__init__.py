@@ -2,5 +2,6 @@
 findings.
 
 A plain reading of that page, which shares nothing with the crates. The comments name its sections. What begins with `bison`
-is on files of Yacc and Bison: tools/beside_bison compares it with Bison itself.
+is on files of Yacc and Bison, and what begins with `conflict`, with states.py, on LALR(1) conflicts: tools/beside_bison
+compares both with Bison itself.
 """

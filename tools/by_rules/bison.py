@@ -71,6 +71,7 @@ class Tree:
         self.only_precedence = []      # the names in %precedence lists
         self.rules = {}                # name: Rule, in order of the first productions; then %nterm names without a rule
         self.productions = []          # those of `$@N` come before the one that has the action
+        self.end = 'YYEOF'             # the name of the end token
         self.unneeded = []             # (name, span) of tokens that no production needs: the end of the text, and Bison's own
         self.programs = None           # the epilogue
 
@@ -543,6 +544,7 @@ def tree_of(reader, names, epilogue):
             tree.listed_again.append((name, span))
         listed.add(name)
     tree.unneeded = [(names.name(key), span) for key, span, is_end in reader.declared_tokens if is_end or names.is_own(key)]
+    tree.end = next((names.name(key) for key, _, is_end in reader.declared_tokens if is_end), tree.end)
     for key, level, name, span in reader.precedences:
         tree.precedences.setdefault(names.name(key), (level, ASSOCIATIVITIES[name], span))
         if name == 'precedence' and names.name(key) not in tree.only_precedence:

@@ -29,6 +29,8 @@ def read_bison(t):
     tree = Tree('Original')
     tree.start, tree.expect, tree.expectrr, tree.programs = found.start, found.expect, found.expectrr, found.programs
     tree.precedences, tree.declared_again = found.precedences, found.listed_again
+    tree.has_default_precedence, tree.only_precedence = found.has_default_precedence, found.only_precedence
+    tree.end = found.end
     tree.tokens = {name: token.span for name, token in found.tokens.items()}
     tree.unused = [(True, name, span) for name, span in found.unneeded]
     tree.printed = {name: (token.span, token.alias[0], token.alias[1])

@@ -41,6 +41,9 @@ class Tree:
         self.programs = None       # text
         self.unused = []           # [(is it a token, name, span)] of the %expect-unused lists
         self.levels = 0            # the number of precedence declarations
+        self.has_default_precedence = True         # whether a production has the precedence of its last token
+        self.only_precedence = []  # the names in %precedence lists
+        self.end = None            # the name of the end token, if the file has it
         self.precedences = {}      # name: (level, associativity, span), in order
         self.printed = {}          # name: (span of the key, text, span of the string), in order
         self.avoid_insert = None   # name: span, in order
