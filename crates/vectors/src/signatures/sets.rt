@@ -1,10 +1,12 @@
-//! Sets of grammars, and productions that are opened.
+//! Sets of grammars, productions that are opened, and sentences.
 
 ghost use Rattle.std.specs.Prelude.{◌-◌, ◌^◌, ◌<◌, length};
 
+use cfgrammar::yacc::SentenceGenerator;
 use cfgrammar::yacc::firsts::YaccFirsts;
 use cfgrammar::yacc::grammar::Productions;
 use cfgrammar::{PIdx, RIdx, Storage, Symbol, TIdx};
+use std::alloc::{AllocError, Global};
 
 /// A bit that is set in FIRST sets.
 pub fn set<S: Storage>(firsts: &mut YaccFirsts<S>, rule: RIdx<S>, token: TIdx<S>) -> bool
@@ -26,4 +28,12 @@ pub fn opened<S: Storage, P: Productions<S>>(
     let rule: RIdx<S> = productions.rule_of(production);
     let symbols: &[Symbol<S>] = productions.open(production);
     (rule, symbols.len())
+}
+
+/// The cheapest sentences of each rule.
+pub fn cheapest(
+    alloc: Global,
+    generator: &SentenceGenerator<'_, u32>,
+) -> Result<Vec<Vec<Vec<TIdx<u32>>>>, AllocError> {
+    generator.all_min_sentences(alloc)
 }
