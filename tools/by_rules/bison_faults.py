@@ -1,4 +1,6 @@
 """Errors of Yacc and Bison files: what each says, the word of its kind, and the note on it."""
+import re
+
 from .faults import Fault
 from .near import nearest
 
@@ -87,7 +89,10 @@ def note_on(t, error, names):
     """The note on an error in a text, or None. The names are those that may be meant."""
     covered = t[slice(*error.span)]
     if error.kind == 'Unexpected':
-        return 'found ' + found(covered)
+        no_colon = error.missing == 'rule' and re.match(rb'[A-Za-z_.]', covered)
+        return 'found ' + found(covered) + (", and no ':' after it" if no_colon else '')
+    if error.kind == 'IllegalCharacters' and covered.startswith(b'\xef\xbb\xbf'):
+        return 'a byte order mark: save the file without one'
     if error.kind in CLOSING:
         return 'no %s closes it' % CLOSING[error.kind]
     word = covered.decode('utf-8')

@@ -1,5 +1,6 @@
 -- The note on an error of a Bison file: what was found, or which name is probably meant.
-use Rattle.std.specs.Prelude.{ℕ, Bool, ◌==◌, List, [], ◌∷◌, ◌++◌, codes, drop, length, map, slice_range, take, Option, Some, None, if◌then◌else◌, unwrap_or}
+use Rattle.std.specs.Prelude.{ℕ, Bool, ◌==◌, ◌||◌, List, [], ◌∷◌, ◌++◌, codes, drop, length, map, slice_range, take, Option, Some, None, if◌then◌else◌, unwrap_or}
+use Rattle.std.specs.Char.{is_ascii_alphabetic}
 use Rattle.std.specs.List.{starts_with}
 use Rattle.std.specs.Option.{option_map_or}
 use Rattle.cfgrammar.specs.BisonError.{Error}
@@ -8,8 +9,11 @@ use Rattle.cfgrammar.specs.BisonErrorKind.TheVariants.{InvalidStart, Unexpected,
 use Rattle.cfgrammar.specs.BisonErrorSpans.{spans_of, spanskind_of}
 use Rattle.cfgrammar.specs.BisonErrorTexts.{error_text}
 use Rattle.cfgrammar.specs.BisonErrorWords.{error_word}
+use Rattle.cfgrammar.specs.BisonExpected.{Expected}
+use Rattle.cfgrammar.specs.BisonExpected.TheVariants.{Rule}
 use Rattle.cfgrammar.specs.BisonWordFaultKind.{WordFaultKind}
-use Rattle.cfgrammar.specs.BisonWordFaultKind.TheVariants.{IncompleteCode, IncompleteComment, IncompleteLiteral, IncompleteName, IncompletePrologue, IncompleteString, IncompleteTag, UnknownDirective}
+use Rattle.cfgrammar.specs.BisonWordFaultKind.TheVariants.{IllegalCharacters, IncompleteCode, IncompleteComment, IncompleteLiteral, IncompleteName, IncompletePrologue, IncompleteString, IncompleteTag, UnknownDirective}
+use Rattle.cfgrammar.specs.Pieces.{starts}
 use Rattle.cfglint.specs.ReportedErrors.{NotedError}
 use Rattle.cfglint.specs.Suggestions.{Names, most_suggestions, no_names, question_of}
 
@@ -40,6 +44,14 @@ long_word word =
 abbrev pub found_note : List ℕ → List ℕ
 found_note word = codes "found " ++ unwrap_or (long_word word) (codes "'" ++ (word ++ codes "'"))
 
+-- of a name where a rule has to be it says that no colon follows
+abbrev pub begins_as_name : List ℕ → Bool
+begins_as_name word = starts (λ b. is_ascii_alphabetic b || (b == 95 || b == 46)) word
+
+abbrev pub unexpected_note : Expected → List ℕ → List ℕ
+unexpected_note Rule word = if begins_as_name word then codes "found '" ++ (word ++ codes "', and no ':' after it") else found_note word
+unexpected_note _ word = found_note word
+
 abbrev pub symbol_note : Names → List ℕ → List ℕ
 symbol_note names name = unwrap_or (question_of names.symbols name) (codes "if it is a token, declare it by %token")
 
@@ -57,16 +69,21 @@ closing _ = None
 abbrev pub closing_note : List ℕ → List ℕ
 closing_note end = codes "no " ++ (end ++ codes " closes it")
 
-abbrev pub directive_note : WordFaultKind → List ℕ → Option (List ℕ)
-directive_note UnknownDirective word = question_of directive_names word
-directive_note _ word = None
+abbrev pub begins_with_mark : List ℕ → Bool
+begins_with_mark word = begins_with (239 ∷ 187 ∷ 191 ∷ []) word
+
+abbrev pub word_note : WordFaultKind → List ℕ → Option (List ℕ)
+word_note UnknownDirective word = question_of directive_names word
+word_note IllegalCharacters word =
+    if begins_with_mark word then Some (codes "a byte order mark: save the file without one") else None
+word_note _ word = None
 
 -- the note on a fault in a word, and on an error of this kind whose span has this text
 abbrev pub fault_note : WordFaultKind → List ℕ → Option (List ℕ)
-fault_note fault word = option_map_or (λ end. Some (closing_note end)) (closing fault) (directive_note fault word)
+fault_note fault word = option_map_or (λ end. Some (closing_note end)) (closing fault) (word_note fault word)
 
 abbrev pub note_at : Names → ErrorKind → List ℕ → Option (List ℕ)
-note_at names (Unexpected expected) word = Some (found_note word)
+note_at names (Unexpected expected) word = Some (unexpected_note expected word)
 note_at names (Word fault) word = fault_note fault word
 note_at names UnknownSymbol word = Some (symbol_note names word)
 note_at names InvalidStart word = question_of names.symbols word

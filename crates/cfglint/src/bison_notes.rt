@@ -2,12 +2,12 @@
 
 ghost use Rattle.std.specs.Prelude.{◌≡◌, IfOk, option_map, slice_range, string_bytes};
 ghost use Rattle.cfgrammar.specs.TextSpans.{IsPiece};
-ghost use Rattle.cfglint.specs.BisonNotes.{begins_with, bison_note, closing, directive_note, fault_note, found_note};
-ghost use Rattle.cfglint.specs.BisonNotes.{long_word, symbol_note};
+ghost use Rattle.cfglint.specs.BisonNotes.{begins_as_name, begins_with, begins_with_mark, bison_note, closing};
+ghost use Rattle.cfglint.specs.BisonNotes.{fault_note, found_note, long_word, symbol_note, unexpected_note, word_note};
 
 use crate::suggestion::{Names, question_of};
 use cfgrammar::Span;
-use cfgrammar::bison::{Error, ErrorKind, WordFaultKind};
+use cfgrammar::bison::{Error, ErrorKind, Expected, WordFaultKind};
 use std::alloc::{AllocError, Global};
 
 /// The note on an error, if it has one.
@@ -27,7 +27,7 @@ pub(crate) fn note_on(
 {
     let word = covered(text, error.span);
     match error.kind {
-        ErrorKind::Unexpected(_) => Ok(Some(found_note(alloc, word)?)),
+        ErrorKind::Unexpected(expected) => Ok(Some(unexpected_note(alloc, expected, word)?)),
         ErrorKind::Word(fault) => fault_note(alloc, fault, word),
         ErrorKind::UnknownSymbol => Ok(Some(symbol_note(alloc, names, word)?)),
         ErrorKind::InvalidStart => question_of(alloc, &names.symbols, word),
@@ -41,7 +41,7 @@ fn fault_note(alloc: Global, fault: WordFaultKind, word: &str) -> Result<Option<
 {
     match closing(fault) {
         Some(end) => Ok(Some(format!(in alloc; "no {end} closes it")?)),
-        None => directive_note(alloc, fault, word),
+        None => word_note(alloc, fault, word),
     }
 }
 
@@ -60,16 +60,15 @@ fn closing(fault: WordFaultKind) -> Option<&'static str>
     }
 }
 
-/// The note on a misspelled directive, if the word is one.
-fn directive_note(
-    alloc: Global,
-    fault: WordFaultKind,
-    word: &str,
-) -> Result<Option<String>, AllocError>
-    ensures { IfOk result (λ hint. option_map (λ words. string_bytes words) hint ≡ directive_note fault word.now) }
+/// The note on a misspelled directive and on a byte order mark, if the word is one.
+fn word_note(alloc: Global, fault: WordFaultKind, word: &str) -> Result<Option<String>, AllocError>
+    ensures { IfOk result (λ hint. option_map (λ words. string_bytes words) hint ≡ word_note fault word.now) }
 {
     match fault {
         WordFaultKind::UnknownDirective => question_of(alloc, &DIRECTIVES, word),
+        WordFaultKind::IllegalCharacters if begins_with_mark(word) => {
+            Ok(Some(String::from_str(alloc, "a byte order mark: save the file without one")?))
+        }
         _ => Ok(None),
     }
 }
@@ -106,6 +105,35 @@ fn long_word(word: &str) -> Option<&'static str>
         Some("a predicate")
     } else {
         None
+    }
+}
+
+/// Whether a word begins with a byte order mark.
+fn begins_with_mark(word: &str) -> bool
+    ensures { result ≡ begins_with_mark word.now }
+{
+    begins_with(word, "\u{feff}")
+}
+
+/// The note on a word that can't be here: what was found, and of a name where a rule has to be that no colon follows.
+fn unexpected_note(alloc: Global, expected: Expected, word: &str) -> Result<String, AllocError>
+    ensures { IfOk result (λ note. string_bytes note ≡ unexpected_note expected word.now) }
+{
+    match expected {
+        Expected::Rule if begins_as_name(word) => {
+            Ok(format!(in alloc; "found '{word}', and no ':' after it")?)
+        }
+        _ => found_note(alloc, word),
+    }
+}
+
+/// Whether a word begins as names do.
+fn begins_as_name(word: &str) -> bool
+    ensures { result ≡ begins_as_name word.now }
+{
+    match word.as_bytes() {
+        [b, ..] => b.is_ascii_alphabetic() || *b == b'_' || *b == b'.',
+        [] => false,
     }
 }
 
