@@ -1,0 +1,3 @@
+pub mod Spines
+pub mod Order
+pub mod Closed
