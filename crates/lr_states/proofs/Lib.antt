@@ -1,3 +1,9 @@
 pub mod Spines
 pub mod Order
 pub mod Closed
+pub mod Bits
+pub mod Rules
+pub mod Pushed
+pub mod Stepped
+pub mod Added
+pub mod Explored

@@ -1,10 +1,14 @@
 -- How items lead to items: productions that are entered, and symbols that are read.
-use Rattle.std.specs.Prelude.{◌≡◌, ◌↔◌, ◌⊎◌, ◌<◌, ◌+◌, ℕ, List, [], ◌∷◌, Some, Contains, slice_get}
+use Rattle.std.specs.Prelude.{◌≡◌, ◌==◌, ◌↔◌, ◌⊎◌, ◌<◌, ◌+◌, ℕ, Bool, cond, false, List, [], ◌∷◌, Option, None, Some, Contains, IsTrue, slice_get, slice_index_or}
 use Rattle.search.specs.Reachable.{Reachable}
 use Rattle.cfgrammar.specs.Grammar.{Grammar, Sym, Rule, Token}
 use Rattle.cfgrammar.specs.Openings.{nth_production}
 use Rattle.lr_states.specs.Viable.{IsValid}
 use Rattle.lr_states.specs.declared.Item.{Item}
+
+-- the bit with this number is on
+abbrev pub IsOn : List Bool → ℕ → Type 0
+IsOn bits n = IsTrue (slice_index_or bits n false)
 
 abbrev pub item_at : ℕ → ℕ → Item
 item_at p i = record { production = p; read = i }
@@ -19,6 +23,11 @@ pub record Enters (g : Grammar) (Used : ℕ → Type 0) (a b : ℕ) : Type 0 whe
   pub used : Used index
   pub owner : (nth_production g index).rule ≡ a
   pub begins : HasNext g (item_at index 0) (Rule b)
+
+-- the production is used, and begins with the rule
+pub record Begins (g : Grammar) (Used : ℕ → Type 0) (p rule : ℕ) : Type 0 where
+  pub used : Used p
+  pub begins : HasNext g (item_at p 0) (Rule rule)
 
 -- the rules that are next in the items; if there are none, the start rule
 pub data IsSeed (g : Grammar) (kernel : List Item) (rule : ℕ) : Type 0 where
@@ -44,10 +53,30 @@ pub record IsClosure (g : Grammar) (Used : ℕ → Type 0) (kernel items : List 
   pub all : (item : Item) → Contains items item ↔ (Contains kernel item ⊎ IsEntered g Used kernel item)
   pub sorted : AreSorted kernel → ((item : Item) → Contains kernel item → 0 < item.read) → AreSorted items
 
+-- a production before this one of which nothing is read, which is used and whose rule is reached
+pub record IsPushed (g : Grammar) (Used Reached : ℕ → Type 0) (i : ℕ) (item : Item) : Type 0 where
+  pub unread : item.read ≡ 0
+  pub below : item.production < i
+  pub used : Used item.production
+  pub reached : Reached (nth_production g item.production).rule
+
+-- such productions come after the items with symbols read
+pub record ArePushed (g : Grammar) (Used Reached : ℕ → Type 0) (kernel : List Item) (i : ℕ) (items : List Item) : Type 0 where
+  pub all : (item : Item) → Contains items item ↔ (Contains kernel item ⊎ IsPushed g Used Reached i item)
+  pub sorted : AreSorted kernel → ((item : Item) → Contains kernel item → 0 < item.read) → AreSorted items
+
 -- symbols as numbers: the rules, and after them the tokens
 abbrev pub node_of : Grammar → Sym → ℕ
 node_of g (Rule r) = r
 node_of g (Token t) = g.rules + t
+
+-- the item after its next symbol is read, if that is the one of this number
+abbrev pub step_at : Grammar → ℕ → Item → Option Sym → List Item
+step_at g node item None = []
+step_at g node item (Some symbol) = cond (node_of g symbol == node) (item_at item.production (item.read + 1) ∷ []) []
+
+abbrev pub step_of : Grammar → ℕ → Item → List Item
+step_of g node item = step_at g node item (slice_get (nth_production g item.production).symbols item.read)
 
 -- the item is one of the items, after its next symbol, of this number, is read
 pub record IsAdvanced (g : Grammar) (items : List Item) (node : ℕ) (item : Item) : Type 0 where
