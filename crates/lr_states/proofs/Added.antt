@@ -1,12 +1,18 @@
 -- Lists that are added to others, one after another.
-use Rattle.std.proofs.Common.{◌≡◌, ◌↔◌, ◌⊎◌, inl, inr, ℕ, ◌+◌, ◌<◌, ◌≤◌, Bool, true, false, List, [], ◌∷◌, ◌++◌, get_or, if◌then◌else◌, length, map, refl, sym, ap, subst, ◌∙◌, arith}
-use Rattle.std.specs.List.{list_any}
+use Rattle.std.proofs.Common.{◌≡◌, ◌==◌, ◌&&◌, Global, Vec, ◌↔◌, ◌⊎◌, inl, inr, ℕ, ◌+◌, ◌<◌, ◌≤◌, Bool, true, false, List, [], ◌∷◌, ◌++◌, get_or, if◌then◌else◌, length, map, refl, sym, ap, subst, ◌∙◌, arith, true≢false}
+use Rattle.std.specs.List.{IsDistinct, flat_map, list_any}
 use Rattle.std.specs.Bool.{Decides}
+use Rattle.std.specs.Cmp.Lexicographic.{pointwise}
 use Rattle.std.proofs.lemmas.Bool.{cases_Bool, cases_eq, cases_lt}
+use Rattle.std.proofs.lemmas.Bool.Decides.{Decides-and, Decides-eqb, Decides-like}
 use Rattle.std.proofs.lemmas.List.{get_or-map, get_or_append_left, get_or_default, get_or_past, get_or_push, length-map, length_push, map_push}
 use Rattle.std.proofs.lemmas.List.Folds.{Any-from_list_any}
+use Rattle.std.proofs.lemmas.Map.Keys.{apart_from_distinct}
+use Rattle.cfgrammar.specs.Grammar.{Grammar}
+use Rattle.cfgrammar.proofs.Elements.{element_at}
 use Rattle.lr_states.specs.declared.Item.{Item}
-use Rattle.lr_states.specs.Inner.Kernels.{Adds, IsAmong, IsOne}
+use Rattle.lr_states.specs.Inner.Kernels.{Adds, IsAmong, IsOne, IsSuccessor}
+use Rattle.lr_states.specs.Inner.Closure.{step_of}
 
 pub adds_none : (Found : List Item → Type 0) (lists : List (List Item)) → ((list : List Item) → Found list → ⊥) → Adds Found lists lists
 adds_none Found lists none = record {
@@ -89,3 +95,57 @@ module _ {K : Type 0} (show : K → List Item) (same : K → K → Bool) (decide
     | inl found ↦ subst (λ (l : List K). Adds (IsOne list) (map show keys) (map show l)) (sym (is ∙ ap {B = List K} (λ b. if b then keys else keys ++ key ∷ []) found)) (added_same list shows found)
     | inr fresh ↦ added_new list shows some new (is ∙ ap {B = List K} (λ b. if b then keys else keys ++ key ∷ []) fresh)
   ]
+
+-- kernels are equal as the code compares them
+abbrev pub same_keys : Vec Item Global → Vec Item Global → Bool
+same_keys x y = pointwise (λ (a b : Item). (a.production == b.production) && (a.read == b.read)) x.items y.items
+
+-- items are equal as the code compares them
+pub items_Decide : (x y : Item) → Decides ((x.production == y.production) && (x.read == y.read)) (x ≡ y)
+items_Decide x y = Decides-like _
+    (λ h. λ i. record { production = h.0 i; read = h.1 i })
+    (λ e. (ap (λ (z : Item). z.production) e, ap (λ (z : Item). z.read) e))
+    (Decides-and _ _ (Decides-eqb x.production y.production) (Decides-eqb x.read y.read))
+
+-- the lists of a table of steps are the successors
+pub successors_found : (g : Grammar) (items : List Item) (table : List (List Item)) → ((node : ℕ) → get_or table node [] ≡ flat_map (step_of g node) items) → (old new : List (List Item))
+    → Adds (IsAmong table (length table)) old new → Adds (IsSuccessor g items) old new
+successors_found g items table steps old new = adds_as (IsAmong table (length table)) (IsSuccessor g items) old new
+    (λ list h. record { node = h.node; is = h.is ∙ steps h.node; some = h.some })
+    (λ list h.
+      let is : list ≡ get_or table h.node [] = h.is ∙ sym (steps h.node) in
+      let some = h.some in
+      record {
+        node = h.node;
+        below = elim (cases_lt h.node (length table)) [
+          | inl within ↦ within
+          | inr past ↦ absurd (omega (arith, some, ap (λ (l : List Item). length l) (is ∙ get_or_past table h.node [] past)))
+        ];
+        is = is;
+        some = some;
+      })
+
+module _ {K : Type 0} (show : K → List Item) (same : K → K → Bool) (keys : List K) where
+  -- the first key
+  pub key_first : (key : K) → keys ≡ [] → (new : List K) → new ≡ (if list_any (same key) keys then keys else keys ++ key ∷ []) → map show new ≡ show key ∷ []
+  key_first key none new is = ap (map show) (is ∙ ap (λ (l : List K). if list_any (same key) l then l else l ++ key ∷ []) none)
+
+  -- keys that show the same are at the same index
+  module _ (decides : (x y : K) → Decides (same x y) (show x ≡ show y)) (distinct : IsDistinct same keys) where
+    before_apart : (q r : ℕ) → q < r → r < length keys → get_or (map show keys) q [] ≡ get_or (map show keys) r [] → ⊥
+    before_apart q r less within e =
+        let (x, read) = element_at keys q (omega (arith, less, within)) in
+        let first = get_or-map show keys q x [] (omega (arith, less, within)) in
+        let second = get_or-map show keys r x [] within in
+        true≢false (sym ((decides (get_or keys q x) (get_or keys r x)).1 (sym first ∙ e ∙ second)) ∙ apart_from_distinct same keys q r x distinct less within)
+
+    pub keys_apart : (q r : ℕ) → q < length (map show keys) → r < length (map show keys) → get_or (map show keys) q [] ≡ get_or (map show keys) r [] → q ≡ r
+    keys_apart q r within inside e =
+        let long = length-map keys show in
+        elim (cases_lt q r) [
+          | inl less ↦ absurd (before_apart q r less (omega (arith, inside, long)) e)
+          | inr more ↦ elim (cases_eq q r) [
+            | inl equal ↦ equal
+            | inr apart ↦ absurd (before_apart r q (omega (arith, more, apart)) (omega (arith, within, long)) (sym e))
+          ]
+        ]

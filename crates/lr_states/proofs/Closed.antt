@@ -120,3 +120,8 @@ module _ (g : Grammar) (grammar : IsGrammar g) (Used : ℕ → Type 0) (prefix :
   next_viable item among =
       let a = (advanced.all item).0 among in
       (a.symbol, kernel_next a.symbol (next_symbol g grammar (item_at item.production a.read) a.symbol a.next) a.at item among)
+
+-- the productions of a state's items exist if those of its kernel do
+pub closure_within : (g : Grammar) (Used : ℕ → Type 0) (kernel items : List Item) → IsClosure g Used kernel items → (n : ℕ) → ((item : Item) → Contains kernel item → item.production < n)
+    → ((p : ℕ) → Used p → p < n) → (item : Item) → Contains items item → item.production < n
+closure_within g Used kernel items closure n among used item h = elim ((closure.all item).0 h) [ inl k ↦ among item k | inr e ↦ used item.production e.used ]

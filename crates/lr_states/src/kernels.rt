@@ -28,6 +28,7 @@ pub(crate) fn explore(alloc: Global, used: &Used<'_>) -> Result<Vec<Vec<Item>>, 
     ensures { IfOk result (λ states. AreStates (core used.now.grammar.now) (IsOn used.now.bits)
         (map (λ items. items.items) states.items)) }
 {
+    used.grammar.invariant_holds();
     let mut kernels = IndexSet::new(alloc);
     kernels.insert(Vec::new(alloc))?;
     let mut states = Vec::new(alloc);
