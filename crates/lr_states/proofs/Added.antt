@@ -1,11 +1,11 @@
 -- Lists that are added to others, one after another.
-use Rattle.std.proofs.Common.{◌≡◌, ◌==◌, ◌&&◌, Global, Vec, ◌↔◌, ◌⊎◌, inl, inr, ℕ, ◌+◌, ◌<◌, ◌≤◌, Bool, true, false, List, [], ◌∷◌, ◌++◌, get_or, if◌then◌else◌, length, map, refl, sym, ap, subst, ◌∙◌, arith, true≢false}
+use Rattle.std.proofs.Common.{◌≡◌, ◌==◌, ◌&&◌, Global, Vec, ◌⊎◌, inl, inr, ℕ, ◌+◌, ◌<◌, Bool, true, List, [], ◌∷◌, ◌++◌, get_or, if◌then◌else◌, length, map, refl, sym, ap, subst, ◌∙◌, arith, true≢false}
 use Rattle.std.specs.List.{IsDistinct, flat_map, list_any}
 use Rattle.std.specs.Bool.{Decides}
 use Rattle.std.specs.Cmp.Lexicographic.{pointwise}
 use Rattle.std.proofs.lemmas.Bool.{cases_Bool, cases_eq, cases_lt}
 use Rattle.std.proofs.lemmas.Bool.Decides.{Decides-and, Decides-eqb, Decides-like}
-use Rattle.std.proofs.lemmas.List.{get_or-map, get_or_append_left, get_or_default, get_or_past, get_or_push, length-map, length_push, map_push}
+use Rattle.std.proofs.lemmas.List.{get_or-map, get_or_append_left, get_or_past, get_or_push, length-map, length_push, map_push}
 use Rattle.std.proofs.lemmas.List.Folds.{Any-from_list_any}
 use Rattle.std.proofs.lemmas.Map.Keys.{apart_from_distinct}
 use Rattle.cfgrammar.specs.Grammar.{Grammar}
@@ -85,8 +85,11 @@ module _ {K : Type 0} (show : K → List Item) (same : K → K → Bool) (decide
         longer = omega arith;
         kept = λ q within. refl;
         fresh = λ q past within. absurd (omega (arith, past, within));
-        all = λ other h. (k, subst (λ n. k < n) (sym (length-map keys show)) within,
-            get_or-map show keys k x [] within ∙ ap show at ∙ sym ((decides key x).0 equal) ∙ shows ∙ sym h.is);
+        all = λ other h. (
+          k,
+          subst (λ n. k < n) (sym (length-map keys show)) within,
+          get_or-map show keys k x [] within ∙ ap show at ∙ sym ((decides key x).0 equal) ∙ shows ∙ sym h.is,
+        );
       }
 
   pub key_added : (list : List Item) → show key ≡ list → 0 < length list → (new : List K) → new ≡ (if list_any (same key) keys then keys else keys ++ key ∷ [])
@@ -113,17 +116,17 @@ pub successors_found : (g : Grammar) (items : List Item) (table : List (List Ite
 successors_found g items table steps old new = adds_as (IsAmong table (length table)) (IsSuccessor g items) old new
     (λ list h. record { node = h.node; is = h.is ∙ steps h.node; some = h.some })
     (λ list h.
-      let is : list ≡ get_or table h.node [] = h.is ∙ sym (steps h.node) in
-      let some = h.some in
-      record {
-        node = h.node;
-        below = elim (cases_lt h.node (length table)) [
-          | inl within ↦ within
-          | inr past ↦ absurd (omega (arith, some, ap (λ (l : List Item). length l) (is ∙ get_or_past table h.node [] past)))
-        ];
-        is = is;
-        some = some;
-      })
+    let is : list ≡ get_or table h.node [] = h.is ∙ sym (steps h.node) in
+    let some = h.some in
+    record {
+      node = h.node;
+      below = elim (cases_lt h.node (length table)) [
+        | inl within ↦ within
+        | inr past ↦ absurd (omega (arith, some, ap (λ (l : List Item). length l) (is ∙ get_or_past table h.node [] past)))
+      ];
+      is = is;
+      some = some;
+    })
 
 module _ {K : Type 0} (show : K → List Item) (same : K → K → Bool) (keys : List K) where
   -- the first key

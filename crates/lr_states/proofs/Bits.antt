@@ -1,7 +1,7 @@
 -- Bits for numbers, as they are read and written.
-use Rattle.std.proofs.Common.{◌≡◌, ◌↔◌, inl, inr, ℕ, ◌+◌, ◌<◌, Bool, true, false, List, Option, IsTrue, get_or, slice_get, slice_set, length, unwrap_or, sym, ap, subst, ◌∙◌, arith}
+use Rattle.std.proofs.Common.{◌≡◌, ◌↔◌, inl, inr, ℕ, ◌+◌, ◌<◌, Bool, false, List, Option, IsTrue, get_or, slice_get, slice_set, length, unwrap_or, sym, ap, subst, ◌∙◌, arith}
 use Rattle.std.proofs.lemmas.Bool.{cases_eq}
-use Rattle.std.proofs.lemmas.List.{get_or-set_other, get_or-set_same, get_or-replicate}
+use Rattle.std.proofs.lemmas.List.{get_or-set_other, get_or-set_same}
 use Rattle.std.proofs.lemmas.Option.{unwrap_or-slice_get}
 use Rattle.lr_states.specs.Inner.Closure.{IsOn}
 

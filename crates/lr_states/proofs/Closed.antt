@@ -1,7 +1,7 @@
 -- The items of a state by those with symbols read, and those of the next one by its symbol.
-use Rattle.std.proofs.Common.{◌≡◌, ◌↔◌, ◌⊎◌, inl, inr, ℕ, ◌+◌, ◌-◌, ◌<◌, ◌≤◌, List, [], ◌∷◌, ◌++◌, Some, None, All, Contains, slice_get, get_or, length, refl, sym, ap, subst, ◌∙◌, arith}
+use Rattle.std.proofs.Common.{◌≡◌, inl, inr, ℕ, ◌+◌, ◌-◌, ◌<◌, List, [], ◌∷◌, ◌++◌, All, Contains, length, refl, sym, ap, subst, ◌∙◌, arith}
 use Rattle.std.proofs.lemmas.Bool.{cases_eq, cases_lt}
-use Rattle.std.proofs.lemmas.List.{get_or_past, get_or_default, append-nil, append_assoc}
+use Rattle.std.proofs.lemmas.List.{get_or_past}
 use Rattle.std.proofs.lemmas.List.Elements.{All-contains, Contains-get_or}
 use Rattle.std.proofs.lemmas.Option.{get_or_from_slice_get, slice_get_within}
 use Rattle.search.specs.Reachable.{Reachable, led, seed}
@@ -9,11 +9,10 @@ use Rattle.cfgrammar.specs.Grammar.{Grammar, IsGrammar, IsSymbolOf, Production, 
 use Rattle.cfgrammar.specs.Openings.{nth_production}
 use Rattle.cfgrammar.proofs.Contained.{contains_first, contains_none}
 use Rattle.lr_states.specs.declared.Item.{Item}
-use Rattle.lr_states.specs.Viable.{IsStateOf, IsValid, IsViable}
-use Rattle.lr_states.specs.Inner.Closure.{AreAdvanced, AreSorted, Enters, HasNext, IsAdvanced, IsClosure, IsEntered, IsKernelOf, IsSeed, first, item_at, next, node_of}
+use Rattle.lr_states.specs.Viable.{IsStateOf, IsValid}
+use Rattle.lr_states.specs.Inner.Closure.{AreAdvanced, AreSorted, HasNext, IsClosure, IsKernelOf, IsSeed, first, item_at, next, node_of}
 use Rattle.lr_states.proofs.Spines.{IsSeedAt, IsRead, none_read, opened_reached, opened_valid, read_back, read_one, reached_opened, valid_opened, viable_prefix, viable_read}
 use Rattle.lr_states.proofs.Spines as spines
-use Rattle.lr_states.proofs.Order.{sorted_same}
 
 pub reachable_as : {Seed Seed' : ℕ → Type 0} {Leads : ℕ → ℕ → Type 0} → ((n : ℕ) → Seed n → Seed' n) → {n : ℕ} → Reachable Seed Leads n → Reachable Seed' Leads n
 reachable_as more (seed {a = n} h) = seed (more n h)
@@ -50,10 +49,10 @@ module _ (g : Grammar) (Used : ℕ → Type 0) (prefix : List Sym) (kernel : Lis
       ]),
       (λ v. (closure.all item).1 (elim (cases_eq item.read 0) [
         | inl unread ↦ inr (record {
-            unread = unread;
-            used = v.used;
-            reached = reachable_as seed_from (opened_reached g Used prefix (nth_production g item.production).rule (valid_opened g Used prefix item unread v));
-          })
+          unread = unread;
+          used = v.used;
+          reached = reachable_as seed_from (opened_reached g Used prefix (nth_production g item.production).rule (valid_opened g Used prefix item unread v));
+        })
         | inr some ↦ inl ((is.all item).1 (omega (arith, some), v))
       ])),
     )
@@ -73,8 +72,11 @@ next_within g item x at = elim (cases_lt item.production (length g.productions))
   | inl within ↦ within
   | inr past ↦
       let none : (nth_production g item.production).symbols ≡ [] = ap (λ (p : Production). p.symbols) (get_or_past g.productions item.production _ past) in
-      absurd (contains_none x (subst (λ l. Contains l x) none (item.read, slice_get_within (nth_production g item.production).symbols item.read x at,
-          get_or_from_slice_get (nth_production g item.production).symbols item.read x x at)))
+      absurd (contains_none x (subst (λ l. Contains l x) none (
+        item.read,
+        slice_get_within (nth_production g item.production).symbols item.read x at,
+        get_or_from_slice_get (nth_production g item.production).symbols item.read x x at,
+      )))
 ]
 
 pub next_symbol : (g : Grammar) → IsGrammar g → (item : Item) (x : Sym) → HasNext g item x → IsSymbolOf g x

@@ -1,5 +1,5 @@
 -- Kernels that were found and states that were visited: each viable prefix is that of a state once all kernels are visited.
-use Rattle.std.proofs.Common.{◌≡◌, ◌↔◌, ◌⊎◌, inl, inr, ℕ, ◌+◌, ◌-◌, ◌<◌, ◌≤◌, List, [], ◌∷◌, ◌++◌, Contains, get_or, length, append-nil, append_assoc, refl, sym, ap, subst, ◌∙◌, arith}
+use Rattle.std.proofs.Common.{◌≡◌, ◌↔◌, inl, inr, ℕ, ◌+◌, ◌-◌, ◌<◌, ◌≤◌, List, [], ◌∷◌, ◌++◌, Contains, get_or, length, append-nil, append_assoc, refl, sym, ap, subst, ◌∙◌, arith}
 use Rattle.std.specs.List.{flat_map}
 use Rattle.std.proofs.lemmas.Bool.{cases_lt}
 use Rattle.std.proofs.lemmas.List.{get_or_append_left, get_or_push, length_push}
@@ -8,7 +8,7 @@ use Rattle.cfgrammar.specs.Grammar.{Grammar, IsGrammar, Sym}
 use Rattle.cfgrammar.proofs.Contained.{contains_none}
 use Rattle.lr_states.specs.declared.Item.{Item}
 use Rattle.lr_states.specs.Viable.{AreStates, IsStateOf, IsValid, IsViable}
-use Rattle.lr_states.specs.Inner.Closure.{AreAdvanced, HasNext, IsClosure, IsKernelOf, item_at, node_of, step_of}
+use Rattle.lr_states.specs.Inner.Closure.{AreAdvanced, IsClosure, IsKernelOf, item_at, node_of, step_of}
 use Rattle.lr_states.specs.Inner.Kernels.{Adds, IsSuccessor}
 use Rattle.lr_states.proofs.Closed.{closure_sorted, closure_state, kernel_next, next_symbol, next_viable}
 use Rattle.lr_states.proofs.Order.{sorted_same}

@@ -7,3 +7,4 @@ pub mod Pushed
 pub mod Stepped
 pub mod Added
 pub mod Explored
+pub mod Alike

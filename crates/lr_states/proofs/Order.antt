@@ -1,5 +1,5 @@
 -- Sorted items: a list of them is known by what it contains.
-use Rattle.std.proofs.Common.{◌≡◌, ◌⊎◌, inl, inr, ◌<◌, List, [], ◌∷◌, ◌++◌, Contains, refl, sym, ap, subst, ◌∙◌, arith}
+use Rattle.std.proofs.Common.{◌≡◌, inl, inr, List, [], ◌∷◌, ◌++◌, Contains, refl, sym, ap, subst, ◌∙◌, arith}
 use Rattle.std.proofs.lemmas.List.Elements.{Contains-push_cases}
 use Rattle.cfgrammar.proofs.Contained.{contains_cases, contains_first, contains_later, contains_none}
 use Rattle.lr_states.specs.declared.Item.{Item}

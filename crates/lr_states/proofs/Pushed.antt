@@ -1,12 +1,12 @@
 -- The productions that are pushed after the items with symbols read.
-use Rattle.std.proofs.Common.{◌≡◌, ◌↔◌, ◌⊎◌, inl, inr, ℕ, ◌+◌, ◌<◌, ◌≤◌, List, [], ◌∷◌, ◌++◌, Contains, refl, sym, ap, subst, ◌∙◌, arith}
+use Rattle.std.proofs.Common.{◌≡◌, ◌↔◌, ◌⊎◌, inl, inr, ℕ, ◌+◌, ◌<◌, List, [], ◌∷◌, ◌++◌, Contains, refl, sym, ap, subst, arith}
 use Rattle.std.proofs.lemmas.Bool.{cases_eq}
 use Rattle.std.proofs.lemmas.List.Elements.{Contains-append_left, Contains-push, Contains-push_cases}
 use Rattle.search.specs.Reachable.{Reachable}
 use Rattle.cfgrammar.specs.Grammar.{Grammar}
 use Rattle.cfgrammar.specs.Openings.{nth_production}
 use Rattle.lr_states.specs.declared.Item.{Item}
-use Rattle.lr_states.specs.Inner.Closure.{ArePushed, AreSorted, Enters, IsBefore, IsClosure, IsEntered, IsPushed, IsSeed, item_at}
+use Rattle.lr_states.specs.Inner.Closure.{ArePushed, AreSorted, Enters, IsClosure, IsPushed, IsSeed, item_at}
 use Rattle.lr_states.proofs.Order.{sorted_push}
 
 module _ (g : Grammar) (Used Reached : ℕ → Type 0) where

@@ -1,5 +1,5 @@
 -- Rules among symbols, and rules that are reached.
-use Rattle.std.proofs.Common.{◌≡◌, ◌↔◌, inl, inr, ℕ, ◌+◌, ◌<◌, Bool, List, [], Contains, All, IsTrue, get_or, length, map, take, refl, sym, ap, subst, ◌∙◌, arith}
+use Rattle.std.proofs.Common.{◌≡◌, ◌↔◌, inl, inr, ℕ, ◌+◌, ◌<◌, Bool, List, [], Contains, IsTrue, get_or, length, map, take, sym, ap, subst, ◌∙◌}
 use Rattle.std.proofs.lemmas.List.{get_or-map, length-map}
 use Rattle.std.proofs.lemmas.List.Elements.{All-contains}
 use Rattle.search.specs.Reachable.{FoundBy, Reaches, SearchState}
@@ -11,7 +11,7 @@ use Rattle.cfgrammar.specs.Numbered.{Numbered, core, production_core}
 use Rattle.cfgrammar.specs.PIdx.{PIdx}
 use Rattle.cfgrammar.specs.ProductiveRules.{AreProductiveRules}
 use Rattle.cfgrammar.specs.Symbol.{Symbol}
-use Rattle.cfgrammar.proofs.Contained.{contains_mapped, contains_none, contains_source}
+use Rattle.cfgrammar.proofs.Contained.{contains_none, contains_source}
 use Rattle.cfgrammar.proofs.Taken.{contains_taken}
 use Rattle.lr_states.specs.declared.Item.{Item}
 use Rattle.lr_states.specs.Inner.Closure.{Begins, Enters, HasNext, IsOn, IsSeed, first, item_at, next}
@@ -40,8 +40,8 @@ module _ (g : Grammar) (Used : ℕ → Type 0) where
       → Reaches (Enters g Used rule) old new
   enters_found rule positions are old new w = reaches_as (FoundBy (Begins g Used) positions) (Enters g Used rule) old new
       (λ n h.
-        let there = All-contains (λ p. p < length g.productions) positions h.thing are.within h.among in
-        record { index = h.thing; used = h.finds.used; owner = (are.listed h.thing there).0 h.among; begins = h.finds.begins })
+      let there = All-contains (λ p. p < length g.productions) positions h.thing are.within h.among in
+      record { index = h.thing; used = h.finds.used; owner = (are.listed h.thing there).0 h.among; begins = h.finds.begins })
       (λ n e. record {
         thing = e.index;
         among = (are.listed e.index (next_within g (item_at e.index 0) (Rule n) e.begins)).1 e.owner;

@@ -1,5 +1,5 @@
 -- Items after a symbol is read, one item after another.
-use Rattle.std.proofs.Common.{◌≡◌, ◌==◌, ◌↔◌, ◌⊎◌, inl, inr, ℕ, ◌+◌, ◌<◌, ◌≤◌, List, [], ◌∷◌, ◌++◌, Option, None, Some, cond, true, false, Bool, Contains, get_or, length, slice_get, slice_set, take, append-nil, refl, sym, ap, subst, ◌∙◌, arith}
+use Rattle.std.proofs.Common.{◌≡◌, ◌==◌, ◌⊎◌, inl, inr, ℕ, ◌+◌, ◌<◌, ◌≤◌, List, [], ◌∷◌, ◌++◌, Option, None, Some, cond, false, Contains, get_or, length, slice_get, slice_set, take, append-nil, refl, sym, ap, subst, ◌∙◌, arith}
 use Rattle.std.specs.List.{flat_map}
 use Rattle.std.proofs.lemmas.Bool.{cases_Bool, cases_eq}
 use Rattle.std.proofs.lemmas.Bool.Decides.{Decides-eqb}
@@ -96,11 +96,11 @@ module _ (g : Grammar) (node : ℕ) where
   steps_sorted [] sorted = tt
   steps_sorted (x ∷ xs) sorted = elim (step_cases x) [
     | inl one ↦ subst (λ l. AreSorted (l ++ flat_map (step_of g node) xs)) (sym one.1) (
-        (λ y h.
+      (λ y h.
           let (item, among, gives) = contains_flat (step_of g node) xs y h in
           subst (IsBefore (after x)) (sym (step_contained item y gives).is) (before_after x item (sorted.0 item among))),
-        steps_sorted xs sorted.1,
-      )
+      steps_sorted xs sorted.1,
+    )
     | inr none ↦ subst (λ l. AreSorted (l ++ flat_map (step_of g node) xs)) (sym none) (steps_sorted xs sorted.1)
   ]
 

@@ -1,11 +1,12 @@
 //! The items of a state by those with symbols read.
 
-ghost use Rattle.std.specs.Prelude.{◌≡◌, ◌↔◌, ◌<◌, ℕ, Contains, IfOk, IsTrue, OnOk, length};
+ghost use Rattle.std.specs.Prelude.{◌≡◌, ◌↔◌, ◌<◌, ℕ, [], Contains, IfOk, IsTrue, OnOk, length};
 ghost use Rattle.cfgrammar.specs.Grammar.{Rule};
 ghost use Rattle.cfgrammar.specs.Numbered.{core};
 ghost use Rattle.cfgrammar.specs.Openings.{nth_production};
 ghost use Rattle.search.specs.Reachable.{IsReachableIn, Reachable, Reaches};
 ghost use Rattle.lr_states.specs.Inner.Closure.{ArePushed, Begins, Enters, HasNext, IsClosure, IsOn, IsSeed};
+ghost use Rattle.lr_states.specs.Viable.{IsViable};
 ghost use Rattle.lr_states.specs.declared.Item.{Item};
 
 use crate::Item;
@@ -74,6 +75,16 @@ impl<'a> Used<'a> {
         Ok(items)
     }
 
+    /// Whether the empty prefix is viable.
+    pub(crate) fn is_viable(&self, alloc: Global) -> Result<bool, AllocError>
+        requires { (p : ℕ) → IsOn self.now.bits p → p < length self.now.grammar.now.productions }
+        ensures { IfOk result (λ viable. IsTrue viable
+            ↔ IsViable (core self.now.grammar.now) (IsOn self.now.bits) []) }
+    {
+        let none = Vec::new(alloc);
+        Ok(!self.closure(alloc, &none)?.is_empty())
+    }
+
     /// Pushes the used productions whose rules were reached, in order, with nothing read.
     fn push_entered(&self, search: &Search, items: &mut Vec<Item>) -> Result<(), AllocError>
         ensures { OnOk result (ArePushed (core self.now.grammar.now) (IsOn self.now.bits) (IsReachableIn search.now)
@@ -110,11 +121,7 @@ impl<'a> Edges<Bits> for Used<'a> {
 }
 
 /// Reaches the rule that is the item's next symbol, if that is one.
-fn reach_next(
-    grammar: &YaccGrammar<u32>,
-    search: &mut Search,
-    item: Item,
-) -> Result<(), AllocError>
+fn reach_next(grammar: &YaccGrammar<u32>, search: &mut Search, item: Item) -> Result<(), AllocError>
     requires within { item.production < length grammar.now.productions }
     requires nodes { length search.old.reachable ≡ length grammar.now.rules }
     ensures { OnOk result (Reaches (λ r. HasNext (core grammar.now) item (Rule r)) search.old search.new) }

@@ -17,10 +17,7 @@ use std::alloc::{AllocError, Global};
 /// # Errors
 ///
 /// Out of memory.
-pub(crate) fn used_productions(
-    alloc: Global,
-    grammar: &YaccGrammar<u32>,
-) -> Result<Vob, AllocError>
+pub(crate) fn used_productions(alloc: Global, grammar: &YaccGrammar<u32>) -> Result<Vob, AllocError>
     ensures { IfOk result (λ bits. (p : ℕ) → IsOn bits p ↔ IsUsed (core grammar.now) p) }
 {
     let productive = grammar.productive_rules(alloc)?;

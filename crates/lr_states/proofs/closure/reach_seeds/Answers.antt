@@ -1,4 +1,4 @@
-use Rattle.std.proofs.Common.{◌≡◌, ◌==◌, ℕ, ◌<◌, List, [], true, ap, arith, get_or, length}
+use Rattle.std.proofs.Common.{◌≡◌, ◌==◌, List, [], true, ap, arith, get_or, length}
 use Rattle.std.proofs.lemmas.List.{get_or_default}
 use Rattle.std.proofs.lemmas.List.Elements.{Contains-get_or}
 use Rattle.search.proofs.Each.{each_all, each_more}

@@ -1,6 +1,6 @@
-use Rattle.std.proofs.Common.{◌<◌, ap, arith, sym, ◌∙◌}
+use Rattle.std.proofs.Common.{arith, sym}
 use Rattle.cfgrammar.specs.NumberedSymbols.{sym_of}
-use Rattle.lr_states.proofs.Stepped.{read_fits, step_pushed, step_skipped}
+use Rattle.lr_states.proofs.Stepped.{read_fits}
 use Rattle.lr_states.proofs.successors.push_advanced.Goals as goal
 
 pub overflow_add-advanced : goal.overflow_add-advanced

@@ -1,4 +1,4 @@
-use Rattle.std.proofs.Common.{◌≡◌, ℕ, ◌<◌, ◌++◌, List, [], ap, arith, get_or, length, replicate, take, sym, ◌∙◌}
+use Rattle.std.proofs.Common.{◌<◌, ◌++◌, List, [], ap, arith, get_or, length, ◌∙◌}
 use Rattle.std.specs.List.{flat_map}
 use Rattle.std.proofs.lemmas.List.{get_or_default, length-replicate, take_all}
 use Rattle.std.proofs.lemmas.List.Elements.{Contains-get_or}

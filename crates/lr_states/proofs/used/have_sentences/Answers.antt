@@ -1,4 +1,4 @@
-use Rattle.std.proofs.Common.{◌≡◌, ℕ, Contains, List, false, true, get_or, sym, ap, subst, ◌∙◌, refl, true≢false, arith}
+use Rattle.std.proofs.Common.{◌≡◌, ℕ, Contains, true, get_or, sym, subst, ◌∙◌, refl, true≢false, arith}
 use Rattle.std.proofs.lemmas.List.{get_or_default, take_all}
 use Rattle.std.proofs.lemmas.List.Elements.{Contains-get_or}
 use Rattle.cfgrammar.specs.Grammar.{Rule, Token}
@@ -23,9 +23,9 @@ returns-then-not-unwrap_or c =
     let read = bit_read bits c.from.result c.get.result c.unwrap_or.result c.get.ensures c.unwrap_or.ensures in (
       (λ no. absurd (true≢false (sym no))),
       (λ have.
-        let on : IsOn bits c.from.result = subst (IsOn bits) (sym c.from.ensures) (have c.in-Rule.rule.0 (contains_mapped (sym_of (λ s. s)) all x among)) in
-        let yes : c.unwrap_or.result ≡ true = read ∙ on in
-        let off = c.if-not-unwrap_or.true in cc),
+          let on : IsOn bits c.from.result = subst (IsOn bits) (sym c.from.ensures) (have c.in-Rule.rule.0 (contains_mapped (sym_of (λ s. s)) all x among)) in
+          let yes : c.unwrap_or.result ≡ true = read ∙ on in
+          let off = c.if-not-unwrap_or.true in cc),
     )
 
 pub loop-symbol-preserved : goal.loop-symbol-preserved

@@ -29,6 +29,6 @@ pub returns : goal.returns
 returns c = λ p. (
   (λ on. ((c.loop-production.invariant.bits p).0 on).1),
   (λ used.
-    let there : p < length c.args.grammar.now.productions = subst (λ n. p < n) (length-map c.args.grammar.now.productions production_core) used.within in
-    (c.loop-production.invariant.bits p).1 (omega (arith, there, c.loop-production-test.false, c.from-count.ensures, c.prods_len.ensures), used)),
+      let there : p < length c.args.grammar.now.productions = subst (λ n. p < n) (length-map c.args.grammar.now.productions production_core) used.within in
+      (c.loop-production.invariant.bits p).1 (omega (arith, there, c.loop-production-test.false, c.from-count.ensures, c.prods_len.ensures), used)),
 )

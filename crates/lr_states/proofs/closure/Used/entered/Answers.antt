@@ -1,4 +1,3 @@
-use Rattle.std.proofs.Common.{ℕ}
 use Rattle.search.proofs.Reaching.{begun}
 use Rattle.lr_states.proofs.Closed.{reachable_as}
 use Rattle.lr_states.proofs.closure.Used.entered.Goals as goal

@@ -1,4 +1,4 @@
-use Rattle.std.proofs.Common.{◌≡◌, ◌+◌, Global, Vec, ap, refl, sym, subst, ◌∙◌, true, true≢false}
+use Rattle.std.proofs.Common.{◌+◌, Global, Vec, ap, refl, sym, subst, ◌∙◌, true≢false}
 use Rattle.search.specs.Reachable.{IsReachableIn}
 use Rattle.cfgrammar.specs.Numbered.{core}
 use Rattle.lr_states.specs.declared.Item.{Item}

@@ -1,4 +1,4 @@
-use Rattle.std.proofs.Common.{◌≡◌, true, sym, ◌∙◌, true≢false}
+use Rattle.std.proofs.Common.{◌≡◌, true, sym, ◌∙◌}
 use Rattle.std.proofs.lemmas.Result.{IfOk-weaker}
 use Rattle.search.proofs.Reaching.{reaches_as, reaches_known}
 use Rattle.lr_states.proofs.Bits.{bit_read}
@@ -15,4 +15,4 @@ returns c =
     let off = c.if-not-unwrap_or.false in
     let on : c.unwrap_or.result ≡ true = cc in
     IfOk-weaker c.reach_next.result _ _ (λ _ w. reaches_as _ _ c.args.search.now c.reach_next.new.search
-        (λ n h. record { used = sym read ∙ on; begins = h }) (λ n h. h.begins) w) c.reach_next.ensures
+    (λ n h. record { used = sym read ∙ on; begins = h }) (λ n h. h.begins) w) c.reach_next.ensures

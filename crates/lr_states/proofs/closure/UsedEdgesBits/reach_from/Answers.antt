@@ -1,9 +1,8 @@
-use Rattle.std.proofs.Common.{◌≡◌, ℕ, ◌<◌, arith, get_or, length, map, sym, subst, ap, ◌∙◌}
-use Rattle.std.proofs.lemmas.List.{get_or_default, get_or-map, length-map}
+use Rattle.std.proofs.Common.{◌<◌, arith, get_or, length, subst}
+use Rattle.std.proofs.lemmas.List.{get_or_default}
 use Rattle.search.specs.Reachable.{Reaches}
 use Rattle.search.proofs.Each.{each_all, each_more, found_mapped}
-use Rattle.cfgrammar.specs.Numbered.{core, production_core}
-use Rattle.cfgrammar.specs.PIdx.{PIdx}
+use Rattle.cfgrammar.specs.Numbered.{core}
 use Rattle.lr_states.specs.Inner.Closure.{Begins, IsOn}
 use Rattle.lr_states.proofs.Rules.{enters_found, position_within}
 use Rattle.lr_states.proofs.closure.UsedEdgesBits.reach_from.Goals as goal
