@@ -43,8 +43,10 @@ impl<'a> Used<'a> {
 
     /// A search that has reached the rules of the productions that belong to a state with these items.
     fn entered(&self, alloc: Global, kernel: &[Item]) -> Result<Search, AllocError>
-        requires { (item : Item) → Contains kernel.now item → item.production < length self.now.grammar.now.productions }
-        ensures { IfOk result (λ search. (r : ℕ) → IsReachableIn search r ↔ Reachable (IsSeed (core self.now.grammar.now) kernel.now)
+        requires { (item : Item) → Contains kernel.now item
+            → item.production < length self.now.grammar.now.productions }
+        ensures { IfOk result (λ search. (r : ℕ) → IsReachableIn search r
+            ↔ Reachable (IsSeed (core self.now.grammar.now) kernel.now)
             (Enters (core self.now.grammar.now) (IsOn self.now.bits)) r) }
     {
         let mut search = Search::through(alloc, usize::from(self.grammar.rules_len()))?;
@@ -66,8 +68,10 @@ impl<'a> Used<'a> {
     /// All items of a state, by those that have symbols read. Those come first, and then used productions in order.
     pub(crate) fn closure(&self, alloc: Global, kernel: &[Item]) -> Result<Vec<Item>, AllocError>
         requires used { (p : ℕ) → IsOn self.now.bits p → p < length self.now.grammar.now.productions }
-        requires within { (item : Item) → Contains kernel.now item → item.production < length self.now.grammar.now.productions }
-        ensures { IfOk result (λ items. IsClosure (core self.now.grammar.now) (IsOn self.now.bits) kernel.now items.items) }
+        requires within { (item : Item) → Contains kernel.now item
+            → item.production < length self.now.grammar.now.productions }
+        ensures { IfOk result (λ items. IsClosure (core self.now.grammar.now) (IsOn self.now.bits)
+            kernel.now items.items) }
     {
         let search = self.entered(alloc, kernel)?;
         let mut items = kernel.to_vec(alloc)?;

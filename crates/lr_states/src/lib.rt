@@ -1,5 +1,5 @@
-//! The states of a grammar's LR(0) automaton: for each viable prefix the items that are valid for it (Aho, Lam, Sethi and
-//! Ullman, 4.6). Productions with a rule that has no sentence take no part.
+//! The states of a grammar's LR(0) automaton: for each viable prefix the items that are valid for it (Aho, Lam, Sethi
+//! and Ullman, 4.6). Productions with a rule that has no sentence take no part.
 #![tactic(auto)]
 
 mod closure;

@@ -34,7 +34,8 @@ pub(crate) fn used_productions(alloc: Global, grammar: &YaccGrammar<u32>) -> Res
 
 /// Whether each rule among the symbols is productive.
 fn have_sentences(productive: &Vob, symbols: &[Symbol<u32>]) -> bool
-    ensures { IsTrue result ↔ ((r : ℕ) → Contains (map (sym_of (λ s. s)) symbols.now) (Rule r) → IsOn productive.now r) }
+    ensures { IsTrue result
+        ↔ ((r : ℕ) → Contains (map (sym_of (λ s. s)) symbols.now) (Rule r) → IsOn productive.now r) }
 {
     for symbol in symbols {
         if let Symbol::Rule(rule) = symbol {
