@@ -1,0 +1,200 @@
+-- Kernels that were found and states that were visited: each viable prefix is that of a state once all kernels are visited.
+use Rattle.std.proofs.Common.{◌≡◌, ◌↔◌, inl, inr, ℕ, ◌+◌, ◌-◌, ◌<◌, ◌≤◌, List, [], ◌∷◌, ◌++◌, Contains, get_or, length, append-nil, append_assoc, refl, sym, ap, subst, ◌∙◌, arith}
+use Rattle.std.specs.List.{flat_map}
+use Rattle.std.proofs.lemmas.Bool.{cases_lt}
+use Rattle.std.proofs.lemmas.List.{get_or_append_left, get_or_push, length_push}
+use Rattle.std.proofs.lemmas.List.Elements.{Contains-get_or}
+use Rattle.cfgrammar.specs.Grammar.{Grammar, IsGrammar, Sym}
+use Rattle.cfgrammar.proofs.Contained.{contains_none}
+use Rattle.lr_states.specs.declared.Item.{Item}
+use Rattle.lr_states.specs.Viable.{AreStates, IsStateOf, IsValid, IsViable}
+use Rattle.lr_states.specs.Inner.Closure.{AreAdvanced, IsClosure, IsKernelOf, item_at, node_of, step_of}
+use Rattle.lr_states.specs.Inner.Kernels.{Adds, IsSuccessor}
+use Rattle.lr_states.proofs.Closed.{closure_sorted, closure_state, kernel_next, next_symbol, next_viable}
+use Rattle.lr_states.proofs.Order.{sorted_same}
+use Rattle.lr_states.proofs.Spines.{IsRead, none_read, viable_prefix, viable_read}
+use Rattle.lr_states.proofs.Stepped.{steps_advanced}
+
+contains_some : (xs : List Item) → 0 < length xs → (x : Item) × Contains xs x
+contains_some xs some = (get_or xs 0 (item_at 0 0), Contains-get_or xs 0 (item_at 0 0) some)
+
+some_contained : (xs : List Item) (x : Item) → Contains xs x → 0 < length xs
+some_contained xs x h = let within = h.1 in omega (arith, within)
+
+module _ (g : Grammar) (Used : ℕ → Type 0) where
+  -- the kernel is that of a viable prefix
+  pub record IsReached (kernel : List Item) : Type 0 where
+    pub prefix : List Sym
+    pub is : IsKernelOf g Used prefix kernel
+    pub viable : IsViable g Used prefix
+
+  pub record AreExplored (kernels states : List (List Item)) : Type 0 where
+    pub some : 0 < length kernels
+    pub first : get_or kernels 0 [] ≡ []
+    pub upto : length states ≤ length kernels
+    pub each : (q : ℕ) → q < length kernels → IsReached (get_or kernels q [])
+    pub closures : (q : ℕ) → q < length states → IsClosure g Used (get_or kernels q []) (get_or states q [])
+    pub closed : (q : ℕ) → q < length states → (list : List Item) → IsSuccessor g (get_or states q []) list → (r : ℕ) × (r < length kernels) × (get_or kernels r [] ≡ list)
+
+  -- the empty prefix has no items with symbols read
+  pub kernel_first : IsKernelOf g Used [] []
+  kernel_first = record {
+    all = λ item. (
+      (λ h. absurd (contains_none item h)),
+      (λ h. absurd (none_read_at item h.0 h.1)),
+    );
+    empty = λ e. refl;
+    sorted = tt;
+  }
+    where
+      none_read_at : (item : Item) → 0 < item.read → IsValid g Used [] item → ⊥
+      none_read_at item some v =
+          let i = item.read - 1 in
+          let more : item.read ≡ i + 1 = omega (arith, some) in
+          none_read g Used item.production i (subst (λ n. IsValid g Used [] (item_at item.production n)) more v)
+
+  pub explored_first : (kernels : List (List Item)) → kernels ≡ [] ∷ [] → IsViable g Used [] → AreExplored kernels []
+  explored_first kernels is viable = subst (λ l. AreExplored l []) (sym is) (record {
+    some = omega arith;
+    first = refl;
+    upto = omega arith;
+    each = λ q within.
+        let zero : q ≡ 0 = omega (arith, within) in
+        let empty : get_or {A = List Item} ([] ∷ []) q [] ≡ [] = ap (λ n. get_or {A = List Item} ([] ∷ []) n []) zero in
+        subst IsReached (sym empty) (record { prefix = []; is = kernel_first; viable = viable });
+    closures = λ q within. absurd (omega (arith, within));
+    closed = λ q within list h. absurd (omega (arith, within));
+  })
+
+  module _ (grammar : IsGrammar g) (kernels states : List (List Item)) (are : AreExplored kernels states) where
+    -- the kernel of a state that comes after one is that of a viable prefix
+    successor_reached : (q : ℕ) → q < length kernels → (items list : List Item) → IsClosure g Used (get_or kernels q []) items → IsSuccessor g items list → IsReached list
+    successor_reached q within items list closure s =
+        let reached = are.each q within in
+        let state = closure_state g Used reached.prefix (get_or kernels q []) reached.is items closure in
+        let sorted = closure_sorted g Used reached.prefix (get_or kernels q []) reached.is items closure in
+        let advanced = subst (AreAdvanced g items s.node) (sym s.is) (steps_advanced g s.node items) in
+        let (item, among) = contains_some list s.some in
+        let (x, kernel) = next_viable g grammar Used reached.prefix items state sorted s.node list advanced item among in
+        record { prefix = reached.prefix ++ x ∷ []; is = kernel; viable = record { item = item; is = ((kernel.all item).0 among).1 } }
+
+    -- one more state is visited
+    pub explored_more : (items : List Item) (kernels' states' : List (List Item)) → length states < length kernels → IsClosure g Used (get_or kernels (length states) []) items
+        → Adds (IsSuccessor g items) kernels kernels' → states' ≡ states ++ items ∷ [] → AreExplored kernels' states'
+    explored_more items kernels' states' room closure adds is = subst (AreExplored kernels') (sym is) (record {
+      some = let longer = adds.longer in omega (arith, longer, room);
+      first = adds.kept 0 are.some ∙ are.first;
+      upto = let longer = adds.longer in omega (arith, longer, room, long);
+      each = λ q within. elim (cases_lt q (length kernels)) [
+        | inl early ↦ subst IsReached (sym (adds.kept q early)) (are.each q early)
+        | inr late ↦ successor_reached n room items (get_or kernels' q []) closure (adds.fresh q late within)
+      ];
+      closures = λ q within. elim (cases_lt q n) [
+        | inl early ↦ subst (IsClosure g Used (get_or kernels' q [])) (sym (old q early)) (subst (λ k. IsClosure g Used k (get_or states q [])) (sym (kept q early)) (are.closures q early))
+        | inr late ↦
+            let here : q ≡ n = omega (arith, within, late, long) in
+            subst (λ m. IsClosure g Used (get_or kernels' m []) (get_or (states ++ items ∷ []) m [])) (sym here)
+            (subst (IsClosure g Used (get_or kernels' n [])) (sym (last n refl)) (subst (λ k. IsClosure g Used k items) (sym (adds.kept n room)) closure))
+      ];
+      closed = λ q within list h. elim (cases_lt q n) [
+        | inl early ↦
+            let (r, below, same) = are.closed q early list (subst (λ l. IsSuccessor g l list) (old q early) h) in
+            (r, (let longer = adds.longer in omega (arith, longer, below)), adds.kept r below ∙ same)
+        | inr late ↦ adds.all list (subst (λ l. IsSuccessor g l list) (last q (omega (arith, within, late, long))) h)
+      ];
+    })
+      where
+        n : ℕ
+        n = length states
+
+        long : length (states ++ items ∷ []) ≡ length states + 1
+        long = length_push states items
+
+        old : (q : ℕ) → q < length states → get_or (states ++ items ∷ []) q [] ≡ get_or states q []
+        old q early = get_or_append_left states (items ∷ []) [] q early
+
+        last : (q : ℕ) → length states ≡ q → get_or (states ++ items ∷ []) q [] ≡ items
+        last q at = get_or_push states items [] q at
+
+        kept : (q : ℕ) → q < length states → get_or kernels' q [] ≡ get_or kernels q []
+        kept q early = adds.kept q (omega (arith, early, room))
+
+    module _ (done : length kernels ≤ length states) where
+      -- the state of a prefix
+      record IsListed (prefix : List Sym) : Type 0 where
+        number : ℕ
+        within : number < length kernels
+        kernel : IsKernelOf g Used prefix (get_or kernels number [])
+
+      state_of : (prefix : List Sym) (h : IsListed prefix) → IsStateOf g Used prefix (get_or states h.number [])
+      state_of prefix h = let below = h.within in
+          closure_state g Used prefix (get_or kernels h.number []) h.kernel (get_or states h.number []) (are.closures h.number (omega (arith, below, done)))
+
+      listed_next : (prefix : List Sym) (x : Sym) → IsListed prefix → IsRead g Used prefix x → IsListed (prefix ++ x ∷ [])
+      listed_next prefix x h w =
+          let below = h.within in
+          let inside : h.number < length states = omega (arith, below, done) in
+          let items = get_or states h.number [] in
+          let node = node_of g x in
+          let list = flat_map (step_of g node) items in
+          let advanced = steps_advanced g node items in
+          let state = state_of prefix h in
+          let sorted = closure_sorted g Used prefix (get_or kernels h.number []) h.kernel items (are.closures h.number inside) in
+          let new = item_at w.production (w.read + 1) in
+          let among : Contains list new = (advanced.all new).1 (record {
+            read = w.read;
+            is = refl;
+            from = (state (item_at w.production w.read)).1 w.valid;
+            symbol = x;
+            next = w.next;
+            at = refl;
+          }) in
+          let (r, there, same) = are.closed h.number inside list (record { node = node; is = refl; some = some_contained list new among }) in
+          record {
+            number = r;
+            within = there;
+            kernel = subst (IsKernelOf g Used (prefix ++ x ∷ [])) (sym same)
+                (kernel_next g grammar Used prefix items state sorted node list advanced x
+                (next_symbol g grammar (item_at w.production w.read) x w.next) refl new among);
+          }
+
+      listed_onwards : (prefix rest : List Sym) → IsListed prefix → IsViable g Used (prefix ++ rest) → IsListed (prefix ++ rest)
+      listed_onwards prefix [] h viable = subst IsListed (sym (append-nil prefix)) h
+      listed_onwards prefix (x ∷ rest) h viable =
+          let split = append_assoc prefix (x ∷ []) rest in
+          let further = subst (IsViable g Used) (sym split) viable in
+          let w = viable_read g Used prefix x (viable_prefix g Used (prefix ++ x ∷ []) rest further) in
+          subst IsListed split (listed_onwards (prefix ++ x ∷ []) rest (listed_next prefix x h w) further)
+
+      listed : (prefix : List Sym) → IsViable g Used prefix → IsListed prefix
+      listed prefix viable = listed_onwards [] prefix (record { number = 0; within = are.some; kernel = subst (IsKernelOf g Used []) (sym are.first) kernel_first }) viable
+
+      -- a state has one kernel
+      kernels_same : (q r : ℕ) → q < length kernels → r < length kernels
+          → ((item : Item) → Contains (get_or states q []) item ↔ Contains (get_or states r []) item) → get_or kernels q [] ≡ get_or kernels r []
+      kernels_same q r within inside same =
+          let a = are.each q within in
+          let b = are.each r inside in
+          let here = closure_state g Used a.prefix (get_or kernels q []) a.is (get_or states q []) (are.closures q (omega (arith, within, done))) in
+          let there = closure_state g Used b.prefix (get_or kernels r []) b.is (get_or states r []) (are.closures r (omega (arith, inside, done))) in
+          sorted_same (get_or kernels q []) (get_or kernels r []) a.is.sorted b.is.sorted
+          (λ item h. let v = (a.is.all item).0 h in (b.is.all item).1 (v.0, (there item).0 ((same item).0 ((here item).1 v.1))))
+          (λ item h. let v = (b.is.all item).0 h in (a.is.all item).1 (v.0, (here item).0 ((same item).1 ((there item).1 v.1))))
+
+      pub explored_states : ((q r : ℕ) → q < length kernels → r < length kernels → get_or kernels q [] ≡ get_or kernels r [] → q ≡ r) → AreStates g Used states
+      explored_states apart = record {
+        each = λ prefix viable.
+            let h = listed prefix viable in
+            let below = h.within in
+            (h.number, omega (arith, below, done), state_of prefix h);
+        only = λ q within.
+            let upto = are.upto in
+            let inside : q < length kernels = omega (arith, within, upto) in
+            let a = are.each q inside in
+            (a.prefix, a.viable, closure_state g Used a.prefix (get_or kernels q []) a.is (get_or states q []) (are.closures q within));
+        distinct = λ q r within inside same.
+            let upto = are.upto in
+            let first : q < length kernels = omega (arith, within, upto) in
+            let second : r < length kernels = omega (arith, inside, upto) in
+            apart q r first second (kernels_same q r first second same);
+      }

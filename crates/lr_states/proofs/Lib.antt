@@ -1,0 +1,10 @@
+pub mod Spines
+pub mod Order
+pub mod Closed
+pub mod Bits
+pub mod Rules
+pub mod Pushed
+pub mod Stepped
+pub mod Added
+pub mod Explored
+pub mod Alike

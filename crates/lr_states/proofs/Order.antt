@@ -1,0 +1,52 @@
+-- Sorted items: a list of them is known by what it contains.
+use Rattle.std.proofs.Common.{◌≡◌, inl, inr, List, [], ◌∷◌, ◌++◌, Contains, refl, sym, ap, subst, ◌∙◌, arith}
+use Rattle.std.proofs.lemmas.List.Elements.{Contains-push_cases}
+use Rattle.cfgrammar.proofs.Contained.{contains_cases, contains_first, contains_later, contains_none}
+use Rattle.lr_states.specs.declared.Item.{Item}
+use Rattle.lr_states.specs.Inner.Closure.{AreSorted, IsBefore}
+
+before_not_after : (a b : Item) → IsBefore a b → IsBefore b a → ⊥
+before_not_after a b (inl less) (inl more) = omega (arith, less, more)
+before_not_after a b (inl less) (inr same) = omega (arith, less, same.0)
+before_not_after a b (inr same) (inl more) = omega (arith, more, same.0)
+before_not_after a b (inr same) (inr equal) = omega (arith, same.1, equal.1)
+
+pub sorted_push : (xs : List Item) (x : Item) → AreSorted xs → ((y : Item) → Contains xs y → IsBefore y x) → AreSorted (xs ++ x ∷ [])
+sorted_push [] x sorted before = ((λ y h. absurd (contains_none y h)), tt)
+sorted_push (a ∷ xs) x sorted before = (
+  (λ y h. elim (Contains-push_cases xs x y h) [
+    | inl early ↦ sorted.0 y early
+    | inr last ↦ subst (IsBefore a) last (before a (contains_first a xs))
+  ]),
+  sorted_push xs x sorted.1 (λ y h. before y (contains_later a y xs h)),
+)
+
+-- what is in the rest of one list is in the rest of the other
+rest_within : (x : Item) (xs ys : List Item) → ((y : Item) → Contains xs y → IsBefore x y) → ((y : Item) → Contains (x ∷ xs) y → Contains (x ∷ ys) y)
+    → (y : Item) → Contains xs y → Contains ys y
+rest_within x xs ys after within y h = elim (contains_cases x y ys (within y (contains_later x y xs h))) [
+  | inl same ↦ let itself = subst (IsBefore x) (sym same) (after y h) in absurd (before_not_after x x itself itself)
+  | inr later ↦ later
+]
+
+-- the first of both are the same
+first_same : (x y : Item) (xs ys : List Item) → ((z : Item) → Contains xs z → IsBefore x z) → ((z : Item) → Contains ys z → IsBefore y z)
+    → Contains (y ∷ ys) x → Contains (x ∷ xs) y → x ≡ y
+first_same x y xs ys above below there here = elim (contains_cases y x ys there) [
+  | inl same ↦ sym same
+  | inr later ↦ elim (contains_cases x y xs here) [
+    | inl same ↦ same
+    | inr after ↦ absurd (before_not_after x y (above y after) (below x later))
+  ]
+]
+
+pub sorted_same : (xs ys : List Item) → AreSorted xs → AreSorted ys → ((y : Item) → Contains xs y → Contains ys y) → ((y : Item) → Contains ys y → Contains xs y) → xs ≡ ys
+sorted_same [] [] sorted ordered to from = refl
+sorted_same [] (y ∷ ys) sorted ordered to from = absurd (contains_none y (from y (contains_first y ys)))
+sorted_same (x ∷ xs) [] sorted ordered to from = absurd (contains_none x (to x (contains_first x xs)))
+sorted_same (x ∷ xs) (y ∷ ys) sorted ordered to from =
+    let same : x ≡ y = first_same x y xs ys sorted.0 ordered.0 (to x (contains_first x xs)) (from y (contains_first y ys)) in
+    let onwards : (z : Item) → Contains (x ∷ xs) z → Contains (x ∷ ys) z = λ z h. subst (λ a. Contains (a ∷ ys) z) (sym same) (to z h) in
+    let back : (z : Item) → Contains (x ∷ ys) z → Contains (x ∷ xs) z = λ z h. from z (subst (λ a. Contains (a ∷ ys) z) same h) in
+    let after : (z : Item) → Contains ys z → IsBefore x z = λ z h. subst (λ a. IsBefore a z) (sym same) (ordered.0 z h) in
+    ap (λ l. x ∷ l) (sorted_same xs ys sorted.1 ordered.1 (rest_within x xs ys sorted.0 onwards) (rest_within x ys xs after back)) ∙ ap (λ a. a ∷ ys) same

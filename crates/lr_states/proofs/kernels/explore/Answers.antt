@@ -1,0 +1,68 @@
+use Rattle.std.proofs.Common.{◌≡◌, ◌+◌, ◌<◌, ◌≤◌, List, [], ◌∷◌, Global, Vec, ap, arith, get_or, length, map, refl, subst, sym, ◌∙◌}
+use Rattle.std.proofs.lemmas.List.{length-map, length_push, map_push}
+use Rattle.std.proofs.lemmas.Slice.Eq.{slice_eq-Decides}
+use Rattle.cfgrammar.specs.Numbered.{core}
+use Rattle.lr_states.specs.declared.Item.{Item}
+use Rattle.lr_states.specs.Inner.Closure.{IsClosure, IsOn}
+use Rattle.lr_states.proofs.Added.{items_Decide, key_first, keys_apart, same_keys}
+use Rattle.lr_states.proofs.Explored.{AreExplored, explored_first, explored_more, explored_states}
+use Rattle.lr_states.proofs.kernels.explore.Goals as goal
+use Rattle.lr_states.proofs.kernels.explore.Goals.{else-loop-number-test, then-loop-number-test+then-number-len}
+
+pub loop-number-init : goal.loop-number-init
+loop-number-init c =
+    let g = core c.args.used.now.grammar.now in
+    let used = IsOn c.args.used.now.bits in
+    let kernels = map (λ (v : Vec Item Global). v.items) c.insert.new.self.keys in
+    let one : kernels ≡ [] ∷ [] =
+    key_first (λ (v : Vec Item Global). v.items) same_keys c.new-kernels.result.keys c.new.result c.new-kernels.ensures.empty c.insert.new.self.keys c.in_ok-insert.ensures.keys
+    ∙ ap (λ (l : List Item). l ∷ []) c.new.ensures.items in
+    record {
+      count = ap length c.new-states.ensures.items;
+      explored = subst (λ (l : List (Vec Item Global)). AreExplored g used kernels (map (λ (v : Vec Item Global). v.items) l)) (sym c.new-states.ensures.items)
+          (explored_first g used kernels one c.requires.viable);
+    }
+
+pub loop-number-preserved : goal.loop-number-preserved
+loop-number-preserved c =
+    let g = core c.args.used.now.grammar.now in
+    let used = IsOn c.args.used.now.bits in
+    let kernels = map (λ (v : Vec Item Global). v.items) c.loop-number.kernels.keys in
+    let new = map (λ (v : Vec Item Global). v.items) c.visit.new.kernels.keys in
+    let states = map (λ (v : Vec Item Global). v.items) c.loop-number.states.items in
+    let items = c.in_ok-visit.field-0.items in
+    let long = length-map c.loop-number.kernels.keys (λ (v : Vec Item Global). v.items) in
+    let wide = length-map c.loop-number.states.items (λ (v : Vec Item Global). v.items) in
+    let here : c.loop-number.number ≡ length states = omega (arith, wide, c.loop-number.invariant.count) in
+    let room : length states < length kernels = omega (arith, here, long, c.len.ensures.len, c.if-number-len.false) in
+    record {
+      count = ap length c.in_ok-push.ensures.items ∙ length_push c.loop-number.states.items c.in_ok-visit.field-0 ∙ ap (λ n. n + 1) c.loop-number.invariant.count;
+      explored = explored_more g used c.invariant_holds.ensures.whole.grammar kernels states c.loop-number.invariant.explored items new
+          (map (λ (v : Vec Item Global). v.items) c.push.new.self.items) room
+          (subst (λ n. IsClosure g used (get_or kernels n []) items) here c.in_ok-visit.ensures.closure) c.in_ok-visit.ensures.adds
+          (ap (map (λ (v : Vec Item Global). v.items)) c.in_ok-push.ensures.items ∙ map_push (λ (v : Vec Item Global). v.items) c.loop-number.states.items c.in_ok-visit.field-0);
+    }
+
+pub visit-requires-clause-within : goal.visit-requires-clause-within
+visit-requires-clause-within c =
+    let keys = c.loop-number.kernels.keys in
+    let long = length-map keys (λ (v : Vec Item Global). v.items) in
+    let within : c.loop-number.number < length (map (λ (v : Vec Item Global). v.items) keys) = omega (arith, long, c.len.ensures.len, c.if-number-len.false) in
+    λ item h. c.requires.used item.production (((c.loop-number.invariant.explored.each c.loop-number.number within).is.all item).0 h).1.used
+
+pub returns : goal.returns
+returns c =
+    let g = core c.args.used.now.grammar.now in
+    let used = IsOn c.args.used.now.bits in
+    let keys = c.loop-number.kernels.keys in
+    let kernels = map (λ (v : Vec Item Global). v.items) keys in
+    let states = map (λ (v : Vec Item Global). v.items) c.loop-number.states.items in
+    let long = length-map keys (λ (v : Vec Item Global). v.items) in
+    let wide = length-map c.loop-number.states.items (λ (v : Vec Item Global). v.items) in
+    let count = c.loop-number.invariant.count in
+    let done : length kernels ≤ length states = elim c.loop-number-test.branch [
+      | else-loop-number-test w ↦ omega (arith, long, wide, count, c.len-count.ensures.len, c.len-count.ensures.small, w.loop-number-test.false)
+      | then-loop-number-test+then-number-len w ↦ omega (arith, long, wide, count, w.len.ensures.len, w.if-number-len.true)
+    ] in
+    explored_states g used c.invariant_holds.ensures.whole.grammar kernels states c.loop-number.invariant.explored done
+    (keys_apart (λ (v : Vec Item Global). v.items) same_keys keys (λ x y. slice_eq-Decides items_Decide x.items y.items _ refl) c.len-count.ensures.unique)

@@ -1,0 +1,3 @@
+-- Definitions for the crate's private clauses. No public call depends on them.
+pub mod Closure
+pub mod Kernels

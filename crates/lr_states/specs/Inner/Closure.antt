@@ -1,0 +1,98 @@
+-- How items lead to items: productions that are entered, and symbols that are read.
+use Rattle.std.specs.Prelude.{◌≡◌, ◌==◌, ◌↔◌, ◌⊎◌, ◌<◌, ◌+◌, ℕ, Bool, cond, false, List, [], ◌∷◌, Option, None, Some, Contains, IsTrue, slice_get, slice_index_or}
+use Rattle.search.specs.Reachable.{Reachable}
+use Rattle.cfgrammar.specs.Grammar.{Grammar, Sym, Rule, Token}
+use Rattle.cfgrammar.specs.Openings.{nth_production}
+use Rattle.lr_states.specs.Viable.{IsValid}
+use Rattle.lr_states.specs.declared.Item.{Item}
+
+-- the bit with this number is on
+abbrev pub IsOn : List Bool → ℕ → Type 0
+IsOn bits n = IsTrue (slice_index_or bits n false)
+
+abbrev pub item_at : ℕ → ℕ → Item
+item_at p i = record { production = p; read = i }
+
+-- the item's next symbol is this one
+abbrev pub HasNext : Grammar → Item → Sym → Type 0
+HasNext g item symbol = slice_get (nth_production g item.production).symbols item.read ≡ Some symbol
+
+-- a used production of rule a begins with rule b
+pub record Enters (g : Grammar) (Used : ℕ → Type 0) (a b : ℕ) : Type 0 where
+  pub index : ℕ
+  pub used : Used index
+  pub owner : (nth_production g index).rule ≡ a
+  pub begins : HasNext g (item_at index 0) (Rule b)
+
+-- the production is used, and begins with the rule
+pub record Begins (g : Grammar) (Used : ℕ → Type 0) (p rule : ℕ) : Type 0 where
+  pub used : Used p
+  pub begins : HasNext g (item_at p 0) (Rule rule)
+
+-- the rules that are next in the items; if there are none, the start rule
+pub data IsSeed (g : Grammar) (kernel : List Item) (rule : ℕ) : Type 0 where
+  first : kernel ≡ [] → rule ≡ 0 → IsSeed g kernel rule
+  next : (item : Item) → Contains kernel item → HasNext g item (Rule rule) → IsSeed g kernel rule
+
+-- the item is a used production of which nothing is read, and its rule is reached from those that are next
+pub record IsEntered (g : Grammar) (Used : ℕ → Type 0) (kernel : List Item) (item : Item) : Type 0 where
+  pub unread : item.read ≡ 0
+  pub used : Used item.production
+  pub reached : Reachable (IsSeed g kernel) (Enters g Used) (nth_production g item.production).rule
+
+-- Items are in the order of how much of them is read, those with most first, and then in that of their productions.
+abbrev pub IsBefore : Item → Item → Type 0
+IsBefore a b = (b.read < a.read) ⊎ ((a.read ≡ b.read) × (a.production < b.production))
+
+abbrev pub AreSorted : List Item → Type 0
+AreSorted [] = Unit {0}
+AreSorted (x ∷ xs) = ((y : Item) → Contains xs y → IsBefore x y) × AreSorted xs
+
+-- all items of a state of which these are the items that have symbols read
+pub record IsClosure (g : Grammar) (Used : ℕ → Type 0) (kernel items : List Item) : Type 0 where
+  pub all : (item : Item) → Contains items item ↔ (Contains kernel item ⊎ IsEntered g Used kernel item)
+  pub sorted : AreSorted kernel → ((item : Item) → Contains kernel item → 0 < item.read) → AreSorted items
+
+-- a production before this one of which nothing is read, which is used and whose rule is reached
+pub record IsPushed (g : Grammar) (Used Reached : ℕ → Type 0) (i : ℕ) (item : Item) : Type 0 where
+  pub unread : item.read ≡ 0
+  pub below : item.production < i
+  pub used : Used item.production
+  pub reached : Reached (nth_production g item.production).rule
+
+-- such productions come after the items with symbols read
+pub record ArePushed (g : Grammar) (Used Reached : ℕ → Type 0) (kernel : List Item) (i : ℕ) (items : List Item) : Type 0 where
+  pub all : (item : Item) → Contains items item ↔ (Contains kernel item ⊎ IsPushed g Used Reached i item)
+  pub sorted : AreSorted kernel → ((item : Item) → Contains kernel item → 0 < item.read) → AreSorted items
+
+-- symbols as numbers: the rules, and after them the tokens
+abbrev pub node_of : Grammar → Sym → ℕ
+node_of g (Rule r) = r
+node_of g (Token t) = g.rules + t
+
+-- the item after its next symbol is read, if that is the one of this number
+abbrev pub step_at : Grammar → ℕ → Item → Option Sym → List Item
+step_at g node item None = []
+step_at g node item (Some symbol) = cond (node_of g symbol == node) (item_at item.production (item.read + 1) ∷ []) []
+
+abbrev pub step_of : Grammar → ℕ → Item → List Item
+step_of g node item = step_at g node item (slice_get (nth_production g item.production).symbols item.read)
+
+-- the item is one of the items, after its next symbol, of this number, is read
+pub record IsAdvanced (g : Grammar) (items : List Item) (node : ℕ) (item : Item) : Type 0 where
+  pub read : ℕ
+  pub is : item.read ≡ read + 1
+  pub from : Contains items (item_at item.production read)
+  pub symbol : Sym
+  pub next : HasNext g (item_at item.production read) symbol
+  pub at : node_of g symbol ≡ node
+
+pub record AreAdvanced (g : Grammar) (items : List Item) (node : ℕ) (kernel : List Item) : Type 0 where
+  pub all : (item : Item) → Contains kernel item ↔ IsAdvanced g items node item
+  pub sorted : AreSorted items → AreSorted kernel
+
+-- the items with symbols read that are valid for the prefix; only for the empty prefix there are none
+pub record IsKernelOf (g : Grammar) (Used : ℕ → Type 0) (prefix : List Sym) (kernel : List Item) : Type 0 where
+  pub all : (item : Item) → Contains kernel item ↔ ((0 < item.read) × IsValid g Used prefix item)
+  pub empty : kernel ≡ [] → prefix ≡ []
+  pub sorted : AreSorted kernel

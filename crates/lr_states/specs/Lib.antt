@@ -1,0 +1,2 @@
+pub mod Viable
+pub mod Inner
