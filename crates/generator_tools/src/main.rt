@@ -1,12 +1,14 @@
-//! Two tools that an author of a parser generator begins with. For each grammar in the files that its arguments name,
-//! the program prints sentences to test a parser with, and the table of an LL(1) parser.
+//! Three tools that an author of a parser generator begins with. For each grammar in the files that its arguments name,
+//! the program prints sentences to test a parser with, the table of an LL(1) parser, and the states of an LR parser.
 #![tactic(auto)]
 
 mod sentences;
+mod states;
 mod table;
 
 use cfgrammar::yacc::{YaccFault, YaccGrammar, YaccKind, YaccOriginalActionKind};
 use sentences::print_sentences;
+use states::print_states;
 use std::alloc::{AllocError, Global};
 use table::print_table;
 
@@ -28,5 +30,6 @@ fn report_of(alloc: Global, grammar: &YaccGrammar<u32>) -> Result<String, AllocE
     let mut lines = String::new(alloc);
     print_sentences(alloc, &mut lines, grammar)?;
     print_table(alloc, &mut lines, grammar)?;
+    print_states(alloc, &mut lines, grammar)?;
     Ok(lines)
 }
