@@ -46,6 +46,8 @@ module _ (g : Grammar) (Used Used' : ℕ → Type 0) (same : (p : ℕ) → Used 
         let (prefix, viable, state) = are.only q within in
         (prefix, viable_as g (λ p. (same p).0) viable, state_as prefix (get_or states q []) state);
     distinct = are.distinct;
+    first = λ some. state_as [] (get_or states 0 []) (are.first some);
+    sorted = are.sorted;
   }
 
   goto_as : (states : List (List Item)) (q : ℕ) (x : Sym) (o : Option ℕ) → IsGoto g Used states q x o → IsGoto g Used' states q x o
@@ -68,6 +70,8 @@ module _ (g : Grammar) (Used : ℕ → Type 0) where
     each = λ prefix viable. absurd (none (viable_prefix g Used [] prefix viable));
     only = λ q within. absurd (omega (arith, within));
     distinct = λ q r within inside same. absurd (omega (arith, within));
+    first = λ some. absurd (omega (arith, some));
+    sorted = λ q within. absurd (omega (arith, within));
   }
 
   -- the empty prefix is viable if it has an item

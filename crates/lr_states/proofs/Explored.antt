@@ -224,6 +224,11 @@ module _ (g : Grammar) (Used : ℕ → Type 0) where
             let first : q < length kernels = omega (arith, within, upto) in
             let second : r < length kernels = omega (arith, inside, upto) in
             apart q r first second (kernels_same q r first second same);
+        first = λ some. state_of [] (record { number = 0; within = are.some; kernel = subst (IsKernelOf g Used []) (sym are.first) kernel_first });
+        sorted = λ q within.
+            let upto = are.upto in
+            let a = are.each q (omega (arith, within, upto)) in
+            closure_sorted g Used a.prefix (get_or kernels q []) a.is (get_or states q []) (are.closures q within);
       }
 
       module _ (targets : List (List Target)) (going : AreGoing g kernels states targets) where
@@ -251,10 +256,12 @@ module _ (g : Grammar) (Used : ℕ → Type 0) where
             let list = flat_map (step_of g (node_of g x)) items in
             let a = are.each q (omega (arith, within, upto)) in
             let sorted = closure_sorted g Used a.prefix (get_or kernels q []) a.is items (are.closures q within) in
-            let (item, among) = contains_some list target.some in
-            (inside, λ prefix state.
-              let kernel = kernel_next g grammar Used prefix items state sorted (node_of g x) list (steps_advanced g (node_of g x) items) x symbol refl item among in
-              closure_state g Used (prefix ++ x ∷ []) (get_or kernels r []) (subst (IsKernelOf g Used (prefix ++ x ∷ [])) (sym target.is) kernel) (get_or states r []) (are.closures r inside))
+            let (item, among) = contains_some list target.some in (
+              inside,
+              λ prefix state.
+                  let kernel = kernel_next g grammar Used prefix items state sorted (node_of g x) list (steps_advanced g (node_of g x) items) x symbol refl item among in
+                  closure_state g Used (prefix ++ x ∷ []) (get_or kernels r []) (subst (IsKernelOf g Used (prefix ++ x ∷ [])) (sym target.is) kernel) (get_or states r []) (are.closures r inside),
+            )
 
         pub explored_gotos : AreGotos g Used (record { rules = g.rules; states = states; targets = targets })
         explored_gotos q within x symbol = goto_at q within x symbol (target_of (get_or targets q []) (node_of g x)) (target_is (get_or targets q []) (node_of g x))

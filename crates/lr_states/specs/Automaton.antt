@@ -1,5 +1,5 @@
 -- The states of viable prefixes, and the states that symbols lead to from them.
-use Rattle.std.specs.Prelude.{◌≡◌, ◌==◌, ◌<◌, ◌+◌, ℕ, List, [], ◌∷◌, ◌++◌, Option, None, Some, cond, get_or, length}
+use Rattle.std.specs.Prelude.{◌==◌, ◌<◌, ◌+◌, ℕ, List, [], ◌∷◌, ◌++◌, Option, None, Some, cond, get_or, length}
 use Rattle.cfgrammar.specs.Grammar.{Grammar, IsSymbolOf, Sym, Rule, Token}
 use Rattle.lr_states.specs.declared.Item.{Item}
 use Rattle.lr_states.specs.declared.kernels.Target.{Target}

@@ -44,9 +44,9 @@ pub(crate) fn explore(alloc: Global, used: &Used<'_>) -> Result<Vec<Visited>, Al
     ensures states { IfOk result (λ states. AreStates (core used.now.grammar.now) (IsOn used.now.bits)
         (map (λ v. v.items.items) states.items)) }
     ensures gotos { IfOk result (λ states. AreGotos (core used.now.grammar.now) (IsOn used.now.bits) (record {
-        rules = length used.now.grammar.now.rules;
-        states = map (λ v. v.items.items) states.items;
-        targets = map (λ v. v.targets.items) states.items
+      rules = length used.now.grammar.now.rules;
+      states = map (λ v. v.items.items) states.items;
+      targets = map (λ v. v.targets.items) states.items;
     })) }
 {
     used.grammar.invariant_holds();

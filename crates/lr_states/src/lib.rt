@@ -45,9 +45,9 @@ impl Model for States {
     ghost Value = { Automaton };
 
     ghost view = { λ x. record {
-        rules = x.rules.0;
-        states = map (λ v. v.items.items) x.visited.items;
-        targets = map (λ v. v.targets.items) x.visited.items
+      rules = x.rules.0;
+      states = map (λ v. v.items.items) x.visited.items;
+      targets = map (λ v. v.targets.items) x.visited.items;
     } };
 }
 
@@ -92,7 +92,8 @@ impl States {
         &self.visited[number].items
     }
 
-    /// The state that the symbol leads to from a state.
+    /// The state that a symbol of the grammar leads to from a state: that of its prefixes with the symbol. There is none
+    /// if these are not viable.
     pub fn goto(&self, number: usize, symbol: Symbol<u32>) -> Option<usize>
         requires { number < length self.now.states }
         ensures { result ≡ goto_of self.now number (sym_of (λ s. s) symbol) }

@@ -4,7 +4,7 @@ use Rattle.search.specs.Reachable.{Reachable}
 use Rattle.cfgrammar.specs.Grammar.{Grammar, Sym, Rule}
 use Rattle.cfgrammar.specs.Openings.{nth_production}
 use Rattle.lr_states.specs.Automaton.{symbol_number}
-use Rattle.lr_states.specs.Viable.{IsValid}
+use Rattle.lr_states.specs.Viable.{AreSorted, IsValid}
 use Rattle.lr_states.specs.declared.Item.{Item}
 
 -- the bit with this number is on
@@ -40,14 +40,6 @@ pub record IsEntered (g : Grammar) (Used : ℕ → Type 0) (kernel : List Item) 
   pub unread : item.read ≡ 0
   pub used : Used item.production
   pub reached : Reachable (IsSeed g kernel) (Enters g Used) (nth_production g item.production).rule
-
--- Items are in the order of how much of them is read, those with most first, and then in that of their productions.
-abbrev pub IsBefore : Item → Item → Type 0
-IsBefore a b = (b.read < a.read) ⊎ ((a.read ≡ b.read) × (a.production < b.production))
-
-abbrev pub AreSorted : List Item → Type 0
-AreSorted [] = Unit {0}
-AreSorted (x ∷ xs) = ((y : Item) → Contains xs y → IsBefore x y) × AreSorted xs
 
 -- all items of a state of which these are the items that have symbols read
 pub record IsClosure (g : Grammar) (Used : ℕ → Type 0) (kernel items : List Item) : Type 0 where

@@ -1,7 +1,6 @@
-use Rattle.std.proofs.Common.{◌≡◌, ℕ, List, [], ap, Global, Vec, map, sym, subst, ◌∙◌, true≢false}
+use Rattle.std.proofs.Common.{ℕ, List, [], ap, Global, Vec, map, sym, subst, ◌∙◌, true≢false}
 use Rattle.cfgrammar.specs.Numbered.{core}
 use Rattle.lr_states.specs.declared.Item.{Item}
-use Rattle.lr_states.specs.declared.kernels.Target.{Target}
 use Rattle.lr_states.specs.declared.kernels.Visited.{Visited}
 use Rattle.lr_states.specs.Inner.Closure.{IsOn}
 use Rattle.lr_states.specs.Automaton.{AreGotos, Automaton}
