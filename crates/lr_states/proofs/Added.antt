@@ -1,5 +1,5 @@
 -- Lists that are added to others, one after another.
-use Rattle.std.proofs.Common.{◌≡◌, ◌==◌, ◌&&◌, Global, Vec, ◌⊎◌, inl, inr, ℕ, ◌+◌, ◌<◌, Bool, true, List, [], ◌∷◌, ◌++◌, get_or, if◌then◌else◌, length, map, refl, sym, ap, subst, ◌∙◌, arith, true≢false}
+use Rattle.std.proofs.Common.{◌≡◌, ◌==◌, ◌&&◌, Global, Vec, ◌⊎◌, inl, inr, ℕ, ◌+◌, ◌<◌, Bool, true, List, [], ◌∷◌, ◌++◌, get_or, if◌then◌else◌, Contains, Some, slice_get, length, map, refl, sym, ap, subst, ◌∙◌, arith, true≢false}
 use Rattle.std.specs.List.{IsDistinct, flat_map, list_any}
 use Rattle.std.specs.Bool.{Decides}
 use Rattle.std.specs.Cmp.Lexicographic.{pointwise}
@@ -8,10 +8,14 @@ use Rattle.std.proofs.lemmas.Bool.Decides.{Decides-and, Decides-eqb, Decides-lik
 use Rattle.std.proofs.lemmas.List.{get_or-map, get_or_append_left, get_or_past, get_or_push, length-map, length_push, map_push}
 use Rattle.std.proofs.lemmas.List.Folds.{Any-from_list_any}
 use Rattle.std.proofs.lemmas.Map.Keys.{apart_from_distinct}
+use Rattle.std.proofs.lemmas.List.Elements.{Contains-append_left, Contains-push, Contains-push_cases}
+use Rattle.std.proofs.lemmas.Option.{get_or_from_slice_get, slice_get_within}
 use Rattle.cfgrammar.specs.Grammar.{Grammar}
+use Rattle.cfgrammar.proofs.Contained.{contains_none}
 use Rattle.cfgrammar.proofs.Elements.{element_at}
 use Rattle.lr_states.specs.declared.Item.{Item}
-use Rattle.lr_states.specs.Inner.Kernels.{Adds, IsAmong, IsOne, IsSuccessor}
+use Rattle.lr_states.specs.declared.kernels.Target.{Target}
+use Rattle.lr_states.specs.Inner.Kernels.{Adds, AreGoing, AreTargets, HasTargets, IsAmong, IsNumberOf, IsOne, IsSuccessor, IsTarget}
 use Rattle.lr_states.specs.Inner.Closure.{step_of}
 
 pub adds_none : (Found : List Item → Type 0) (lists : List (List Item)) → ((list : List Item) → Found list → ⊥) → Adds Found lists lists
@@ -152,3 +156,98 @@ module _ {K : Type 0} (show : K → List Item) (same : K → K → Bool) (keys :
             | inr apart ↦ absurd (before_apart r q (omega (arith, more, apart)) (omega (arith, within, long)) (sym e))
           ]
         ]
+
+-- a key that was inserted has a number
+pub key_numbered : {K : Type 0} (show : K → List Item) (same : K → K → Bool) → ((x y : K) → Decides (same x y) (show x ≡ show y)) → (keys : List K) (key : K) (list : List Item)
+    → show key ≡ list → 0 < length list → (r : ℕ) → (k : K) × (slice_get keys r ≡ Some k) × (same key k ≡ true) → IsNumberOf (map show keys) list (Some r)
+key_numbered show same decides keys key list shows some r (k, read, equal) =
+    let within = slice_get_within keys r k read in (
+      subst (λ n. r < n) (sym (length-map keys show)) within,
+      get_or-map show keys r k [] within ∙ ap show (get_or_from_slice_get keys r k k read) ∙ sym ((decides key k).0 equal) ∙ shows,
+      some,
+    )
+
+-- targets stay what they are when more kernels are added
+target_kept : (lists : ℕ → List Item) (Found : List Item → Type 0) (old new : List (List Item)) → Adds Found old new → (t : Target) → IsTarget lists old t → IsTarget lists new t
+target_kept lists Found old new adds t is = record {
+  within = let longer = adds.longer in let within = is.within in omega (arith, longer, within);
+  is = adds.kept t.state is.within ∙ is.is;
+  some = is.some;
+}
+
+module _ (lists : ℕ → List Item) where
+  pub targets_none : (kernels : List (List Item)) (targets : List Target) → targets ≡ [] → AreTargets lists 0 kernels targets
+  targets_none kernels targets none = record {
+    sound = λ t h. absurd (contains_none t (subst (λ l. Contains l t) none h));
+    all = λ node below some. absurd (omega (arith, below));
+  }
+
+  module _ (n : ℕ) (Found : List Item → Type 0) (old new : List (List Item)) (adds : Adds Found old new) (targets : List Target) (are : AreTargets lists n old targets) where
+    pub targets_skip : length (lists n) ≡ 0 → AreTargets lists (n + 1) new targets
+    targets_skip none = record {
+      sound = λ t h. target_kept lists Found old new adds t (are.sound t h);
+      all = λ node below some. elim (cases_eq node n) [
+        | inl same ↦ absurd (omega (arith, some, none, ap (λ m. length (lists m)) same))
+        | inr apart ↦ are.all node (omega (arith, below, apart)) some
+      ];
+    }
+
+    pub targets_more : (r : ℕ) → IsNumberOf new (lists n) (Some r) → (more : List Target) → more ≡ targets ++ (record { symbol = n; state = r }) ∷ [] → AreTargets lists (n + 1) new more
+    targets_more r (within, at, some) more is = subst (AreTargets lists (n + 1) new) (sym is) (record {
+      sound = λ t h. elim (Contains-push_cases targets target t h) [
+        | inl early ↦ target_kept lists Found old new adds t (are.sound t early)
+        | inr last ↦ subst (IsTarget lists new) last (record { within = within; is = at; some = some })
+      ];
+      all = λ node below filled. elim (cases_eq node n) [
+        | inl same ↦ (r, subst (λ m. Contains (targets ++ target ∷ []) (record { symbol = m; state = r })) (sym same) (Contains-push targets target))
+        | inr apart ↦ let (s, among) = are.all node (omega (arith, below, apart)) filled in (s, Contains-append_left targets (target ∷ []) (record { symbol = node; state = s }) among)
+      ];
+    })
+      where
+        target : Target
+        target = record { symbol = n; state = r }
+
+-- the targets for a table of steps are those of a state
+pub targets_found : (g : Grammar) (items : List Item) (table : List (List Item)) → ((node : ℕ) → get_or table node [] ≡ flat_map (step_of g node) items) → (kernels : List (List Item))
+    (targets : List Target) → AreTargets (λ node. get_or table node []) (length table) kernels targets → HasTargets g items kernels targets
+targets_found g items table steps kernels targets are = record {
+  sound = λ t h.
+      let is = are.sound t h in
+      record { within = is.within; is = is.is ∙ steps t.symbol; some = subst (λ l. 0 < length l) (steps t.symbol) is.some };
+  all = λ node some.
+      let filled : 0 < length (get_or table node []) = subst (λ l. 0 < length l) (sym (steps node)) some in
+      let below : node < length table = elim (cases_lt node (length table)) [
+        | inl within ↦ within
+        | inr past ↦ absurd (omega (arith, filled, ap (λ (l : List Item). length l) (get_or_past table node [] past)))
+      ] in
+      are.all node below filled;
+}
+
+-- one more state's targets
+module _ (g : Grammar) where
+  pub going_none : (kernels : List (List Item)) → AreGoing g kernels [] []
+  going_none kernels = record { count = refl; each = λ q within. absurd (omega (arith, within)) }
+
+  pub going_more : (Found : List Item → Type 0) (kernels new states more : List (List Item)) (targets more_targets : List (List Target)) (items : List Item) (own : List Target) → AreGoing g kernels states targets
+      → Adds Found kernels new → HasTargets g items new own → more ≡ states ++ items ∷ [] → more_targets ≡ targets ++ own ∷ [] → AreGoing g new more more_targets
+  going_more Found kernels new states more targets more_targets items own are adds has is same = subst (λ l. AreGoing g new l more_targets) (sym is) (subst (AreGoing g new (states ++ items ∷ [])) (sym same) (record {
+    count = length_push targets own ∙ ap (λ n. n + 1) are.count ∙ sym (length_push states items);
+    each = λ q within. elim (cases_lt q (length states)) [
+      | inl early ↦
+          let before = are.each q early in
+          let count = are.count in
+          let here : get_or (states ++ items ∷ []) q [] ≡ get_or states q [] = get_or_append_left states (items ∷ []) [] q early in
+          let there : get_or (targets ++ own ∷ []) q [] ≡ get_or targets q [] = get_or_append_left targets (own ∷ []) [] q (omega (arith, early, count)) in
+          subst (λ l. HasTargets g l new (get_or (targets ++ own ∷ []) q [])) (sym here) (subst (HasTargets g (get_or states q []) new) (sym there) (record {
+            sound = λ t h. target_kept (λ node. flat_map (step_of g node) (get_or states q [])) Found kernels new adds t (before.sound t h);
+            all = before.all;
+          }))
+      | inr late ↦
+          let count = are.count in
+          let long = length_push states items in
+          let last : length states ≡ q = omega (arith, within, late, long) in
+          let here : get_or (states ++ items ∷ []) q [] ≡ items = get_or_push states items [] q last in
+          let there : get_or (targets ++ own ∷ []) q [] ≡ own = get_or_push targets own [] q (count ∙ last) in
+          subst (λ l. HasTargets g l new (get_or (targets ++ own ∷ []) q [])) (sym here) (subst (HasTargets g items new) (sym there) has)
+    ];
+  }))

@@ -1,10 +1,12 @@
 -- Productions that are used by one account and by another: the same prefixes are viable.
-use Rattle.std.proofs.Common.{◌≡◌, ◌==◌, ◌↔◌, inl, inr, ℕ, Bool, true, false, List, [], ◌∷◌, IsTrue, ap, arith, get_or, length, not, sym, ◌∙◌}
+use Rattle.std.proofs.Common.{◌≡◌, ◌==◌, ◌↔◌, inl, inr, ℕ, Bool, true, false, List, [], ◌∷◌, ◌++◌, Option, None, Some, IsTrue, ap, arith, get_or, length, not, sym, ◌∙◌}
 use Rattle.std.proofs.lemmas.Bool.{cases_Bool}
 use Rattle.std.proofs.lemmas.Bool.Decides.{Decides-eqb}
 use Rattle.cfgrammar.specs.Grammar.{Grammar, Sym}
 use Rattle.cfgrammar.proofs.Contained.{contains_first, contains_none}
 use Rattle.lr_states.specs.declared.Item.{Item}
+use Rattle.lr_states.specs.declared.kernels.Target.{Target}
+use Rattle.lr_states.specs.Automaton.{AreGotos, Automaton, IsGoto, goto_of}
 use Rattle.lr_states.specs.Viable.{AreStates, IsStateOf, IsValid, IsViable, Spine, inner, start}
 use Rattle.lr_states.specs.Inner.Closure.{IsClosure}
 use Rattle.lr_states.proofs.Closed.{closure_state}
@@ -29,6 +31,12 @@ module _ (g : Grammar) (Used Used' : ℕ → Type 0) (same : (p : ℕ) → Used 
     (λ v. (state item).1 (valid_as g (λ p. (same p).1) v)),
   )
 
+  state_back : (prefix : List Sym) (items : List Item) → IsStateOf g Used' prefix items → IsStateOf g Used prefix items
+  state_back prefix items state item = (
+    (λ h. valid_as g (λ p. (same p).1) ((state item).0 h)),
+    (λ v. (state item).1 (valid_as g (λ p. (same p).0) v)),
+  )
+
   pub states_as : (states : List (List Item)) → AreStates g Used states → AreStates g Used' states
   states_as states are = record {
     each = λ prefix viable.
@@ -38,9 +46,21 @@ module _ (g : Grammar) (Used Used' : ℕ → Type 0) (same : (p : ℕ) → Used 
         let (prefix, viable, state) = are.only q within in
         (prefix, viable_as g (λ p. (same p).0) viable, state_as prefix (get_or states q []) state);
     distinct = are.distinct;
+    first = λ some. state_as [] (get_or states 0 []) (are.first some);
+    sorted = are.sorted;
   }
 
+  goto_as : (states : List (List Item)) (q : ℕ) (x : Sym) (o : Option ℕ) → IsGoto g Used states q x o → IsGoto g Used' states q x o
+  goto_as states q x None none = λ prefix state viable. none prefix (λ item. state_back prefix (get_or states q []) state item) (viable_as g (λ p. (same p).1) viable)
+  goto_as states q x (Some r) (within, leads) = (within, λ prefix state. state_as (prefix ++ x ∷ []) (get_or states r []) (leads prefix (λ item. state_back prefix (get_or states q []) state item)))
+
+  pub gotos_as : (a : Automaton) → AreGotos g Used a → AreGotos g Used' a
+  gotos_as a are q within x symbol = goto_as a.states q x (goto_of a q x) (are q within x symbol)
+
 module _ (g : Grammar) (Used : ℕ → Type 0) where
+  pub none_gotos : (rules : ℕ) (targets : List (List Target)) → AreGotos g Used (record { rules = rules; states = []; targets = targets })
+  none_gotos rules targets q within x symbol = absurd (omega (arith, within))
+
   -- the items for the empty prefix
   pub first_state : (items : List Item) → IsClosure g Used [] items → IsStateOf g Used [] items
   first_state items closure = closure_state g Used [] [] (kernel_first g Used) items closure
@@ -50,6 +70,8 @@ module _ (g : Grammar) (Used : ℕ → Type 0) where
     each = λ prefix viable. absurd (none (viable_prefix g Used [] prefix viable));
     only = λ q within. absurd (omega (arith, within));
     distinct = λ q r within inside same. absurd (omega (arith, within));
+    first = λ some. absurd (omega (arith, some));
+    sorted = λ q within. absurd (omega (arith, within));
   }
 
   -- the empty prefix is viable if it has an item

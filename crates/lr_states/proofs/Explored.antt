@@ -1,15 +1,18 @@
 -- Kernels that were found and states that were visited: each viable prefix is that of a state once all kernels are visited.
-use Rattle.std.proofs.Common.{◌≡◌, ◌↔◌, inl, inr, ℕ, ◌+◌, ◌-◌, ◌<◌, ◌≤◌, List, [], ◌∷◌, ◌++◌, Contains, get_or, length, append-nil, append_assoc, refl, sym, ap, subst, ◌∙◌, arith}
+use Rattle.std.proofs.Common.{◌≡◌, ◌==◌, Option, None, Some, cond, true≢false, ◌↔◌, inl, inr, ℕ, ◌+◌, ◌-◌, ◌<◌, ◌≤◌, List, [], ◌∷◌, ◌++◌, Contains, get_or, length, append-nil, append_assoc, refl, sym, ap, subst, ◌∙◌, arith}
 use Rattle.std.specs.List.{flat_map}
-use Rattle.std.proofs.lemmas.Bool.{cases_lt}
+use Rattle.std.proofs.lemmas.Bool.{cases_Bool, cases_lt}
+use Rattle.std.proofs.lemmas.Bool.Decides.{Decides-eqb}
 use Rattle.std.proofs.lemmas.List.{get_or_append_left, get_or_push, length_push}
 use Rattle.std.proofs.lemmas.List.Elements.{Contains-get_or}
-use Rattle.cfgrammar.specs.Grammar.{Grammar, IsGrammar, Sym}
-use Rattle.cfgrammar.proofs.Contained.{contains_none}
+use Rattle.cfgrammar.specs.Grammar.{Grammar, IsGrammar, IsSymbolOf, Sym}
+use Rattle.cfgrammar.proofs.Contained.{contains_cases, contains_first, contains_later, contains_none}
 use Rattle.lr_states.specs.declared.Item.{Item}
+use Rattle.lr_states.specs.declared.kernels.Target.{Target}
 use Rattle.lr_states.specs.Viable.{AreStates, IsStateOf, IsValid, IsViable}
 use Rattle.lr_states.specs.Inner.Closure.{AreAdvanced, IsClosure, IsKernelOf, item_at, node_of, step_of}
-use Rattle.lr_states.specs.Inner.Kernels.{Adds, IsSuccessor}
+use Rattle.lr_states.specs.Inner.Kernels.{Adds, AreGoing, IsSuccessor}
+use Rattle.lr_states.specs.Automaton.{AreGotos, IsGoto, target_of}
 use Rattle.lr_states.proofs.Closed.{closure_sorted, closure_state, kernel_next, next_symbol, next_viable}
 use Rattle.lr_states.proofs.Order.{sorted_same}
 use Rattle.lr_states.proofs.Spines.{IsRead, none_read, viable_prefix, viable_read}
@@ -20,6 +23,30 @@ contains_some xs some = (get_or xs 0 (item_at 0 0), Contains-get_or xs 0 (item_a
 
 some_contained : (xs : List Item) (x : Item) → Contains xs x → 0 < length xs
 some_contained xs x h = let within = h.1 in omega (arith, within)
+
+-- what the first target for a symbol says
+abbrev IsTargetOf : List Target → ℕ → Option ℕ → Type 0
+IsTargetOf targets node None = (r : ℕ) → Contains targets (record { symbol = node; state = r }) → ⊥
+IsTargetOf targets node (Some r) = Contains targets (record { symbol = node; state = r })
+
+target_later : (target : Target) (targets : List Target) (node : ℕ) → (target.symbol ≡ node → ⊥) → (o : Option ℕ) → IsTargetOf targets node o → IsTargetOf (target ∷ targets) node o
+target_later target targets node apart None none = λ r h. elim (contains_cases target (record { symbol = node; state = r }) targets h) [
+  | inl same ↦ apart (ap (λ (t : Target). t.symbol) same)
+  | inr later ↦ none r later
+]
+target_later target targets node apart (Some r) has = contains_later target (record { symbol = node; state = r }) targets has
+
+target_is : (targets : List Target) (node : ℕ) → IsTargetOf targets node (target_of targets node)
+target_is [] node = λ r h. contains_none (record { symbol = node; state = r }) h
+target_is (target ∷ targets) node = elim (cases_Bool (target.symbol == node)) [
+  | inl on ↦
+      let at = (Decides-eqb target.symbol node).0 on in
+      subst (IsTargetOf (target ∷ targets) node) (sym (ap (λ b. cond b (Some target.state) (target_of targets node)) on))
+      (subst (λ n. Contains (target ∷ targets) (record { symbol = n; state = target.state })) at (contains_first target targets))
+  | inr off ↦
+      subst (IsTargetOf (target ∷ targets) node) (sym (ap (λ b. cond b (Some target.state) (target_of targets node)) off))
+      (target_later target targets node (λ at. true≢false (sym ((Decides-eqb target.symbol node).1 at) ∙ off)) (target_of targets node) (target_is targets node))
+]
 
 module _ (g : Grammar) (Used : ℕ → Type 0) where
   -- the kernel is that of a viable prefix
@@ -197,4 +224,44 @@ module _ (g : Grammar) (Used : ℕ → Type 0) where
             let first : q < length kernels = omega (arith, within, upto) in
             let second : r < length kernels = omega (arith, inside, upto) in
             apart q r first second (kernels_same q r first second same);
+        first = λ some. state_of [] (record { number = 0; within = are.some; kernel = subst (IsKernelOf g Used []) (sym are.first) kernel_first });
+        sorted = λ q within.
+            let upto = are.upto in
+            let a = are.each q (omega (arith, within, upto)) in
+            closure_sorted g Used a.prefix (get_or kernels q []) a.is (get_or states q []) (are.closures q within);
       }
+
+      module _ (targets : List (List Target)) (going : AreGoing g kernels states targets) where
+        goto_at : (q : ℕ) → q < length states → (x : Sym) → IsSymbolOf g x → (o : Option ℕ) → IsTargetOf (get_or targets q []) (node_of g x) o → IsGoto g Used states q x o
+        goto_at q within x symbol None none = λ prefix state viable.
+            let w = viable_read g Used prefix x viable in
+            let items = get_or states q [] in
+            let new = item_at w.production (w.read + 1) in
+            let among = ((steps_advanced g (node_of g x) items).all new).1 (record {
+              read = w.read;
+              is = refl;
+              from = (state (item_at w.production w.read)).1 w.valid;
+              symbol = x;
+              next = w.next;
+              at = refl;
+            }) in
+            let (r, has) = (going.each q within).all (node_of g x) (some_contained (flat_map (step_of g (node_of g x)) items) new among) in
+            none r has
+        goto_at q within x symbol (Some r) has =
+            let target = (going.each q within).sound (record { symbol = node_of g x; state = r }) has in
+            let there = target.within in
+            let upto = are.upto in
+            let inside : r < length states = omega (arith, there, done) in
+            let items = get_or states q [] in
+            let list = flat_map (step_of g (node_of g x)) items in
+            let a = are.each q (omega (arith, within, upto)) in
+            let sorted = closure_sorted g Used a.prefix (get_or kernels q []) a.is items (are.closures q within) in
+            let (item, among) = contains_some list target.some in (
+              inside,
+              λ prefix state.
+                  let kernel = kernel_next g grammar Used prefix items state sorted (node_of g x) list (steps_advanced g (node_of g x) items) x symbol refl item among in
+                  closure_state g Used (prefix ++ x ∷ []) (get_or kernels r []) (subst (IsKernelOf g Used (prefix ++ x ∷ [])) (sym target.is) kernel) (get_or states r []) (are.closures r inside),
+            )
+
+        pub explored_gotos : AreGotos g Used (record { rules = g.rules; states = states; targets = targets })
+        explored_gotos q within x symbol = goto_at q within x symbol (target_of (get_or targets q []) (node_of g x)) (target_is (get_or targets q []) (node_of g x))

@@ -3,7 +3,7 @@ use Rattle.std.proofs.Common.{◌≡◌, inl, inr, List, [], ◌∷◌, ◌++◌
 use Rattle.std.proofs.lemmas.List.Elements.{Contains-push_cases}
 use Rattle.cfgrammar.proofs.Contained.{contains_cases, contains_first, contains_later, contains_none}
 use Rattle.lr_states.specs.declared.Item.{Item}
-use Rattle.lr_states.specs.Inner.Closure.{AreSorted, IsBefore}
+use Rattle.lr_states.specs.Viable.{AreSorted, IsBefore}
 
 before_not_after : (a b : Item) → IsBefore a b → IsBefore b a → ⊥
 before_not_after a b (inl less) (inl more) = omega (arith, less, more)

@@ -1,2 +1,3 @@
 pub mod Viable
+pub mod Automaton
 pub mod Inner

@@ -1,5 +1,5 @@
 -- Viable prefixes and the items that are valid for them, as in Aho, Lam, Sethi and Ullman, Compilers, section 4.6.5.
-use Rattle.std.specs.Prelude.{◌≡◌, ◌↔◌, ◌<◌, ◌≤◌, ℕ, List, [], ◌∷◌, ◌++◌, Contains, get_or, length, take}
+use Rattle.std.specs.Prelude.{◌≡◌, ◌↔◌, ◌⊎◌, ◌<◌, ◌≤◌, ℕ, List, [], ◌∷◌, ◌++◌, Contains, get_or, length, take}
 use Rattle.cfgrammar.specs.Grammar.{Grammar, HasProduction, Sym, Rule}
 use Rattle.cfgrammar.specs.Openings.{nth_production}
 use Rattle.cfgrammar.specs.Productive.{Productive}
@@ -36,9 +36,20 @@ pub record IsViable (g : Grammar) (Used : ℕ → Type 0) (prefix : List Sym) : 
 abbrev pub IsStateOf : (g : Grammar) → (ℕ → Type 0) → List Sym → List Item → Type 0
 IsStateOf g Used prefix items = (item : Item) → Contains items item ↔ IsValid g Used prefix item
 
--- Each viable prefix has one of the states, each of the states is that of some viable prefix, and no two of them are the same.
+-- Items are in the order of how much of them is read, those with most first, and then in that of their productions.
+abbrev pub IsBefore : Item → Item → Type 0
+IsBefore a b = (b.read < a.read) ⊎ ((a.read ≡ b.read) × (a.production < b.production))
+
+abbrev pub AreSorted : List Item → Type 0
+AreSorted [] = Unit {0}
+AreSorted (x ∷ xs) = ((y : Item) → Contains xs y → IsBefore x y) × AreSorted xs
+
+-- Each viable prefix has one of the states, each of the states is that of some viable prefix, and no two of them are the same. That of
+-- the empty prefix is the first.
 pub record AreStates (g : Grammar) (Used : ℕ → Type 0) (states : List (List Item)) : Type 0 where
   pub each : (prefix : List Sym) → IsViable g Used prefix → (q : ℕ) × (q < length states) × IsStateOf g Used prefix (get_or states q [])
   pub only : (q : ℕ) → q < length states → (prefix : List Sym) × IsViable g Used prefix × IsStateOf g Used prefix (get_or states q [])
   pub distinct : (q r : ℕ) → q < length states → r < length states
       → ((item : Item) → Contains (get_or states q []) item ↔ Contains (get_or states r []) item) → q ≡ r
+  pub first : 0 < length states → IsStateOf g Used [] (get_or states 0 [])
+  pub sorted : (q : ℕ) → q < length states → AreSorted (get_or states q [])

@@ -3,7 +3,9 @@
 ghost use Rattle.std.specs.Prelude.{◌≡◌, ◌↔◌, ◌<◌, ℕ, [], Contains, IfOk, OnOk, get_or, length, map};
 ghost use Rattle.cfgrammar.specs.Numbered.{core};
 ghost use Rattle.lr_states.specs.Inner.Closure.{IsClosure, IsOn};
-ghost use Rattle.lr_states.specs.Inner.Kernels.{Adds, IsAmong, IsOne, IsSuccessor};
+ghost use Rattle.lr_states.specs.Inner.Kernels.{Adds, AreTargets, HasTargets, IsAmong, IsNumberOf, IsOne};
+ghost use Rattle.lr_states.specs.Automaton.{AreGotos};
+ghost use Rattle.lr_states.specs.Inner.Kernels.{IsSuccessor};
 ghost use Rattle.lr_states.specs.Viable.{AreStates, IsViable};
 ghost use Rattle.lr_states.specs.declared.Item.{Item};
 
@@ -17,16 +19,35 @@ use std::alloc::{AllocError, Global};
 /// Kernels in the order in which they were found.
 type Kernels = IndexSet<Vec<Item>>;
 
+/// A symbol, by its number, and the state that it leads to.
+#[derive(Clone, Copy)]
+pub(crate) struct Target {
+    pub(crate) symbol: usize,
+    pub(crate) state: usize,
+}
+
+/// The items of a state, and the states that symbols lead to from it.
+#[derive(Drop)]
+pub(crate) struct Visited {
+    pub(crate) items: Vec<Item>,
+    pub(crate) targets: Vec<Target>,
+}
+
 /// The states of all viable prefixes, if there is one.
 ///
 /// # Errors
 ///
 /// Out of memory.
-pub(crate) fn explore(alloc: Global, used: &Used<'_>) -> Result<Vec<Vec<Item>>, AllocError>
+pub(crate) fn explore(alloc: Global, used: &Used<'_>) -> Result<Vec<Visited>, AllocError>
     requires used { (p : ℕ) → IsOn used.now.bits p → p < length used.now.grammar.now.productions }
     requires viable { IsViable (core used.now.grammar.now) (IsOn used.now.bits) [] }
-    ensures { IfOk result (λ states. AreStates (core used.now.grammar.now) (IsOn used.now.bits)
-        (map (λ items. items.items) states.items)) }
+    ensures states { IfOk result (λ states. AreStates (core used.now.grammar.now) (IsOn used.now.bits)
+        (map (λ v. v.items.items) states.items)) }
+    ensures gotos { IfOk result (λ states. AreGotos (core used.now.grammar.now) (IsOn used.now.bits) (record {
+      rules = length used.now.grammar.now.rules;
+      states = map (λ v. v.items.items) states.items;
+      targets = map (λ v. v.targets.items) states.items;
+    })) }
 {
     used.grammar.invariant_holds();
     let mut kernels = IndexSet::new(alloc);
@@ -48,44 +69,57 @@ fn visit(
     used: &Used<'_>,
     kernels: &mut Kernels,
     number: usize,
-) -> Result<Vec<Item>, AllocError>
+) -> Result<Visited, AllocError>
     requires number { number < length kernels.old.keys }
     requires used { (p : ℕ) → IsOn used.now.bits p → p < length used.now.grammar.now.productions }
     requires within { (item : Item) → Contains (get_or (map (λ key. key.items) kernels.old.keys) number []) item
         → item.production < length used.now.grammar.now.productions }
-    ensures closure { IfOk result (λ items. IsClosure (core used.now.grammar.now) (IsOn used.now.bits)
-        (get_or (map (λ key. key.items) kernels.old.keys) number []) items.items) }
-    ensures adds { IfOk result (λ items. Adds (IsSuccessor (core used.now.grammar.now) items.items)
+    ensures closure { IfOk result (λ v. IsClosure (core used.now.grammar.now) (IsOn used.now.bits)
+        (get_or (map (λ key. key.items) kernels.old.keys) number []) v.items.items) }
+    ensures adds { IfOk result (λ v. Adds (IsSuccessor (core used.now.grammar.now) v.items.items)
         (map (λ key. key.items) kernels.old.keys) (map (λ key. key.items) kernels.new.keys)) }
+    ensures targets { IfOk result (λ v. HasTargets (core used.now.grammar.now) v.items.items
+        (map (λ key. key.items) kernels.new.keys) v.targets.items) }
 {
     let items = used.closure(alloc, &kernels.as_slice()[number])?;
     let table = successors(alloc, used.grammar, &items)?;
-    add_kernels(alloc, kernels, &table)?;
-    Ok(items)
+    let targets = add_kernels(alloc, kernels, &table)?;
+    Ok(Visited { items, targets })
 }
 
-/// Adds the lists of the table that aren't empty.
+/// Adds the lists of the table that aren't empty, and returns their numbers.
 fn add_kernels(
     alloc: Global,
     kernels: &mut Kernels,
     table: &ListTable<Item>,
-) -> Result<(), AllocError>
-    ensures { OnOk result (Adds (IsAmong table.now (length table.now))
+) -> Result<Vec<Target>, AllocError>
+    ensures adds { OnOk result (Adds (IsAmong table.now (length table.now))
         (map (λ key. key.items) kernels.old.keys) (map (λ key. key.items) kernels.new.keys)) }
+    ensures targets { IfOk result (λ targets. AreTargets (λ node. get_or table.now node []) (length table.now)
+        (map (λ key. key.items) kernels.new.keys) targets.items) }
 {
-    for node in 0..table.len() {
-        add_kernel(alloc, kernels, table.of(node))?;
+    let mut targets = Vec::new(alloc);
+    for symbol in 0..table.len() {
+        if let Some(state) = add_kernel(alloc, kernels, table.of(symbol))? {
+            targets.push(Target { symbol, state })?;
+        }
     }
-    Ok(())
+    Ok(targets)
 }
 
-/// Adds the items as a kernel, if there are any.
-fn add_kernel(alloc: Global, kernels: &mut Kernels, kernel: &[Item]) -> Result<(), AllocError>
-    ensures { OnOk result (Adds (IsOne kernel.now)
+/// Adds the items as a kernel, if there are any, and returns its number.
+fn add_kernel(
+    alloc: Global,
+    kernels: &mut Kernels,
+    kernel: &[Item],
+) -> Result<Option<usize>, AllocError>
+    ensures adds { OnOk result (Adds (IsOne kernel.now)
         (map (λ key. key.items) kernels.old.keys) (map (λ key. key.items) kernels.new.keys)) }
+    ensures number { IfOk result (IsNumberOf (map (λ key. key.items) kernels.new.keys) kernel.now) }
 {
-    if !kernel.is_empty() {
-        kernels.insert(kernel.to_vec(alloc)?)?;
+    if kernel.is_empty() {
+        return Ok(None);
     }
-    Ok(())
+    let (number, _) = kernels.insert_full(kernel.to_vec(alloc)?)?;
+    Ok(Some(number))
 }

@@ -10,12 +10,15 @@ mod used;
 
 ghost use Rattle.std.specs.Prelude.{◌≡◌, ◌<◌, [], get_or, length, IfOk};
 ghost use Rattle.cfgrammar.specs.Numbered.{core};
+ghost use Rattle.cfgrammar.specs.NumberedSymbols.{sym_of};
+ghost use Rattle.lr_states.specs.Automaton.{AreGotos, goto_of, target_of};
 ghost use Rattle.lr_states.specs.Viable.{AreStates, IsUsed};
 
 use crate::closure::Used;
-use crate::kernels::explore;
+use crate::kernels::{Target, Visited, explore};
 use crate::used::used_productions;
 use cfgrammar::yacc::YaccGrammar;
+use cfgrammar::{RIdx, Storage, Symbol};
 use std::alloc::{AllocError, Global};
 use std::marker::Model;
 
@@ -31,52 +34,86 @@ pub struct Item {
 /// The states of a grammar, each with its items: those with most symbols read first, and then by their productions.
 #[derive(Drop)]
 pub struct States {
-    items: Vec<Vec<Item>>,
+    rules: RIdx<u32>,
+    visited: Vec<Visited>,
 }
 
 impl Model for States {
-    ghost use Rattle.std.specs.Prelude.{List, map};
-    ghost use Rattle.lr_states.specs.declared.Item.{Item};
+    ghost use Rattle.std.specs.Prelude.{map};
+    ghost use Rattle.lr_states.specs.Automaton.{Automaton};
 
-    ghost Value = { List (List Item) };
+    ghost Value = { Automaton };
 
-    ghost view = { λ x. map (λ items. items.items) x.items.items };
+    ghost view = { λ x. record {
+      rules = x.rules.0;
+      states = map (λ v. v.items.items) x.visited.items;
+      targets = map (λ v. v.targets.items) x.visited.items;
+    } };
 }
 
 impl States {
-    /// The states of the viable prefixes of a grammar, each once, that of the empty prefix first. There are none if the
-    /// start rule has no sentence.
+    /// The states of the viable prefixes of a grammar, each once, that of the empty prefix first. There are none if
+    /// the start rule has no sentence.
     ///
     /// # Errors
     ///
     /// Out of memory.
     pub fn of(alloc: Global, grammar: &YaccGrammar<u32>) -> Result<Self, AllocError>
-        ensures { IfOk result (AreStates (core grammar.now) (IsUsed (core grammar.now))) }
+        ensures states { IfOk result (λ x. AreStates (core grammar.now) (IsUsed (core grammar.now)) x.states) }
+        ensures gotos { IfOk result (λ x. AreGotos (core grammar.now) (IsUsed (core grammar.now)) x) }
     {
         let used = Used {
             grammar,
             bits: used_productions(alloc, grammar)?,
         };
-        let items = if used.is_viable(alloc)? {
+        let visited = if used.is_viable(alloc)? {
             explore(alloc, &used)?
         } else {
             Vec::new(alloc)
         };
-        Ok(States { items })
+        Ok(States {
+            rules: grammar.rules_len(),
+            visited,
+        })
     }
 
     /// The number of states.
     pub fn len(&self) -> usize
-        ensures { result ≡ length self.now }
+        ensures { result ≡ length self.now.states }
     {
-        self.items.len()
+        self.visited.len()
     }
 
     /// The items of a state.
     pub fn items(&self, number: usize) -> &[Item]
-        requires { number < length self.now }
-        ensures { result.now ≡ get_or self.now number [] }
+        requires { number < length self.now.states }
+        ensures { result.now ≡ get_or self.now.states number [] }
     {
-        &self.items[number]
+        &self.visited[number].items
     }
+
+    /// The state that a symbol of the grammar leads to from a state: that of its prefixes with the symbol. There is none
+    /// if these are not viable.
+    pub fn goto(&self, number: usize, symbol: Symbol<u32>) -> Option<usize>
+        requires { number < length self.now.states }
+        ensures { result ≡ goto_of self.now number (sym_of (λ s. s) symbol) }
+    {
+        let node = match symbol {
+            Symbol::Rule(rule) => rule.0.to_usize(),
+            Symbol::Token(token) => self.rules.0.to_usize() + token.0.to_usize(),
+        };
+        target_of(&self.visited[number].targets, node)
+    }
+}
+
+/// The state of the first target for a symbol with this number.
+fn target_of(targets: &[Target], node: usize) -> Option<usize>
+    ensures { result ≡ target_of targets.now node }
+{
+    for target in targets {
+        if target.symbol == node {
+            return Some(target.state);
+        }
+    }
+    None
 }

@@ -1,9 +1,10 @@
 -- How items lead to items: productions that are entered, and symbols that are read.
 use Rattle.std.specs.Prelude.{◌≡◌, ◌==◌, ◌↔◌, ◌⊎◌, ◌<◌, ◌+◌, ℕ, Bool, cond, false, List, [], ◌∷◌, Option, None, Some, Contains, IsTrue, slice_get, slice_index_or}
 use Rattle.search.specs.Reachable.{Reachable}
-use Rattle.cfgrammar.specs.Grammar.{Grammar, Sym, Rule, Token}
+use Rattle.cfgrammar.specs.Grammar.{Grammar, Sym, Rule}
 use Rattle.cfgrammar.specs.Openings.{nth_production}
-use Rattle.lr_states.specs.Viable.{IsValid}
+use Rattle.lr_states.specs.Automaton.{symbol_number}
+use Rattle.lr_states.specs.Viable.{AreSorted, IsValid}
 use Rattle.lr_states.specs.declared.Item.{Item}
 
 -- the bit with this number is on
@@ -40,14 +41,6 @@ pub record IsEntered (g : Grammar) (Used : ℕ → Type 0) (kernel : List Item) 
   pub used : Used item.production
   pub reached : Reachable (IsSeed g kernel) (Enters g Used) (nth_production g item.production).rule
 
--- Items are in the order of how much of them is read, those with most first, and then in that of their productions.
-abbrev pub IsBefore : Item → Item → Type 0
-IsBefore a b = (b.read < a.read) ⊎ ((a.read ≡ b.read) × (a.production < b.production))
-
-abbrev pub AreSorted : List Item → Type 0
-AreSorted [] = Unit {0}
-AreSorted (x ∷ xs) = ((y : Item) → Contains xs y → IsBefore x y) × AreSorted xs
-
 -- all items of a state of which these are the items that have symbols read
 pub record IsClosure (g : Grammar) (Used : ℕ → Type 0) (kernel items : List Item) : Type 0 where
   pub all : (item : Item) → Contains items item ↔ (Contains kernel item ⊎ IsEntered g Used kernel item)
@@ -65,10 +58,9 @@ pub record ArePushed (g : Grammar) (Used Reached : ℕ → Type 0) (kernel : Lis
   pub all : (item : Item) → Contains items item ↔ (Contains kernel item ⊎ IsPushed g Used Reached i item)
   pub sorted : AreSorted kernel → ((item : Item) → Contains kernel item → 0 < item.read) → AreSorted items
 
--- symbols as numbers: the rules, and after them the tokens
+-- the number of a symbol
 abbrev pub node_of : Grammar → Sym → ℕ
-node_of g (Rule r) = r
-node_of g (Token t) = g.rules + t
+node_of g symbol = symbol_number g.rules symbol
 
 -- the item after its next symbol is read, if that is the one of this number
 abbrev pub step_at : Grammar → ℕ → Item → Option Sym → List Item

@@ -3,11 +3,20 @@ use Rattle.std.proofs.lemmas.List.{length-map, length_push, map_push}
 use Rattle.std.proofs.lemmas.Slice.Eq.{slice_eq-Decides}
 use Rattle.cfgrammar.specs.Numbered.{core}
 use Rattle.lr_states.specs.declared.Item.{Item}
+use Rattle.lr_states.specs.declared.kernels.Target.{Target}
+use Rattle.lr_states.specs.declared.kernels.Visited.{Visited}
+use Rattle.lr_states.specs.Inner.Kernels.{AreGoing, IsSuccessor}
 use Rattle.lr_states.specs.Inner.Closure.{IsClosure, IsOn}
-use Rattle.lr_states.proofs.Added.{items_Decide, key_first, keys_apart, same_keys}
-use Rattle.lr_states.proofs.Explored.{AreExplored, explored_first, explored_more, explored_states}
+use Rattle.lr_states.proofs.Added.{going_more, going_none, items_Decide, key_first, keys_apart, same_keys}
+use Rattle.lr_states.proofs.Explored.{AreExplored, explored_first, explored_gotos, explored_more, explored_states}
 use Rattle.lr_states.proofs.kernels.explore.Goals as goal
 use Rattle.lr_states.proofs.kernels.explore.Goals.{else-loop-number-test, then-loop-number-test+then-number-len}
+
+abbrev shown : Visited → List Item
+shown v = v.items.items
+
+abbrev led : Visited → List Target
+led v = v.targets.items
 
 pub loop-number-init : goal.loop-number-init
 loop-number-init c =
@@ -19,8 +28,9 @@ loop-number-init c =
     ∙ ap (λ (l : List Item). l ∷ []) c.new.ensures.items in
     record {
       count = ap length c.new-states.ensures.items;
-      explored = subst (λ (l : List (Vec Item Global)). AreExplored g used kernels (map (λ (v : Vec Item Global). v.items) l)) (sym c.new-states.ensures.items)
+      explored = subst (λ (l : List Visited). AreExplored g used kernels (map shown l)) (sym c.new-states.ensures.items)
           (explored_first g used kernels one c.requires.viable);
+      going = subst (λ (l : List Visited). AreGoing g kernels (map shown l) (map led l)) (sym c.new-states.ensures.items) (going_none g kernels);
     }
 
 pub loop-number-preserved : goal.loop-number-preserved
@@ -29,18 +39,22 @@ loop-number-preserved c =
     let used = IsOn c.args.used.now.bits in
     let kernels = map (λ (v : Vec Item Global). v.items) c.loop-number.kernels.keys in
     let new = map (λ (v : Vec Item Global). v.items) c.visit.new.kernels.keys in
-    let states = map (λ (v : Vec Item Global). v.items) c.loop-number.states.items in
-    let items = c.in_ok-visit.field-0.items in
+    let states = map shown c.loop-number.states.items in
+    let items = c.in_ok-visit.field-0.items.items in
     let long = length-map c.loop-number.kernels.keys (λ (v : Vec Item Global). v.items) in
-    let wide = length-map c.loop-number.states.items (λ (v : Vec Item Global). v.items) in
+    let wide = length-map c.loop-number.states.items shown in
     let here : c.loop-number.number ≡ length states = omega (arith, wide, c.loop-number.invariant.count) in
     let room : length states < length kernels = omega (arith, here, long, c.len.ensures.len, c.if-number-len.false) in
     record {
       count = ap length c.in_ok-push.ensures.items ∙ length_push c.loop-number.states.items c.in_ok-visit.field-0 ∙ ap (λ n. n + 1) c.loop-number.invariant.count;
       explored = explored_more g used c.invariant_holds.ensures.whole.grammar kernels states c.loop-number.invariant.explored items new
-          (map (λ (v : Vec Item Global). v.items) c.push.new.self.items) room
+          (map shown c.push.new.self.items) room
           (subst (λ n. IsClosure g used (get_or kernels n []) items) here c.in_ok-visit.ensures.closure) c.in_ok-visit.ensures.adds
-          (ap (map (λ (v : Vec Item Global). v.items)) c.in_ok-push.ensures.items ∙ map_push (λ (v : Vec Item Global). v.items) c.loop-number.states.items c.in_ok-visit.field-0);
+          (ap (map shown) c.in_ok-push.ensures.items ∙ map_push shown c.loop-number.states.items c.in_ok-visit.field-0);
+      going = going_more g (IsSuccessor g items) kernels new states (map shown c.push.new.self.items) (map led c.loop-number.states.items) (map led c.push.new.self.items)
+          items c.in_ok-visit.field-0.targets.items c.loop-number.invariant.going c.in_ok-visit.ensures.adds c.in_ok-visit.ensures.targets
+          (ap (map shown) c.in_ok-push.ensures.items ∙ map_push shown c.loop-number.states.items c.in_ok-visit.field-0)
+          (ap (map led) c.in_ok-push.ensures.items ∙ map_push led c.loop-number.states.items c.in_ok-visit.field-0);
     }
 
 pub visit-requires-clause-within : goal.visit-requires-clause-within
@@ -56,13 +70,17 @@ returns c =
     let used = IsOn c.args.used.now.bits in
     let keys = c.loop-number.kernels.keys in
     let kernels = map (λ (v : Vec Item Global). v.items) keys in
-    let states = map (λ (v : Vec Item Global). v.items) c.loop-number.states.items in
+    let states = map shown c.loop-number.states.items in
     let long = length-map keys (λ (v : Vec Item Global). v.items) in
-    let wide = length-map c.loop-number.states.items (λ (v : Vec Item Global). v.items) in
+    let wide = length-map c.loop-number.states.items shown in
     let count = c.loop-number.invariant.count in
     let done : length kernels ≤ length states = elim c.loop-number-test.branch [
       | else-loop-number-test w ↦ omega (arith, long, wide, count, c.len-count.ensures.len, c.len-count.ensures.small, w.loop-number-test.false)
       | then-loop-number-test+then-number-len w ↦ omega (arith, long, wide, count, w.len.ensures.len, w.if-number-len.true)
     ] in
-    explored_states g used c.invariant_holds.ensures.whole.grammar kernels states c.loop-number.invariant.explored done
-    (keys_apart (λ (v : Vec Item Global). v.items) same_keys keys (λ x y. slice_eq-Decides items_Decide x.items y.items _ refl) c.len-count.ensures.unique)
+    let apart = keys_apart (λ (v : Vec Item Global). v.items) same_keys keys (λ x y. slice_eq-Decides items_Decide x.items y.items _ refl) c.len-count.ensures.unique in
+    record {
+      states = explored_states g used c.invariant_holds.ensures.whole.grammar kernels states c.loop-number.invariant.explored done apart;
+      gotos = explored_gotos g used c.invariant_holds.ensures.whole.grammar kernels states c.loop-number.invariant.explored done (map led c.loop-number.states.items)
+          c.loop-number.invariant.going;
+    }

@@ -4,7 +4,7 @@ use Rattle.std.proofs.lemmas.List.{get_or-map}
 use Rattle.cfgrammar.specs.Numbered.{core}
 use Rattle.lr_states.specs.declared.Item.{Item}
 use Rattle.lr_states.specs.Inner.Closure.{IsClosure, IsOn, step_of}
-use Rattle.lr_states.proofs.Added.{successors_found}
+use Rattle.lr_states.proofs.Added.{successors_found, targets_found}
 use Rattle.lr_states.proofs.Closed.{closure_within}
 use Rattle.lr_states.proofs.kernels.visit.Goals as goal
 
@@ -43,5 +43,7 @@ returns c =
     record {
       closure = subst (λ l. IsClosure g (IsOn c.args.used.now.bits) l items) same c.in_ok-items.ensures;
       adds = successors_found g items c.in_ok-table.table (λ node. c.in_ok-table.ensures.steps node ∙ ap (flat_map (step_of g node)) c.deref-2.ensures.value) _ _
-          c.in_ok-add_kernels.ensures;
+          c.in_ok-targets.ensures.adds;
+      targets = targets_found g items c.in_ok-table.table (λ node. c.in_ok-table.ensures.steps node ∙ ap (flat_map (step_of g node)) c.deref-2.ensures.value) _ _
+          c.in_ok-targets.ensures.targets;
     }
