@@ -11,11 +11,12 @@ use Rattle.std.proofs.lemmas.Map.Keys.{apart_from_distinct}
 use Rattle.std.proofs.lemmas.List.Elements.{Contains-append_left, Contains-push, Contains-push_cases}
 use Rattle.std.proofs.lemmas.Option.{get_or_from_slice_get, slice_get_within}
 use Rattle.cfgrammar.specs.Grammar.{Grammar}
-use Rattle.cfgrammar.proofs.Contained.{contains_none}
+use Rattle.cfgrammar.proofs.Contained.{contains_first, contains_later, contains_none}
 use Rattle.cfgrammar.proofs.Elements.{element_at}
 use Rattle.lr_states.specs.declared.Item.{Item}
 use Rattle.lr_states.specs.declared.kernels.Target.{Target}
 use Rattle.lr_states.specs.Inner.Kernels.{Adds, AreGoing, AreTargets, HasTargets, IsAmong, IsNumberOf, IsOne, IsSuccessor, IsTarget}
+use Rattle.lr_states.specs.Automaton.{AreAscending}
 use Rattle.lr_states.specs.Inner.Closure.{step_of}
 
 pub adds_none : (Found : List Item → Type 0) (lists : List (List Item)) → ((list : List Item) → Found list → ⊥) → Adds Found lists lists
@@ -175,11 +176,24 @@ target_kept lists Found old new adds t is = record {
   some = is.some;
 }
 
+ascending_push : (targets : List Target) (target : Target) → AreAscending targets → ((other : Target) → Contains targets other → other.symbol < target.symbol)
+    → AreAscending (targets ++ target ∷ [])
+ascending_push [] target ascending below = ((λ other h. absurd (contains_none other h)), tt)
+ascending_push (first ∷ targets) target ascending below = (
+  (λ other h. elim (Contains-push_cases targets target other h) [
+    | inl early ↦ ascending.0 other early
+    | inr last ↦ subst (λ (t : Target). first.symbol < t.symbol) last (below first (contains_first first targets))
+  ]),
+  ascending_push targets target ascending.1 (λ other h. below other (contains_later first other targets h)),
+)
+
 module _ (lists : ℕ → List Item) where
   pub targets_none : (kernels : List (List Item)) (targets : List Target) → targets ≡ [] → AreTargets lists 0 kernels targets
   targets_none kernels targets none = record {
     sound = λ t h. absurd (contains_none t (subst (λ l. Contains l t) none h));
     all = λ node below some. absurd (omega (arith, below));
+    below = λ t h. absurd (contains_none t (subst (λ l. Contains l t) none h));
+    ascending = subst AreAscending (sym none) tt;
   }
 
   module _ (n : ℕ) (Found : List Item → Type 0) (old new : List (List Item)) (adds : Adds Found old new) (targets : List Target) (are : AreTargets lists n old targets) where
@@ -190,6 +204,8 @@ module _ (lists : ℕ → List Item) where
         | inl same ↦ absurd (omega (arith, some, none, ap (λ m. length (lists m)) same))
         | inr apart ↦ are.all node (omega (arith, below, apart)) some
       ];
+      below = λ t h. let under = are.below t h in omega (arith, under);
+      ascending = are.ascending;
     }
 
     pub targets_more : (r : ℕ) → IsNumberOf new (lists n) (Some r) → (more : List Target) → more ≡ targets ++ (record { symbol = n; state = r }) ∷ [] → AreTargets lists (n + 1) new more
@@ -202,6 +218,11 @@ module _ (lists : ℕ → List Item) where
         | inl same ↦ (r, subst (λ m. Contains (targets ++ target ∷ []) (record { symbol = m; state = r })) (sym same) (Contains-push targets target))
         | inr apart ↦ let (s, among) = are.all node (omega (arith, below, apart)) filled in (s, Contains-append_left targets (target ∷ []) (record { symbol = node; state = s }) among)
       ];
+      below = λ t h. elim (Contains-push_cases targets target t h) [
+        | inl early ↦ let under = are.below t early in omega (arith, under)
+        | inr last ↦ subst (λ (u : Target). u.symbol < n + 1) last (omega arith)
+      ];
+      ascending = ascending_push targets target are.ascending are.below;
     })
       where
         target : Target
@@ -221,6 +242,7 @@ targets_found g items table steps kernels targets are = record {
         | inr past ↦ absurd (omega (arith, filled, ap (λ (l : List Item). length l) (get_or_past table node [] past)))
       ] in
       are.all node below filled;
+  ascending = are.ascending;
 }
 
 -- one more state's targets
@@ -241,6 +263,7 @@ module _ (g : Grammar) where
           subst (λ l. HasTargets g l new (get_or (targets ++ own ∷ []) q [])) (sym here) (subst (HasTargets g (get_or states q []) new) (sym there) (record {
             sound = λ t h. target_kept (λ node. flat_map (step_of g node) (get_or states q [])) Found kernels new adds t (before.sound t h);
             all = before.all;
+            ascending = before.ascending;
           }))
       | inr late ↦
           let count = are.count in

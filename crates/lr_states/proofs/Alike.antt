@@ -1,12 +1,12 @@
 -- Productions that are used by one account and by another: the same prefixes are viable.
-use Rattle.std.proofs.Common.{◌≡◌, ◌==◌, ◌↔◌, inl, inr, ℕ, Bool, true, false, List, [], ◌∷◌, ◌++◌, Option, None, Some, IsTrue, ap, arith, get_or, length, not, sym, ◌∙◌}
+use Rattle.std.proofs.Common.{◌≡◌, ◌==◌, ◌↔◌, inl, inr, ℕ, Bool, true, false, List, [], ◌∷◌, ◌++◌, Option, None, Some, IsTrue, ap, arith, get_or, length, not, refl, sym, ◌∙◌}
 use Rattle.std.proofs.lemmas.Bool.{cases_Bool}
 use Rattle.std.proofs.lemmas.Bool.Decides.{Decides-eqb}
 use Rattle.cfgrammar.specs.Grammar.{Grammar, Sym}
 use Rattle.cfgrammar.proofs.Contained.{contains_first, contains_none}
 use Rattle.lr_states.specs.declared.Item.{Item}
 use Rattle.lr_states.specs.declared.kernels.Target.{Target}
-use Rattle.lr_states.specs.Automaton.{AreGotos, Automaton, IsGoto, goto_of}
+use Rattle.lr_states.specs.Automaton.{AreGotos, Automaton, HaveTargets, IsGoto, goto_of}
 use Rattle.lr_states.specs.Viable.{AreStates, IsStateOf, IsValid, IsViable, Spine, inner, start}
 use Rattle.lr_states.specs.Inner.Closure.{IsClosure}
 use Rattle.lr_states.proofs.Closed.{closure_state}
@@ -56,6 +56,14 @@ module _ (g : Grammar) (Used Used' : ℕ → Type 0) (same : (p : ℕ) → Used 
 
   pub gotos_as : (a : Automaton) → AreGotos g Used a → AreGotos g Used' a
   gotos_as a are q within x symbol = goto_as a.states q x (goto_of a q x) (are q within x symbol)
+
+pub none_targets : (g : Grammar) → HaveTargets g (record { rules = g.rules; states = []; targets = [] })
+none_targets g = record {
+  rules = refl;
+  count = refl;
+  symbols = λ q within target h. absurd (omega (arith, within));
+  ascending = λ q within. absurd (omega (arith, within));
+}
 
 module _ (g : Grammar) (Used : ℕ → Type 0) where
   pub none_gotos : (rules : ℕ) (targets : List (List Target)) → AreGotos g Used (record { rules = rules; states = []; targets = targets })

@@ -9,8 +9,8 @@ use Rattle.cfgrammar.specs.Grammar.{Grammar, IsGrammar, IsSymbolOf, Production, 
 use Rattle.cfgrammar.specs.Openings.{nth_production}
 use Rattle.cfgrammar.proofs.Contained.{contains_first, contains_none}
 use Rattle.lr_states.specs.declared.Item.{Item}
-use Rattle.lr_states.specs.Viable.{AreSorted, IsStateOf, IsValid}
-use Rattle.lr_states.specs.Inner.Closure.{AreAdvanced, HasNext, IsClosure, IsKernelOf, IsSeed, first, item_at, next, node_of}
+use Rattle.lr_states.specs.Inner.Closure.{AreAdvanced, IsClosure, IsKernelOf, IsSeed, first, next, node_of}
+use Rattle.lr_states.specs.Viable.{AreSorted, HasNext, IsStateOf, IsValid, item_at}
 use Rattle.lr_states.proofs.Spines.{IsSeedAt, IsRead, none_read, opened_reached, opened_valid, read_back, read_one, reached_opened, valid_opened, viable_prefix, viable_read}
 use Rattle.lr_states.proofs.Spines as spines
 

@@ -9,10 +9,10 @@ use Rattle.cfgrammar.specs.Grammar.{Grammar, IsGrammar, IsSymbolOf, Sym}
 use Rattle.cfgrammar.proofs.Contained.{contains_cases, contains_first, contains_later, contains_none}
 use Rattle.lr_states.specs.declared.Item.{Item}
 use Rattle.lr_states.specs.declared.kernels.Target.{Target}
-use Rattle.lr_states.specs.Viable.{AreStates, IsStateOf, IsValid, IsViable}
-use Rattle.lr_states.specs.Inner.Closure.{AreAdvanced, IsClosure, IsKernelOf, item_at, node_of, step_of}
+use Rattle.lr_states.specs.Inner.Closure.{AreAdvanced, IsClosure, IsKernelOf, node_of, step_of}
+use Rattle.lr_states.specs.Viable.{AreStates, IsStateOf, IsValid, IsViable, item_at}
 use Rattle.lr_states.specs.Inner.Kernels.{Adds, AreGoing, IsSuccessor}
-use Rattle.lr_states.specs.Automaton.{AreGotos, IsGoto, target_of}
+use Rattle.lr_states.specs.Automaton.{AreGotos, HaveTargets, IsGoto, target_of}
 use Rattle.lr_states.proofs.Closed.{closure_sorted, closure_state, kernel_next, next_symbol, next_viable}
 use Rattle.lr_states.proofs.Order.{sorted_same}
 use Rattle.lr_states.proofs.Spines.{IsRead, none_read, viable_prefix, viable_read}
@@ -265,3 +265,17 @@ module _ (g : Grammar) (Used : ℕ → Type 0) where
 
         pub explored_gotos : AreGotos g Used (record { rules = g.rules; states = states; targets = targets })
         explored_gotos q within x symbol = goto_at q within x symbol (target_of (get_or targets q []) (node_of g x)) (target_is (get_or targets q []) (node_of g x))
+
+-- the symbols of the targets are next in items
+pub explored_targets : (g : Grammar) → IsGrammar g → (kernels states : List (List Item)) (targets : List (List Target)) → AreGoing g kernels states targets
+    → HaveTargets g (record { rules = g.rules; states = states; targets = targets })
+explored_targets g grammar kernels states targets are = record {
+  rules = refl;
+  count = are.count;
+  symbols = λ q within target h.
+      let items = get_or states q [] in
+      let (item, among) = contains_some (flat_map (step_of g target.symbol) items) ((are.each q within).sound target h).some in
+      let a = ((steps_advanced g target.symbol items).all item).0 among in
+      (a.symbol, next_symbol g grammar (item_at item.production a.read) a.symbol a.next, a.at);
+  ascending = λ q within. (are.each q within).ascending;
+}

@@ -5,7 +5,7 @@ use Rattle.cfgrammar.proofs.Contained.{contains_cases, contains_first, contains_
 use Rattle.lr_states.specs.declared.Item.{Item}
 use Rattle.lr_states.specs.Viable.{AreSorted, IsBefore}
 
-before_not_after : (a b : Item) → IsBefore a b → IsBefore b a → ⊥
+pub before_not_after : (a b : Item) → IsBefore a b → IsBefore b a → ⊥
 before_not_after a b (inl less) (inl more) = omega (arith, less, more)
 before_not_after a b (inl less) (inr same) = omega (arith, less, same.0)
 before_not_after a b (inr same) (inl more) = omega (arith, more, same.0)

@@ -6,8 +6,8 @@ use Rattle.search.specs.Reachable.{Reachable}
 use Rattle.cfgrammar.specs.Grammar.{Grammar}
 use Rattle.cfgrammar.specs.Openings.{nth_production}
 use Rattle.lr_states.specs.declared.Item.{Item}
-use Rattle.lr_states.specs.Viable.{AreSorted}
-use Rattle.lr_states.specs.Inner.Closure.{ArePushed, Enters, IsClosure, IsPushed, IsSeed, item_at}
+use Rattle.lr_states.specs.Inner.Closure.{ArePushed, Enters, IsClosure, IsPushed, IsSeed}
+use Rattle.lr_states.specs.Viable.{AreSorted, item_at}
 use Rattle.lr_states.proofs.Order.{sorted_push}
 
 module _ (g : Grammar) (Used Reached : ℕ → Type 0) where

@@ -14,8 +14,8 @@ use Rattle.cfgrammar.specs.Symbol.{Symbol}
 use Rattle.cfgrammar.proofs.Contained.{contains_none, contains_source}
 use Rattle.cfgrammar.proofs.Taken.{contains_taken}
 use Rattle.lr_states.specs.declared.Item.{Item}
-use Rattle.lr_states.specs.Inner.Closure.{Begins, Enters, HasNext, IsOn, IsSeed, first, item_at, next}
-use Rattle.lr_states.specs.Viable.{IsUsed}
+use Rattle.lr_states.specs.Inner.Closure.{Begins, Enters, IsOn, IsSeed, first, next}
+use Rattle.lr_states.specs.Viable.{HasNext, IsUsed, item_at}
 use Rattle.lr_states.proofs.Closed.{next_within}
 
 -- each rule among the symbols has its bit on

@@ -8,21 +8,21 @@ use Rattle.cfgrammar.specs.Grammar.{Grammar, Sym, Rule}
 use Rattle.cfgrammar.specs.Openings.{nth_production}
 use Rattle.cfgrammar.proofs.Elements.{element_at}
 use Rattle.lr_states.specs.declared.Item.{Item}
-use Rattle.lr_states.specs.Viable.{IsValid, IsViable, Spine, start, inner}
-use Rattle.lr_states.specs.Inner.Closure.{Enters, HasNext, item_at}
+use Rattle.lr_states.specs.Viable.{HasNext, IsValid, IsViable, Spine, inner, item_at, start}
+use Rattle.lr_states.specs.Inner.Closure.{Enters}
 
 -- the symbol at the end of a list
-slice_at : (read rest : List Sym) (x : Sym) → slice_get (read ++ x ∷ rest) (length read) ≡ Some x
+pub slice_at : (read rest : List Sym) (x : Sym) → slice_get (read ++ x ∷ rest) (length read) ≡ Some x
 slice_at read rest x =
     slice_get-get_or (read ++ x ∷ rest) (length read) x (let long = length-append read (x ∷ rest) in omega (arith, long))
     ∙ ap Some (get_or_at read x rest x (length read) refl)
 
-split_at : (symbols : List Sym) (i : ℕ) (x : Sym) → slice_get symbols i ≡ Some x → i < length symbols → symbols ≡ take i symbols ++ x ∷ drop (i + 1) symbols
+pub split_at : (symbols : List Sym) (i : ℕ) (x : Sym) → slice_get symbols i ≡ Some x → i < length symbols → symbols ≡ take i symbols ++ x ∷ drop (i + 1) symbols
 split_at symbols i x at within =
     sym (take-append-drop i symbols) ∙ ap (λ l. take i symbols ++ l) (drop_more symbols i x within)
     ∙ ap (λ y. take i symbols ++ y ∷ drop (i + 1) symbols) (get_or_from_slice_get symbols i x x at)
 
-within_at : (symbols : List Sym) (i : ℕ) (x : Sym) → slice_get symbols i ≡ Some x → i < length symbols
+pub within_at : (symbols : List Sym) (i : ℕ) (x : Sym) → slice_get symbols i ≡ Some x → i < length symbols
 within_at symbols i x at = slice_get_within symbols i x at
 
 module _ (g : Grammar) (Used : ℕ → Type 0) where
@@ -56,19 +56,22 @@ module _ (g : Grammar) (Used : ℕ → Type 0) where
   }
 
   -- one symbol more
+  pub more_read : (before : List Sym) (x : Sym) (p i : ℕ) → HasNext g (item_at p i) x → (before ++ take i (symbols p)) ++ x ∷ [] ≡ before ++ take (i + 1) (symbols p)
+  more_read before x p i at =
+      append_assoc before (take i (symbols p)) (x ∷ [])
+      ∙ ap (λ l. before ++ l) (sym (take_more (symbols p) i x (within_at (symbols p) i x at) ∙ ap (λ y. take i (symbols p) ++ y ∷ []) (get_or_from_slice_get (symbols p) i x x at)))
+
   pub read_one : (prefix : List Sym) (x : Sym) (p i : ℕ) → HasNext g (item_at p i) x → Valid prefix (item_at p i) → Valid (prefix ++ x ∷ []) (item_at p (i + 1))
-  read_one prefix x p i at v = record {
-    before = v.before;
-    after = v.after;
-    spine = v.spine;
-    used = v.used;
-    read = omega (arith, within);
-    is = ap (λ l. l ++ x ∷ []) v.is ∙ append_assoc v.before (take i (symbols p)) (x ∷ [])
-        ∙ ap (λ l. v.before ++ l) (sym (take_more (symbols p) i x within ∙ ap (λ y. take i (symbols p) ++ y ∷ []) (get_or_from_slice_get (symbols p) i x x at)));
-  }
-    where
-      within : i < length (symbols p)
-      within = within_at (symbols p) i x at
+  read_one prefix x p i at v =
+      let within : i < length (symbols p) = within_at (symbols p) i x at in
+      record {
+        before = v.before;
+        after = v.after;
+        spine = v.spine;
+        used = v.used;
+        read = omega (arith, within);
+        is = ap (λ l. l ++ x ∷ []) v.is ∙ more_read v.before x p i at;
+      }
 
   -- an item of which a symbol was read
   pub record WasRead (prefix : List Sym) (p i : ℕ) : Type 0 where
@@ -85,8 +88,7 @@ module _ (g : Grammar) (Used : ℕ → Type 0) where
       record {
         rest = v.before ++ take i (symbols p);
         symbol = x;
-        is = v.is ∙ ap (λ l. v.before ++ l) (take_more (symbols p) i x within ∙ ap (λ y. take i (symbols p) ++ y ∷ []) (get_or_from_slice_get (symbols p) i x x at))
-            ∙ sym (append_assoc v.before (take i (symbols p)) (x ∷ []));
+        is = v.is ∙ sym (more_read v.before x p i at);
         next = at;
         valid = record { before = v.before; after = v.after; spine = v.spine; used = v.used; read = omega (arith, within); is = refl };
       }
@@ -101,15 +103,16 @@ module _ (g : Grammar) (Used : ℕ → Type 0) where
   none_read p i v = let w = was_read [] p i v in omega (arith, ap length w.is, length_push w.rest w.symbol)
 
   -- the next rule of an item is opened
-  pub opened_next : (prefix : List Sym) (item : Item) (rule : ℕ) → Valid prefix item → HasNext g item (Rule rule) → IsOpened prefix rule
-  opened_next prefix item rule v at =
+  pub spine_next : (prefix before after : List Sym) (item : Item) (rule : ℕ) → Spine g Used before (nth_production g item.production).rule after → Used item.production
+      → prefix ≡ before ++ take item.read (symbols item.production) → HasNext g item (Rule rule) → Spine g Used prefix rule (drop (item.read + 1) (symbols item.production) ++ after)
+  spine_next prefix before after item rule spine used is at =
       let list = symbols item.production in
-      record {
-        after = drop (item.read + 1) list ++ v.after;
-        spine = subst (λ l. Spine g Used l rule (drop (item.read + 1) list ++ v.after)) (sym v.is)
-            (inner v.spine item.production v.used refl (take item.read list) (drop (item.read + 1) list) rule
-            (split_at list item.read (Rule rule) at (within_at list item.read (Rule rule) at)));
-      }
+      subst (λ l. Spine g Used l rule (drop (item.read + 1) list ++ after)) (sym is)
+      (inner spine item.production used refl (take item.read list) (drop (item.read + 1) list) rule
+      (split_at list item.read (Rule rule) at (within_at list item.read (Rule rule) at)))
+
+  pub opened_next : (prefix : List Sym) (item : Item) (rule : ℕ) → Valid prefix item → HasNext g item (Rule rule) → IsOpened prefix rule
+  opened_next prefix item rule v at = record { after = _; spine = spine_next prefix v.before v.after item rule v.spine v.used v.is at }
 
   -- the rules that are next in items with symbols read; for the empty prefix the start rule
   pub data IsSeedAt (prefix : List Sym) (rule : ℕ) : Type 0 where

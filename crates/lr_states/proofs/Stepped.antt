@@ -13,8 +13,8 @@ use Rattle.cfgrammar.proofs.Elements.{element_at}
 use Rattle.cfgrammar.specs.Openings.{nth_production}
 use Rattle.cfgrammar.proofs.Contained.{contains_cases, contains_first, contains_later, contains_none, contains_one}
 use Rattle.lr_states.specs.declared.Item.{Item}
-use Rattle.lr_states.specs.Viable.{AreSorted, IsBefore}
-use Rattle.lr_states.specs.Inner.Closure.{AreAdvanced, HasNext, IsAdvanced, item_at, node_of, step_at, step_of}
+use Rattle.lr_states.specs.Inner.Closure.{AreAdvanced, IsAdvanced, node_of, step_at, step_of}
+use Rattle.lr_states.specs.Viable.{AreSorted, HasNext, IsBefore, item_at}
 
 module _ {A B : Type 0} (f : A → List B) where
   pub contains_flat : (xs : List A) (y : B) → Contains (flat_map f xs) y → (x : A) × Contains xs x × Contains (f x) y

@@ -1,5 +1,5 @@
 -- The states of viable prefixes, and the states that symbols lead to from them.
-use Rattle.std.specs.Prelude.{◌==◌, ◌<◌, ◌+◌, ℕ, List, [], ◌∷◌, ◌++◌, Option, None, Some, cond, get_or, length}
+use Rattle.std.specs.Prelude.{◌≡◌, ◌==◌, ◌<◌, ◌+◌, ℕ, List, [], ◌∷◌, ◌++◌, Option, None, Some, Contains, cond, get_or, length}
 use Rattle.cfgrammar.specs.Grammar.{Grammar, IsSymbolOf, Sym, Rule, Token}
 use Rattle.lr_states.specs.declared.Item.{Item}
 use Rattle.lr_states.specs.declared.kernels.Target.{Target}
@@ -32,3 +32,16 @@ IsGoto g Used states q symbol (Some r) = (r < length states)
 
 abbrev pub AreGotos : (g : Grammar) → (ℕ → Type 0) → Automaton → Type 0
 AreGotos g Used x = (q : ℕ) → q < length x.states → (symbol : Sym) → IsSymbolOf g symbol → IsGoto g Used x.states q symbol (goto_of x q symbol)
+
+-- Targets are in ascending order of their symbols.
+abbrev pub AreAscending : List Target → Type 0
+AreAscending [] = Unit {0}
+AreAscending (target ∷ targets) = ((other : Target) → Contains targets other → target.symbol < other.symbol) × AreAscending targets
+
+-- the targets of each state are for symbols of the grammar, in ascending order
+pub record HaveTargets (g : Grammar) (x : Automaton) : Type 0 where
+  pub rules : x.rules ≡ g.rules
+  pub count : length x.targets ≡ length x.states
+  pub symbols : (q : ℕ) → q < length x.states → (target : Target) → Contains (get_or x.targets q []) target
+      → (symbol : Sym) × IsSymbolOf g symbol × (symbol_number g.rules symbol ≡ target.symbol)
+  pub ascending : (q : ℕ) → q < length x.states → AreAscending (get_or x.targets q [])

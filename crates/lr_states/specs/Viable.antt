@@ -1,5 +1,5 @@
 -- Viable prefixes and the items that are valid for them, as in Aho, Lam, Sethi and Ullman, Compilers, section 4.6.5.
-use Rattle.std.specs.Prelude.{◌≡◌, ◌↔◌, ◌⊎◌, ◌<◌, ◌≤◌, ℕ, List, [], ◌∷◌, ◌++◌, Contains, get_or, length, take}
+use Rattle.std.specs.Prelude.{◌≡◌, ◌↔◌, ◌⊎◌, ◌<◌, ◌≤◌, ℕ, List, [], ◌∷◌, ◌++◌, Some, Contains, get_or, length, slice_get, take}
 use Rattle.cfgrammar.specs.Grammar.{Grammar, HasProduction, Sym, Rule}
 use Rattle.cfgrammar.specs.Openings.{nth_production}
 use Rattle.cfgrammar.specs.Productive.{Productive}
@@ -17,6 +17,13 @@ pub data Spine (g : Grammar) (Used : ℕ → Type 0) : List Sym → ℕ → List
   inner : {before after : List Sym} {owner : ℕ} → Spine g Used before owner after → (p : ℕ) → Used p → (nth_production g p).rule ≡ owner
       → (read rest : List Sym) (rule : ℕ) → (nth_production g p).symbols ≡ read ++ Rule rule ∷ rest
       → Spine g Used (before ++ read) rule (rest ++ after)
+
+abbrev pub item_at : ℕ → ℕ → Item
+item_at p i = record { production = p; read = i }
+
+-- the item's next symbol is this one
+abbrev pub HasNext : Grammar → Item → Sym → Type 0
+HasNext g item symbol = slice_get (nth_production g item.production).symbols item.read ≡ Some symbol
 
 -- the item is valid for the prefix: it may be what a parser is at after reading the prefix
 pub record IsValid (g : Grammar) (Used : ℕ → Type 0) (prefix : List Sym) (item : Item) : Type 0 where

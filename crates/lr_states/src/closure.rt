@@ -5,8 +5,8 @@ ghost use Rattle.cfgrammar.specs.Grammar.{Rule};
 ghost use Rattle.cfgrammar.specs.Numbered.{core};
 ghost use Rattle.cfgrammar.specs.Openings.{nth_production};
 ghost use Rattle.search.specs.Reachable.{IsReachableIn, Reachable, Reaches};
-ghost use Rattle.lr_states.specs.Inner.Closure.{ArePushed, Begins, Enters, HasNext, IsClosure, IsOn, IsSeed};
-ghost use Rattle.lr_states.specs.Viable.{IsViable};
+ghost use Rattle.lr_states.specs.Inner.Closure.{ArePushed, Begins, Enters, IsClosure, IsOn, IsSeed};
+ghost use Rattle.lr_states.specs.Viable.{HasNext, IsViable};
 ghost use Rattle.lr_states.specs.declared.Item.{Item};
 
 use crate::Item;

@@ -4,7 +4,7 @@ ghost use Rattle.std.specs.Prelude.{◌≡◌, ◌↔◌, ◌<◌, ℕ, [], Cont
 ghost use Rattle.cfgrammar.specs.Numbered.{core};
 ghost use Rattle.lr_states.specs.Inner.Closure.{IsClosure, IsOn};
 ghost use Rattle.lr_states.specs.Inner.Kernels.{Adds, AreTargets, HasTargets, IsAmong, IsNumberOf, IsOne};
-ghost use Rattle.lr_states.specs.Automaton.{AreGotos};
+ghost use Rattle.lr_states.specs.Automaton.{AreGotos, HaveTargets};
 ghost use Rattle.lr_states.specs.Inner.Kernels.{IsSuccessor};
 ghost use Rattle.lr_states.specs.Viable.{AreStates, IsViable};
 ghost use Rattle.lr_states.specs.declared.Item.{Item};
@@ -19,11 +19,13 @@ use std::alloc::{AllocError, Global};
 /// Kernels in the order in which they were found.
 type Kernels = IndexSet<Vec<Item>>;
 
-/// A symbol, by its number, and the state that it leads to.
+/// A symbol, and the state that it leads to.
 #[derive(Clone, Copy)]
-pub(crate) struct Target {
-    pub(crate) symbol: usize,
-    pub(crate) state: usize,
+pub struct Target {
+    /// The number of the symbol: the rules have the first ones, and then come those of the tokens.
+    pub symbol: usize,
+    /// The number of the state.
+    pub state: usize,
 }
 
 /// The items of a state, and the states that symbols lead to from it.
@@ -44,6 +46,11 @@ pub(crate) fn explore(alloc: Global, used: &Used<'_>) -> Result<Vec<Visited>, Al
     ensures states { IfOk result (λ states. AreStates (core used.now.grammar.now) (IsOn used.now.bits)
         (map (λ v. v.items.items) states.items)) }
     ensures gotos { IfOk result (λ states. AreGotos (core used.now.grammar.now) (IsOn used.now.bits) (record {
+      rules = length used.now.grammar.now.rules;
+      states = map (λ v. v.items.items) states.items;
+      targets = map (λ v. v.targets.items) states.items;
+    })) }
+    ensures targets { IfOk result (λ states. HaveTargets (core used.now.grammar.now) (record {
       rules = length used.now.grammar.now.rules;
       states = map (λ v. v.items.items) states.items;
       targets = map (λ v. v.targets.items) states.items;

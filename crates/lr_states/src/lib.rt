@@ -5,22 +5,23 @@
 mod closure;
 mod kernels;
 mod successors;
-mod tables;
+pub mod tables;
 mod used;
 
 ghost use Rattle.std.specs.Prelude.{◌≡◌, ◌<◌, [], get_or, length, IfOk};
 ghost use Rattle.cfgrammar.specs.Numbered.{core};
 ghost use Rattle.cfgrammar.specs.NumberedSymbols.{sym_of};
-ghost use Rattle.lr_states.specs.Automaton.{AreGotos, goto_of, target_of};
+ghost use Rattle.lr_states.specs.Automaton.{AreGotos, HaveTargets, goto_of, target_of};
 ghost use Rattle.lr_states.specs.Viable.{AreStates, IsUsed};
 
 use crate::closure::Used;
-use crate::kernels::{Target, Visited, explore};
-use crate::used::used_productions;
+use crate::kernels::{Visited, explore};
 use cfgrammar::yacc::YaccGrammar;
 use cfgrammar::{RIdx, Storage, Symbol};
+pub use kernels::Target;
 use std::alloc::{AllocError, Global};
 use std::marker::Model;
+pub use used::used_productions;
 
 /// A production, of which some symbols are read.
 #[derive(Clone, Copy, PartialEq, Eq, Hash)]
@@ -61,6 +62,7 @@ impl States {
     pub fn of(alloc: Global, grammar: &YaccGrammar<u32>) -> Result<Self, AllocError>
         ensures states { IfOk result (λ x. AreStates (core grammar.now) (IsUsed (core grammar.now)) x.states) }
         ensures gotos { IfOk result (λ x. AreGotos (core grammar.now) (IsUsed (core grammar.now)) x) }
+        ensures targets { IfOk result (λ x. HaveTargets (core grammar.now) x) }
     {
         let used = Used {
             grammar,
@@ -90,6 +92,14 @@ impl States {
         ensures { result.now ≡ get_or self.now.states number [] }
     {
         &self.visited[number].items
+    }
+
+    /// The symbols that lead from a state to others, in ascending order, and those states.
+    pub fn targets(&self, number: usize) -> &[Target]
+        requires { number < length self.now.states }
+        ensures { result.now ≡ get_or self.now.targets number [] }
+    {
+        &self.visited[number].targets
     }
 
     /// The state that a symbol of the grammar leads to from a state: that of its prefixes with the symbol. There is none

@@ -12,7 +12,7 @@ use cfgrammar::yacc::YaccGrammar;
 use cfgrammar::{PIdx, RIdx, Symbol};
 
 /// The symbols of a production.
-pub(crate) fn symbols_of(grammar: &YaccGrammar<u32>, production: usize) -> &[Symbol<u32>]
+pub fn symbols_of(grammar: &YaccGrammar<u32>, production: usize) -> &[Symbol<u32>]
     requires { production < length grammar.now.productions }
     ensures symbols { map (sym_of (λ s. s)) result.now ≡ (nth_production (core grammar.now) production).symbols }
     ensures within { All (IsSymbolWithin (λ s. s) grammar.now) result.now }
@@ -22,7 +22,7 @@ pub(crate) fn symbols_of(grammar: &YaccGrammar<u32>, production: usize) -> &[Sym
 }
 
 /// The rule of a production.
-pub(crate) fn rule_of(grammar: &YaccGrammar<u32>, production: usize) -> usize
+pub fn rule_of(grammar: &YaccGrammar<u32>, production: usize) -> usize
     requires { production < length grammar.now.productions }
     ensures { result ≡ (nth_production (core grammar.now) production).rule }
 {
@@ -31,7 +31,7 @@ pub(crate) fn rule_of(grammar: &YaccGrammar<u32>, production: usize) -> usize
 }
 
 /// The productions of a rule.
-pub(crate) fn productions_of(grammar: &YaccGrammar<u32>, rule: usize) -> &[PIdx<u32>]
+pub fn productions_of(grammar: &YaccGrammar<u32>, rule: usize) -> &[PIdx<u32>]
     requires { rule < length grammar.now.rules }
     ensures { ArePositionsOf (core grammar.now) rule (map (λ p. p.0) result.now) }
 {
@@ -40,7 +40,7 @@ pub(crate) fn productions_of(grammar: &YaccGrammar<u32>, rule: usize) -> &[PIdx<
 }
 
 /// The symbol that comes after those that are read.
-pub(crate) fn next_symbol(grammar: &YaccGrammar<u32>, item: Item) -> Option<Symbol<u32>>
+pub fn next_symbol(grammar: &YaccGrammar<u32>, item: Item) -> Option<Symbol<u32>>
     requires { item.production < length grammar.now.productions }
     ensures is { option_map (sym_of (λ s. s)) result
         ≡ slice_get (nth_production (core grammar.now) item.production).symbols item.read }

@@ -12,13 +12,13 @@ use cfgrammar::yacc::YaccGrammar;
 use cfgrammar::{Symbol, Vob};
 use std::alloc::{AllocError, Global};
 
-/// A bit for each production, which says whether it is used.
+/// A bit for each production, which says whether it is used: whether each rule in it has a sentence.
 ///
 /// # Errors
 ///
 /// Out of memory.
-pub(crate) fn used_productions(alloc: Global, grammar: &YaccGrammar<u32>) -> Result<Vob, AllocError>
-    ensures { IfOk result (λ bits. (p : ℕ) → IsOn bits p ↔ IsUsed (core grammar.now) p) }
+pub fn used_productions(alloc: Global, grammar: &YaccGrammar<u32>) -> Result<Vob, AllocError>
+    ensures { IfOk result (λ bits. (p : ℕ) → IsTrue (slice_index_or bits p false) ↔ IsUsed (core grammar.now) p) }
 {
     let productive = grammar.productive_rules(alloc)?;
     let count = usize::from(grammar.prods_len());

@@ -4,19 +4,12 @@ use Rattle.search.specs.Reachable.{Reachable}
 use Rattle.cfgrammar.specs.Grammar.{Grammar, Sym, Rule}
 use Rattle.cfgrammar.specs.Openings.{nth_production}
 use Rattle.lr_states.specs.Automaton.{symbol_number}
-use Rattle.lr_states.specs.Viable.{AreSorted, IsValid}
+use Rattle.lr_states.specs.Viable.{AreSorted, HasNext, IsValid, item_at}
 use Rattle.lr_states.specs.declared.Item.{Item}
 
 -- the bit with this number is on
 abbrev pub IsOn : List Bool → ℕ → Type 0
 IsOn bits n = IsTrue (slice_index_or bits n false)
-
-abbrev pub item_at : ℕ → ℕ → Item
-item_at p i = record { production = p; read = i }
-
--- the item's next symbol is this one
-abbrev pub HasNext : Grammar → Item → Sym → Type 0
-HasNext g item symbol = slice_get (nth_production g item.production).symbols item.read ≡ Some symbol
 
 -- a used production of rule a begins with rule b
 pub record Enters (g : Grammar) (Used : ℕ → Type 0) (a b : ℕ) : Type 0 where

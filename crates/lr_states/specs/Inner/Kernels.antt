@@ -2,6 +2,7 @@
 use Rattle.std.specs.Prelude.{◌≡◌, ◌<◌, ◌≤◌, ℕ, List, [], Option, None, Some, Contains, get_or, length}
 use Rattle.std.specs.List.{flat_map}
 use Rattle.cfgrammar.specs.Grammar.{Grammar}
+use Rattle.lr_states.specs.Automaton.{AreAscending}
 use Rattle.lr_states.specs.Inner.Closure.{step_of}
 use Rattle.lr_states.specs.declared.Item.{Item}
 use Rattle.lr_states.specs.declared.kernels.Target.{Target}
@@ -46,11 +47,14 @@ pub record IsTarget (lists : ℕ → List Item) (kernels : List (List Item)) (ta
 pub record AreTargets (lists : ℕ → List Item) (n : ℕ) (kernels : List (List Item)) (targets : List Target) : Type 0 where
   pub sound : (target : Target) → Contains targets target → IsTarget lists kernels target
   pub all : (node : ℕ) → node < n → 0 < length (lists node) → (r : ℕ) × Contains targets (record { symbol = node; state = r })
+  pub below : (target : Target) → Contains targets target → target.symbol < n
+  pub ascending : AreAscending targets
 
 -- the targets for all symbols after which there are items
 pub record HasTargets (g : Grammar) (items : List Item) (kernels : List (List Item)) (targets : List Target) : Type 0 where
   pub sound : (target : Target) → Contains targets target → IsTarget (λ node. flat_map (step_of g node) items) kernels target
   pub all : (node : ℕ) → 0 < length (flat_map (step_of g node) items) → (r : ℕ) × Contains targets (record { symbol = node; state = r })
+  pub ascending : AreAscending targets
 
 -- so it is for each state
 pub record AreGoing (g : Grammar) (kernels states : List (List Item)) (targets : List (List Target)) : Type 0 where

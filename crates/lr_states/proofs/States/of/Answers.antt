@@ -3,9 +3,9 @@ use Rattle.cfgrammar.specs.Numbered.{core}
 use Rattle.lr_states.specs.declared.Item.{Item}
 use Rattle.lr_states.specs.declared.kernels.Visited.{Visited}
 use Rattle.lr_states.specs.Inner.Closure.{IsOn}
-use Rattle.lr_states.specs.Automaton.{AreGotos, Automaton}
+use Rattle.lr_states.specs.Automaton.{AreGotos, Automaton, HaveTargets}
 use Rattle.lr_states.specs.Viable.{AreStates, IsUsed}
-use Rattle.lr_states.proofs.Alike.{gotos_as, none_gotos, none_viable, states_as}
+use Rattle.lr_states.proofs.Alike.{gotos_as, none_gotos, none_targets, none_viable, states_as}
 use Rattle.lr_states.proofs.States.of.Goals as goal
 use Rattle.lr_states.proofs.States.of.Goals.{then-branch+in_ok-visited, else-branch}
 
@@ -39,4 +39,11 @@ returns c =
             subst (λ (v : List Visited). AreGotos g (IsOn bits) (automaton g.rules v)) (sym (ap (λ (v : Vec Visited Global). v.items) w.visited-is ∙ w.new-visited.ensures.items))
             (none_gotos g (IsOn bits) g.rules [])
       ]));
+      targets = subst (λ r. HaveTargets g (automaton r visited)) (sym c.rules_len.ensures) (elim c.if-branch.branch [
+        | then-branch+in_ok-visited w ↦
+            subst (λ (v : Vec Visited Global). HaveTargets g (automaton g.rules v.items)) (sym w.visited-is) w.in_ok-visited.ensures.targets
+        | else-branch w ↦
+            subst (λ (v : List Visited). HaveTargets g (automaton g.rules v)) (sym (ap (λ (v : Vec Visited Global). v.items) w.visited-is ∙ w.new-visited.ensures.items))
+            (none_targets g)
+      ]);
     }

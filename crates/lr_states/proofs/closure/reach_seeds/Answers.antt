@@ -5,7 +5,8 @@ use Rattle.search.proofs.Each.{each_all, each_more}
 use Rattle.cfgrammar.specs.Grammar.{Rule}
 use Rattle.cfgrammar.specs.Numbered.{core}
 use Rattle.lr_states.specs.declared.Item.{Item}
-use Rattle.lr_states.specs.Inner.Closure.{HasNext, IsOn, item_at}
+use Rattle.lr_states.specs.Inner.Closure.{IsOn}
+use Rattle.lr_states.specs.Viable.{HasNext, item_at}
 use Rattle.lr_states.proofs.Rules.{seeds_found}
 use Rattle.lr_states.proofs.closure.reach_seeds.Goals as goal
 

@@ -2,7 +2,7 @@ use Rattle.std.proofs.Common.{take}
 use Rattle.search.specs.Reachable.{FoundBy, Reaches}
 use Rattle.cfgrammar.specs.Grammar.{Rule}
 use Rattle.cfgrammar.specs.Numbered.{core}
-use Rattle.lr_states.specs.Inner.Closure.{HasNext}
+use Rattle.lr_states.specs.Viable.{HasNext}
 use Rattle.lr_states.proofs.closure.reach_seeds.Given as goal
 
 -- the rules that are next in the items so far are reached

@@ -8,7 +8,7 @@ use Rattle.lr_states.specs.declared.kernels.Visited.{Visited}
 use Rattle.lr_states.specs.Inner.Kernels.{AreGoing, IsSuccessor}
 use Rattle.lr_states.specs.Inner.Closure.{IsClosure, IsOn}
 use Rattle.lr_states.proofs.Added.{going_more, going_none, items_Decide, key_first, keys_apart, same_keys}
-use Rattle.lr_states.proofs.Explored.{AreExplored, explored_first, explored_gotos, explored_more, explored_states}
+use Rattle.lr_states.proofs.Explored.{AreExplored, explored_first, explored_gotos, explored_more, explored_states, explored_targets}
 use Rattle.lr_states.proofs.kernels.explore.Goals as goal
 use Rattle.lr_states.proofs.kernels.explore.Goals.{else-loop-number-test, then-loop-number-test+then-number-len}
 
@@ -83,4 +83,5 @@ returns c =
       states = explored_states g used c.invariant_holds.ensures.whole.grammar kernels states c.loop-number.invariant.explored done apart;
       gotos = explored_gotos g used c.invariant_holds.ensures.whole.grammar kernels states c.loop-number.invariant.explored done (map led c.loop-number.states.items)
           c.loop-number.invariant.going;
+      targets = explored_targets g c.invariant_holds.ensures.whole.grammar kernels states (map led c.loop-number.states.items) c.loop-number.invariant.going;
     }

@@ -5,7 +5,8 @@ use Rattle.std.proofs.lemmas.List.Elements.{Contains-get_or}
 use Rattle.cfgrammar.proofs.Elements.{get_or-replicate_default}
 use Rattle.cfgrammar.specs.Numbered.{core}
 use Rattle.lr_states.specs.declared.Item.{Item}
-use Rattle.lr_states.specs.Inner.Closure.{item_at, step_of}
+use Rattle.lr_states.specs.Inner.Closure.{step_of}
+use Rattle.lr_states.specs.Viable.{item_at}
 use Rattle.lr_states.proofs.Stepped.{steps_more}
 use Rattle.lr_states.proofs.successors.successors.Goals as goal
 

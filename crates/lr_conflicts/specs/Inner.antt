@@ -1,0 +1,4 @@
+-- Definitions for the crate's private clauses. No public call depends on them.
+pub mod Choices
+pub mod Listed
+pub mod Pushed

@@ -1,0 +1,4 @@
+pub mod Precedences
+pub mod Conflicts
+pub mod Clashes
+pub mod Inner

@@ -1,0 +1,17 @@
+pub mod Firsts
+pub mod Sound
+pub mod Complete
+pub mod Reaching
+pub mod Nullables
+pub mod Bounds
+pub mod Places
+pub mod Numbering
+pub mod MadeEdges
+pub mod Ready
+pub mod Blocks
+pub mod Adds
+pub mod Shown
+pub mod Pushed
+pub mod Whole
+pub mod ComponentRows
+pub mod TurnedOn

@@ -1,0 +1,217 @@
+-- Where an item or a target is in its list.
+use Rattle.std.proofs.Common.{◌≡◌, ◌==◌, inl, inr, ℕ, zero, suc, ◌+◌, ◌<◌, ◌≤◌, Bool, true, false, cond, not, nat_lt, ◌↔◌, List, [], ◌∷◌, Option, None, Some, Contains, get_or, length, slice_get, refl, sym, ap, subst, ◌∙◌, arith, ltb, lt-ltb, true≢false}
+use Rattle.std.specs.Bool.{Decides}
+use Rattle.std.specs.List.{position_or_len}
+use Rattle.std.specs.List.Sorted.{IsPartitionPoint, IsPartitionedBy}
+use Rattle.std.proofs.lemmas.Bool.{cases_Bool, cases_eq, cases_lt, ltb-true}
+use Rattle.std.proofs.lemmas.Bool.Decides.{Decides-and, Decides-eqb, Decides-like, Decides-ltb}
+use Rattle.std.proofs.lemmas.Option.{get_or_from_slice_get, slice_get-get_or, slice_get_within}
+use Rattle.cfgrammar.proofs.Elements.{element_at}
+use Rattle.lr_states.specs.declared.Item.{Item}
+use Rattle.lr_states.specs.declared.kernels.Target.{Target}
+use Rattle.lr_states.specs.Automaton.{AreAscending, target_of}
+use Rattle.lr_states.specs.Viable.{AreSorted, IsBefore}
+use Rattle.lr_states.proofs.Order.{before_not_after}
+use Rattle.lr_lookaheads.specs.Lookaheads.{is_item}
+use Rattle.lr_lookaheads.specs.Inner.Numbers.{place_of_item, place_of_rule}
+
+module _ {A : Type 0} where
+  pub contains_at : (xs : List A) (i : ℕ) (x : A) → slice_get xs i ≡ Some x → Contains xs x
+  contains_at xs i x at = (i, slice_get_within xs i x at, get_or_from_slice_get xs i x x at)
+
+  pub at_contains : (xs : List A) (x : A) → Contains xs x → (i : ℕ) × (slice_get xs i ≡ Some x)
+  at_contains xs x (i, within, is) = (i, slice_get-get_or xs i x within ∙ ap Some is)
+
+  -- the first element that passes a test
+  pub first_passes : (p : A → Bool) (xs : List A) → position_or_len p xs < length xs → (x : A) × (slice_get xs (position_or_len p xs) ≡ Some x) × (p x ≡ true)
+  first_passes p [] within = absurd (omega (arith, within))
+  first_passes p (y ∷ xs) within = go (p y) refl within (first_passes p xs)
+    where
+      go : (b : Bool) → p y ≡ b → cond (not b) (1 + position_or_len p xs) 0 < length (y ∷ xs)
+          → (position_or_len p xs < length xs → (x : A) × (slice_get xs (position_or_len p xs) ≡ Some x) × (p x ≡ true))
+          → (x : A) × (slice_get (y ∷ xs) (cond (not b) (1 + position_or_len p xs) 0) ≡ Some x) × (p x ≡ true)
+      go true passes lt later = (y, refl, passes)
+      go false fails lt later =
+          let (x, at, passes) = later (omega (arith, lt)) in
+          let one : suc (position_or_len p xs) ≡ 1 + position_or_len p xs = omega arith in
+          (x, subst (λ n. slice_get (y ∷ xs) n ≡ Some x) one at, passes)
+
+pub same_item : (a b : Item) → Decides (is_item a b) (a ≡ b)
+same_item a b = Decides-like _
+    (λ h. λ i. record { production = h.0 i; read = h.1 i })
+    (λ e. (ap (λ (z : Item). z.production) e, ap (λ (z : Item). z.read) e))
+    (Decides-and _ _ (Decides-eqb a.production b.production) (Decides-eqb a.read b.read))
+
+before_apart : (a b : Item) → IsBefore a b → is_item b a ≡ false
+before_apart a b before = elim (cases_Bool (is_item b a)) [
+  | inl same ↦ let itself = subst (IsBefore a) ((same_item b a).0 same) before in absurd (before_not_after a a itself itself)
+  | inr apart ↦ apart
+]
+
+pub item_placed : (items : List Item) → AreSorted items → (i : ℕ) (item : Item) → slice_get items i ≡ Some item → place_of_item items item ≡ i
+item_placed [] sorted i item at = absurd (cc)
+item_placed (x ∷ items) sorted zero item at =
+    let same : x ≡ item = cc in
+    ap (λ b. cond (not b) (1 + place_of_item items item) 0) ((same_item item x).1 (sym same))
+item_placed (x ∷ items) sorted (suc i) item at =
+    ap (λ b. cond (not b) (1 + place_of_item items item) 0) (before_apart x item (sorted.0 item (contains_at items i item at)))
+    ∙ (let later = item_placed items sorted.1 i item at in omega (arith, later))
+
+-- the place of an item of the list
+pub place_holds : (items : List Item) → AreSorted items → (item : Item) → Contains items item → slice_get items (place_of_item items item) ≡ Some item
+place_holds items sorted item h =
+    let (i, at) = at_contains items item h in
+    subst (λ n. slice_get items n ≡ Some item) (sym (item_placed items sorted i item at)) at
+
+abbrev is_for : ℕ → Target → Bool
+is_for rule target = target.symbol == rule
+
+not_same : (a b : ℕ) → a < b → (a == b) ≡ false
+not_same a b lt = elim (cases_Bool (a == b)) [ inl same ↦ absurd (omega (arith, lt, (Decides-eqb a b).0 same)) | inr apart ↦ apart ]
+
+first_target : (targets : List Target) → AreAscending targets → (i : ℕ) (target : Target) → slice_get targets i ≡ Some target
+    → position_or_len (is_for target.symbol) targets ≡ i
+first_target [] ascending i target at = absurd (cc)
+first_target (t ∷ targets) ascending zero target at =
+    let same : t ≡ target = cc in
+    ap (λ b. cond (not b) (1 + position_or_len (is_for target.symbol) targets) 0) ((Decides-eqb t.symbol target.symbol).1 (ap (λ (u : Target). u.symbol) same))
+first_target (t ∷ targets) ascending (suc i) target at =
+    ap (λ b. cond (not b) (1 + position_or_len (is_for target.symbol) targets) 0) (not_same t.symbol target.symbol (ascending.0 target (contains_at targets i target at)))
+    ∙ (let later = first_target targets ascending.1 i target at in omega (arith, later))
+
+pub rule_placed : (targets : List Target) → AreAscending targets → (i : ℕ) (target : Target) → slice_get targets i ≡ Some target
+    → place_of_rule targets target.symbol ≡ Some i
+rule_placed targets ascending i target at =
+    let first = first_target targets ascending i target at in
+    let within = slice_get_within targets i target at in
+    ap (λ n. cond (nat_lt n (length targets)) (Some n) None) first ∙ ap (λ b. cond b (Some i) None) (lt-ltb i (length targets) within)
+
+-- a rule has a place exactly if it has a target
+pub place_cases : (targets : List Target) (rule : ℕ) (o : Option ℕ) → o ≡ place_of_rule targets rule → (i : ℕ) → o ≡ Some i → (target : Target) × (slice_get targets i ≡ Some target) × (target.symbol ≡ rule)
+place_cases targets rule o is i some = go (nat_lt (position_or_len (is_for rule) targets) (length targets)) refl (sym some ∙ is)
+  where
+    go : (b : Bool) → nat_lt (position_or_len (is_for rule) targets) (length targets) ≡ b → Some i ≡ cond b (Some (position_or_len (is_for rule) targets)) None
+        → (target : Target) × (slice_get targets i ≡ Some target) × (target.symbol ≡ rule)
+    go true lt same =
+        let here : i ≡ position_or_len (is_for rule) targets = cc in
+        let (target, at, passes) = first_passes (is_for rule) targets ((Decides-ltb _ _).0 lt) in
+        (target, subst (λ n. slice_get targets n ≡ Some target) (sym here) at, (Decides-eqb target.symbol rule).0 passes)
+    go false lt same = absurd (cc)
+
+-- the state of a target
+pub target_state : (targets : List Target) → AreAscending targets → (i : ℕ) (target : Target) → slice_get targets i ≡ Some target → target_of targets target.symbol ≡ Some target.state
+target_state [] ascending i target at = absurd (cc)
+target_state (t ∷ targets) ascending zero target at =
+    let same : t ≡ target = cc in
+    ap (λ b. cond b (Some t.state) (target_of targets target.symbol)) ((Decides-eqb t.symbol target.symbol).1 (ap (λ (u : Target). u.symbol) same))
+    ∙ ap (λ (u : Target). Some u.state) same
+target_state (t ∷ targets) ascending (suc i) target at =
+    ap (λ b. cond b (Some t.state) (target_of targets target.symbol)) (not_same t.symbol target.symbol (ascending.0 target (contains_at targets i target at)))
+    ∙ target_state targets ascending.1 i target at
+
+pub target_found : (targets : List Target) (symbol state : ℕ) → target_of targets symbol ≡ Some state → (i : ℕ) × (slice_get targets i ≡ Some (record { symbol = symbol; state = state }))
+target_found [] symbol state is = absurd (cc)
+target_found (t ∷ targets) symbol state is = go (t.symbol == symbol) refl is (target_found targets symbol state)
+  where
+    go : (b : Bool) → (t.symbol == symbol) ≡ b → cond b (Some t.state) (target_of targets symbol) ≡ Some state
+        → (target_of targets symbol ≡ Some state → (i : ℕ) × (slice_get targets i ≡ Some (record { symbol = symbol; state = state })))
+        → (i : ℕ) × (slice_get (t ∷ targets) i ≡ Some (record { symbol = symbol; state = state }))
+    go true same at onwards =
+        let to : t.state ≡ state = cc in
+        let for : t.symbol ≡ symbol = (Decides-eqb t.symbol symbol).0 same in
+        (0, ap Some (λ j. record { symbol = for j; state = to j }))
+    go false apart at onwards = let (i, later) = onwards at in (suc i, later)
+
+-- the first elements of a list, up to where something holds of none that come later
+module _ {A : Type 0} (xs : List A) (P : A → Type 0) (falls : (i j : ℕ) (a b : A) → i ≤ j → slice_get xs i ≡ Some a → slice_get xs j ≡ Some b → P b → P a) where
+  pub first_ones : (n : ℕ) → ((i : ℕ) (x : A) → i < n → slice_get xs i ≡ Some x → P x) → ((x : A) → slice_get xs n ≡ Some x → P x → ⊥)
+      → (i : ℕ) (x : A) → slice_get xs i ≡ Some x → P x ↔ (i < n)
+  first_ones n before after i x at = (
+    (λ holds. elim (cases_lt i n) [
+      | inl early ↦ early
+      | inr late ↦
+          let within = slice_get_within xs i x at in
+          let (y, there) = element_at xs n (omega (arith, late, within)) in
+          absurd (after y there (falls n i y x late there at holds))
+    ]),
+    (λ early. before i x early at),
+  )
+
+pub read_falls : (items : List Item) → AreSorted items → (i j : ℕ) (a b : Item) → i ≤ j → slice_get items i ≡ Some a → slice_get items j ≡ Some b → b.read ≤ a.read
+read_falls [] sorted i j a b most at there = absurd (cc)
+read_falls (x ∷ items) sorted zero zero a b most at there = let same : a ≡ b = cc in let reads = ap (λ (z : Item). z.read) same in omega (arith, reads)
+read_falls (x ∷ items) sorted zero (suc j) a b most at there =
+    let same : x ≡ a = cc in
+    subst (λ (z : Item). b.read ≤ z.read) same (before_reads x b (sorted.0 b (contains_at items j b there)))
+  where
+    before_reads : (a b : Item) → IsBefore a b → b.read ≤ a.read
+    before_reads a b (inl less) = omega (arith, less)
+    before_reads a b (inr same) = let reads = same.0 in omega (arith, reads)
+read_falls (x ∷ items) sorted (suc i) zero a b most at there = absurd (omega (arith, most))
+read_falls (x ∷ items) sorted (suc i) (suc j) a b most at there = read_falls items sorted.1 i j a b (omega (arith, most)) at there
+
+pub symbol_rises : (targets : List Target) → AreAscending targets → (i j : ℕ) (a b : Target) → i ≤ j → slice_get targets i ≡ Some a → slice_get targets j ≡ Some b → a.symbol ≤ b.symbol
+symbol_rises [] ascending i j a b most at there = absurd (cc)
+symbol_rises (t ∷ targets) ascending zero zero a b most at there = let same : a ≡ b = cc in let symbols = ap (λ (z : Target). z.symbol) same in omega (arith, symbols)
+symbol_rises (t ∷ targets) ascending zero (suc j) a b most at there =
+    let same : t ≡ a = cc in
+    let less = subst (λ (z : Target). z.symbol < b.symbol) same (ascending.0 b (contains_at targets j b there)) in omega (arith, less)
+symbol_rises (t ∷ targets) ascending (suc i) zero a b most at there = absurd (omega (arith, most))
+symbol_rises (t ∷ targets) ascending (suc i) (suc j) a b most at there = symbol_rises targets ascending.1 i j a b (omega (arith, most)) at there
+
+pub reads_first : (items : List Item) → AreSorted items → (n : ℕ) → ((i : ℕ) (item : Item) → i < n → slice_get items i ≡ Some item → 0 < item.read) → ((item : Item) → slice_get items n ≡ Some item → item.read ≡ 0)
+    → (i : ℕ) (item : Item) → slice_get items i ≡ Some item → (0 < item.read) ↔ (i < n)
+reads_first items sorted n before after = first_ones items (λ item. 0 < item.read)
+    (λ i j a b most at there some. let less = read_falls items sorted i j a b most at there in omega (arith, less, some)) n before
+    (λ item at some. let none = after item at in omega (arith, none, some))
+
+pub rules_first : (targets : List Target) → AreAscending targets → (rules n : ℕ) → ((i : ℕ) (target : Target) → i < n → slice_get targets i ≡ Some target → target.symbol < rules)
+    → ((target : Target) → slice_get targets n ≡ Some target → rules ≤ target.symbol) → (i : ℕ) (target : Target) → slice_get targets i ≡ Some target → (target.symbol < rules) ↔ (i < n)
+rules_first targets ascending rules n before after = first_ones targets (λ target. target.symbol < rules)
+    (λ i j a b most at there low. let less = symbol_rises targets ascending i j a b most at there in omega (arith, less, low)) n before
+    (λ target at low. let high = after target at in omega (arith, high, low))
+
+-- one more element
+pub below_at : {A : Type 0} (P : A → Type 0) (xs : List A) (n : ℕ) (d : A) → n < length xs → ((i : ℕ) (x : A) → i < n → slice_get xs i ≡ Some x → P x) → P (get_or xs n d)
+    → (i : ℕ) (x : A) → i < n + 1 → slice_get xs i ≡ Some x → P x
+below_at P xs n d within before here i x low at = elim (cases_eq i n) [
+  | inl same ↦ subst P (get_or_from_slice_get xs n x d (subst (λ m. slice_get xs m ≡ Some x) same at)) here
+  | inr apart ↦ before i x (omega (arith, low, apart)) at
+]
+
+-- the place of the first target whose symbol isn't below a rule, by a binary search
+pub rule_found : (targets : List Target) → AreAscending targets → (rule place : ℕ) (d : Target) → place < length targets → (get_or targets place d).symbol ≡ rule → Some place ≡ place_of_rule targets rule
+rule_found targets ascending rule place d within is =
+    sym (subst (λ r. place_of_rule targets r ≡ Some place) is (rule_placed targets ascending place (get_or targets place d) (slice_get-get_or targets place d within)))
+
+no_place : (targets : List Target) (rule : ℕ) → ((i : ℕ) (target : Target) → slice_get targets i ≡ Some target → target.symbol ≡ rule → ⊥) → None ≡ place_of_rule targets rule
+no_place targets rule none = go (place_of_rule targets rule) refl
+  where
+    go : (o : Option ℕ) → o ≡ place_of_rule targets rule → None ≡ place_of_rule targets rule
+    go None e = e
+    go (Some i) e = let (target, at, same) = place_cases targets rule (Some i) e i refl in absurd (none i target at same)
+
+pub rules_parted : (targets : List Target) → AreAscending targets → (rule : ℕ) → IsPartitionedBy (λ (target : Target). ltb target.symbol rule) targets
+rules_parted targets ascending rule i j d most within low =
+    let less = symbol_rises targets ascending i j (get_or targets i d) (get_or targets j d) most (slice_get-get_or targets i d (omega (arith, most, within))) (slice_get-get_or targets j d within) in
+    let below = ltb-true (get_or targets j d).symbol rule low in
+    lt-ltb (get_or targets i d).symbol rule (omega (arith, less, below))
+
+pub rule_missing : (targets : List Target) → AreAscending targets → (rule place : ℕ) → IsPartitionPoint (λ (target : Target). ltb target.symbol rule ≡ true) (λ (target : Target). ltb target.symbol rule ≡ false) targets place
+    → (d : Target) → (place < length targets → (get_or targets place d).symbol ≡ rule → ⊥) → None ≡ place_of_rule targets rule
+rule_missing targets ascending rule place (low, high) d none = no_place targets rule (λ i target at same.
+    let within = slice_get_within targets i target at in
+    let read = get_or_from_slice_get targets i target d at in
+    elim (cases_lt i place) [
+      | inl early ↦
+          let less = ltb-true target.symbol rule (subst (λ (t : Target). ltb t.symbol rule ≡ true) read (low i d (omega arith) early)) in
+          omega (arith, less, same)
+      | inr late ↦
+          let there : place < length targets = omega (arith, late, within) in
+          let least = ge-from-ltb (get_or targets place d).symbol rule (high place d (omega arith) there) in
+          let most = symbol_rises targets ascending place i (get_or targets place d) target late (slice_get-get_or targets place d there) at in
+          none there (omega (arith, least, most, same))
+    ])
+  where
+    ge-from-ltb : (a b : ℕ) → ltb a b ≡ false → b ≤ a
+    ge-from-ltb a b e = elim (cases_lt a b) [ inl less ↦ absurd (true≢false (sym (lt-ltb a b less) ∙ e)) | inr most ↦ most ]

@@ -1,0 +1,10 @@
+use Rattle.std.proofs.Common.{◌≡◌, ◌+◌, length}
+use Rattle.lr_lookaheads.specs.Inner.Numbers.{AreBlocks}
+use Rattle.lr_lookaheads.proofs.nodes.Nodes.of.Given as goal
+
+-- the states so far have their nodes
+abbrev pub invariant-loop-state : goal.invariant-loop-state
+invariant-loop-state l = record {
+  count : length l.blocks.items ≡ l.state;
+  blocks : AreBlocks l.rules l.states (l.tokens + l.rules + 1) l.blocks.items l.len;
+}

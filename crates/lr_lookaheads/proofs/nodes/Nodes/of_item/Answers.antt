@@ -1,0 +1,62 @@
+use Rattle.std.proofs.Common.{◌≡◌, ◌+◌, [], ap, arith, cond, get_or, subst, sym, ◌∙◌}
+use Rattle.std.proofs.lemmas.Bool.{ne_eqb}
+use Rattle.std.proofs.lemmas.Bool.Decides.{Decides-eqb}
+use Rattle.std.proofs.lemmas.List.{get_or_default}
+use Rattle.lr_lookaheads.specs.Inner.Graph.{next}
+use Rattle.lr_lookaheads.specs.Inner.Numbers.{IsNode, block_of, item_number, next_number, numbers_of, place_of_item}
+use Rattle.lr_lookaheads.specs.declared.nodes.Block.{Block}
+use Rattle.lr_lookaheads.proofs.Ready.{item_low, opened_next, owner_low}
+use Rattle.lr_lookaheads.proofs.nodes.Nodes.of_item.Goals as goal
+
+pub index-requires : goal.index-requires
+index-requires c =
+    let (g, r) = c.requires.ready in
+    let low = owner_low g c.args.states.now (numbers_of c.args.self.now) r c.args.state c.requires.state c.args.item c.requires.item in
+    omega (arith, low, c.args.self.now.owners.ok)
+
+pub next-requires : goal.next-requires
+next-requires c =
+    let n = numbers_of c.args.self.now in
+    let x = c.args.states.now in
+    let q = c.args.state in
+    let item = c.args.item in
+    let (g, r) = c.requires.ready in
+    let owner = c.index.ensures ∙ get_or_default n.owners item.production c.index.result.now 0 (owner_low g x n r q c.requires.state item c.requires.item) in
+    (g, r, subst (λ rule. IsNode g x (next q rule)) (sym owner) (opened_next g x n r q c.requires.state item c.requires.item c.if-item-eq0.true))
+
+pub returns-then-item-eq0 : goal.returns-then-item-eq0
+returns-then-item-eq0 c =
+    let n = numbers_of c.args.self.now in
+    let x = c.args.states.now in
+    let q = c.args.state in
+    let item = c.args.item in
+    let (g, r) = c.requires.ready in
+    let owner = c.index.ensures ∙ get_or_default n.owners item.production c.index.result.now 0 (owner_low g x n r q c.requires.state item c.requires.item) in
+    c.next.ensures ∙ ap (next_number n x q) owner
+    ∙ ap (λ b. cond b (next_number n x q (get_or n.owners item.production 0)) ((block_of n q).items + place_of_item (get_or x.states q []) item)) (sym ((Decides-eqb item.read 0).1 c.if-item-eq0.true))
+
+pub overflow_add-result : goal.overflow_add-result
+overflow_add-result c =
+    let n = numbers_of c.args.self.now in
+    let x = c.args.states.now in
+    let q = c.args.state in
+    let item = c.args.item in
+    let (g, r) = c.requires.ready in
+    let low = item_low g x n r q c.requires.state item c.requires.item in
+    let value : item_number n x q item ≡ (block_of n q).items + place_of_item (get_or x.states q []) item =
+    ap (λ b. cond b (next_number n x q (get_or n.owners item.production 0)) ((block_of n q).items + place_of_item (get_or x.states q []) item)) (ne_eqb item.read 0 c.if-item-eq0.false) in
+    let here = ap (λ (b : Block). b.items) c.block.ensures in
+    let there = c.place_of_item.ensures ∙ ap (λ l. place_of_item l item) c.items.ensures in
+    omega (arith, low, value, here, there)
+
+pub returns-else-item-eq0 : goal.returns-else-item-eq0
+returns-else-item-eq0 c =
+    let n = numbers_of c.args.self.now in
+    let x = c.args.states.now in
+    let q = c.args.state in
+    let item = c.args.item in
+    let value : item_number n x q item ≡ (block_of n q).items + place_of_item (get_or x.states q []) item =
+    ap (λ b. cond b (next_number n x q (get_or n.owners item.production 0)) ((block_of n q).items + place_of_item (get_or x.states q []) item)) (ne_eqb item.read 0 c.if-item-eq0.false) in
+    let here = ap (λ (b : Block). b.items) c.block.ensures in
+    let there = c.place_of_item.ensures ∙ ap (λ l. place_of_item l item) c.items.ensures in
+    omega (arith, value, here, there)

@@ -1,0 +1,92 @@
+-- The edges between nodes, by their numbers, as they are made: by productions, and by the items after each symbol that leads from a state.
+use Rattle.std.specs.Prelude.{◌≡◌, ◌↔◌, ◌⊎◌, ◌<◌, ◌+◌, ◌-◌, ℕ, Bool, List, [], Option, None, Some, IsTrue, cond, drop, false, get_or, length, nat_lt, slice_get, slice_index_or}
+use Rattle.cfgrammar.specs.Grammar.{Grammar, Sym}
+use Rattle.cfgrammar.specs.Derivation.{Derives}
+use Rattle.cfgrammar.specs.Firsts.{AreFirsts, FirstSets}
+use Rattle.cfgrammar.specs.Openings.{nth_production}
+use Rattle.lr_states.specs.declared.Item.{Item}
+use Rattle.lr_states.specs.declared.kernels.Target.{Target}
+use Rattle.lr_states.specs.Automaton.{Automaton}
+use Rattle.lr_states.specs.Viable.{IsUsed, item_at}
+use Rattle.lr_lookaheads.specs.Lookaheads.{HasUsed}
+use Rattle.lr_lookaheads.specs.Inner.Graph.{Shows, next}
+use Rattle.lr_lookaheads.specs.Inner.Reached.{Leads}
+use Rattle.lr_lookaheads.specs.Inner.Numbers.{AreReady, Numbers, block_of, item_number, number, shown_number}
+
+-- these edges are there too now, and nothing else changed
+pub record AddsEdges (Found : ℕ → ℕ → Type 0) (old new : List (List ℕ)) : Type 0 where
+  pub shape : length new ≡ length old
+  pub edges : (a b : ℕ) → Leads new a b ↔ (Leads old a b ⊎ Found a b)
+
+-- one of the first so many things finds the edge
+pub record Below (Finds : ℕ → ℕ → ℕ → Type 0) (n a b : ℕ) : Type 0 where
+  pub index : ℕ
+  pub below : index < n
+  pub finds : Finds index a b
+
+module _ (g : Grammar) (Used : ℕ → Type 0) (n : Numbers) (x : Automaton) where
+  -- an edge from this node to a symbol that comes after nullable ones
+  pub record ShowsFrom (from : ℕ) (symbols : List Sym) (a b : ℕ) : Type 0 where
+    pub source : a ≡ from
+    pub symbol : Sym
+    pub shows : Shows g Used symbols symbol
+    pub target : b ≡ shown_number n symbol
+
+  -- an edge from a rule to what its production shows
+  pub record ProductionEdge (p a b : ℕ) : Type 0 where
+    pub used : Used p
+    pub shows : ShowsFrom (n.tokens + (nth_production g p).rule) (nth_production g p).symbols a b
+
+  -- the node of an item of a state before the last symbol was read
+  abbrev pub before_number : ℕ → Item → ℕ
+  before_number q item = item_number n x q (item_at item.production (item.read - 1))
+
+  -- what comes after what is read
+  abbrev pub back_of : Item → List Sym
+  back_of item = drop item.read (nth_production g item.production).symbols
+
+  -- an edge by an item before its last symbol was read: from the item after that, which has this node, and from the symbol if it is a rule,
+  -- which then has that node
+  pub data ItemEdge (q : ℕ) (item : Item) (after : ℕ) (rule : Option ℕ) (a b : ℕ) : Type 0 where
+    back : a ≡ after → b ≡ before_number q item → ItemEdge q item after rule a b
+    comes : (node : ℕ) → rule ≡ Some node → ShowsFrom node (back_of item) a b → ItemEdge q item after rule a b
+    ends : (node : ℕ) → rule ≡ Some node → Derives (HasUsed g Used) (back_of item) [] → a ≡ node → b ≡ before_number q item → ItemEdge q item after rule a b
+
+  -- the node of the rule that a target is for
+  abbrev pub rule_at : ℕ → ℕ → Target → Option ℕ
+  rule_at q place target = cond (nat_lt target.symbol n.rules) (Some ((block_of n q).rules + place)) None
+
+  -- an edge by one of the items with symbols read of a target's state
+  pub record KernelEdge (q place : ℕ) (target : Target) (index a b : ℕ) : Type 0 where
+    pub item : Item
+    pub is : slice_get (get_or x.states target.state []) index ≡ Some item
+    pub some : 0 < item.read
+    pub edge : ItemEdge q item ((block_of n target.state).items + index) (rule_at q place target) a b
+
+  -- an edge by a target of a state
+  pub record TargetEdge (q place a b : ℕ) : Type 0 where
+    pub target : Target
+    pub at : slice_get (get_or x.targets q []) place ≡ Some target
+    pub index : ℕ
+    pub edge : KernelEdge q place target index a b
+
+  -- an edge by one of the targets of a state
+  abbrev pub StateEdge : ℕ → ℕ → ℕ → Type 0
+  StateEdge q a b = Below (TargetEdge q) (length (get_or x.targets q [])) a b
+
+  pub record EndEdge (a b : ℕ) : Type 0 where
+    pub some : 0 < length x.states
+    pub source : a ≡ number n x (next 0 0)
+    pub target : b + 1 ≡ g.tokens
+
+  -- all edges
+  pub data IsEdge (a b : ℕ) : Type 0 where
+    at_end : EndEdge a b → IsEdge a b
+    by_production : (p : ℕ) → p < length g.productions → ProductionEdge p a b → IsEdge a b
+    by_target : (q place : ℕ) → q < length x.states → TargetEdge q place a b → IsEdge a b
+
+-- what edges are made from
+pub record IsGraph (g : Grammar) (x : Automaton) (n : Numbers) (sets : FirstSets) (bits : List Bool) : Type 0 where
+  pub ready : AreReady g x n
+  pub firsts : AreFirsts g sets
+  pub used : (p : ℕ) → IsTrue (slice_index_or bits p false) ↔ IsUsed g p

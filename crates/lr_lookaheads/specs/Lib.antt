@@ -1,0 +1,2 @@
+pub mod Lookaheads
+pub mod Inner

@@ -1,0 +1,95 @@
+//! The lookaheads of a grammar's LALR(1) parser: the tokens that may come after a production where the parser has read all
+//! of it (DeRemer and Pennello, Efficient computation of LALR(1) look-ahead sets, 1982).
+#![tactic(auto)]
+
+mod edges;
+mod nodes;
+mod reached;
+
+ghost use Rattle.std.specs.Prelude.{◌≡◌, ◌<◌, [], Contains, IfOk, get_or, length};
+ghost use Rattle.cfgrammar.specs.Numbered.{core};
+ghost use Rattle.lr_states.specs.Automaton.{AreGotos};
+ghost use Rattle.lr_states.specs.Viable.{AreStates, IsUsed};
+ghost use Rattle.lr_lookaheads.specs.Lookaheads.{AreLookaheads, tokens_of};
+
+use crate::edges::Graph;
+use crate::nodes::Nodes;
+use crate::reached::Reached;
+use cfgrammar::Vob;
+use cfgrammar::yacc::YaccGrammar;
+use lr_states::{Item, States, used_productions};
+use std::alloc::{AllocError, Global};
+use std::marker::Model;
+
+/// The states of a grammar, and the tokens that may come after the production of each of their items.
+#[derive(Drop)]
+pub struct Lookaheads {
+    states: States,
+    nodes: Nodes,
+    reached: Reached,
+}
+
+impl Model for Lookaheads {
+    ghost use Rattle.std.specs.Prelude.{◌≡◌, length};
+    ghost use Rattle.lr_lookaheads.specs.Lookaheads.{LookaheadTables};
+    ghost use Rattle.lr_lookaheads.specs.Inner.Numbers.{AreOfGrammar, numbers_of, rows_of};
+
+    ghost Value = { LookaheadTables };
+
+    ghost view = { λ x. record {
+      automaton = x.states;
+      rows = rows_of (numbers_of x.nodes) x.states x.reached;
+    } };
+
+    ghost invariant = { λ x. AreOfGrammar x.states (numbers_of x.nodes) × (length x.reached ≡ x.nodes.len) };
+}
+
+impl Lookaheads {
+    /// The states of a grammar and the lookaheads of their items.
+    ///
+    /// # Errors
+    ///
+    /// Out of memory.
+    pub fn of(alloc: Global, grammar: &YaccGrammar<u32>) -> Result<Self, AllocError>
+        ensures states { IfOk result (λ x. AreStates (core grammar.now) (IsUsed (core grammar.now)) x.automaton.states) }
+        ensures gotos { IfOk result (λ x. AreGotos (core grammar.now) (IsUsed (core grammar.now)) x.automaton) }
+        ensures lookaheads { IfOk result (λ x. AreLookaheads (core grammar.now) (IsUsed (core grammar.now)) x) }
+    {
+        grammar.invariant_holds();
+        let states = States::of(alloc, grammar)?;
+        let nodes = Nodes::of(alloc, grammar, &states)?;
+        let firsts = grammar.firsts(alloc)?;
+        let used = used_productions(alloc, grammar)?;
+        let graph = Graph {
+            grammar,
+            states: &states,
+            nodes: &nodes,
+            firsts: &firsts,
+            used: &used,
+        };
+        let edges = graph.edges(alloc)?;
+        let reached = Reached::of(alloc, &edges, nodes.tokens)?;
+        Ok(Lookaheads {
+            states,
+            nodes,
+            reached,
+        })
+    }
+
+    /// The states.
+    pub fn states(&self) -> &States
+        ensures { result.now ≡ self.now.automaton }
+    {
+        &self.states
+    }
+
+    /// The tokens that may come after an item's production where a parser is in a state: a bit for each token.
+    pub fn tokens(&self, state: usize, item: Item) -> &Vob
+        requires state { state < length self.now.automaton.states }
+        requires item { Contains (get_or self.now.automaton.states state []) item }
+        ensures { result.now ≡ tokens_of self.now state item }
+    {
+        self.reached
+            .row(self.nodes.of_item(&self.states, state, item))
+    }
+}
