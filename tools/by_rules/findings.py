@@ -1,4 +1,5 @@
 """The issues of a file without errors: "Findings"."""
+from .conflict_findings import conflict_findings
 from .costs import Costs
 from .cycles import Cycles
 from .unused import TEXTS, unused_of
@@ -11,7 +12,8 @@ class Finding:
         self.kind, self.spans, self.text = kind, spans, text
 
     def spans_kind(self):
-        several = ('ShadowedRule', 'StartWithoutSentence', 'NoSentence', 'CyclicRule', 'RepeatedProduction')
+        several = ('ShadowedRule', 'StartWithoutSentence', 'NoSentence', 'CyclicRule', 'RepeatedProduction', 'ShiftReduce',
+                   'ReduceReduce')
         return 'DuplicationError' if self.kind in several else 'Error'
 
 
@@ -24,7 +26,7 @@ def findings_of(t, tree, grammar, is_printed):
     any if none is."""
     found = (unused(tree) + shadowed(tree) + unproductive(tree, grammar) + useless(grammar) + cycles(grammar, is_printed) + repeats(grammar)
              + idle(tree) + declared_again(tree) + overridden(tree) + glued(t, tree) + needless(tree, grammar) + escapes(tree)
-             + implicitly_empty(t, tree))
+             + implicitly_empty(t, tree) + [Finding(*it) for it in conflict_findings(tree)])
     return sorted(found, key=lambda finding: finding.spans[0][0])
 
 

@@ -62,6 +62,9 @@ and the others are warnings. If a finding is given to several of these options, 
   needless-expect-unused  a symbol of an %expect-unused that is used
   escaped-token           a token whose name begins with a backslash: not reported
   implicit-empty          an empty production without %empty: not reported
+  shift-reduce            a production that may be reduced where the next token may also be shifted
+  reduce-reduce           a production that may be reduced where an earlier one may be too
+  unmet-expect            an %expect or %expect-rr with another number of conflicts than there are: an error
 
 --kind=KIND is --kind KIND, and so on.
 
@@ -75,7 +78,8 @@ KINDS = ('original-noaction', 'original-useraction', 'original-genericparsetree'
 SAME = {'yacc': 'bison'}
 FINDINGS = ('unused-rule', 'unused-token', 'shadowed-rule', 'start-without-sentence', 'no-sentence', 'unusable-rule',
             'unusable-production', 'useless-symbol', 'cyclic-rule', 'repeated-production', 'unused-precedence',
-            'repeated-token', 'overridden-precedence', 'glued-keyword', 'needless-expect-unused', 'escaped-token', 'implicit-empty')
+            'repeated-token', 'overridden-precedence', 'glued-keyword', 'needless-expect-unused', 'escaped-token', 'implicit-empty',
+            'shift-reduce', 'reduce-reduce', 'unmet-expect')
 RULES = (*FINDINGS,
          'illegal-integer', 'illegal-name', 'illegal-string', 'incomplete-rule', 'incomplete-comment',
          'incomplete-action', 'missing-colon', 'missing-right-arrow', 'mismatched-brace', 'non-empty-production',
@@ -88,6 +92,7 @@ RULES = (*FINDINGS,
          'section-duplicate-entry', 'section-invalid-entry', 'section-conversion')
 RULES = tuple(dict.fromkeys((*RULES, *(word for _, word in TEXTS.values()), 'unreadable-file', 'invalid-encoding')))
 ALLOWED = ('unusable-rule', 'unusable-production', 'useless-symbol', 'escaped-token', 'implicit-empty')
+DENIED = ('start-without-sentence', 'unmet-expect')
 LEVELS = {'--allow': None, '--warn': 'warning', '--deny': 'error'}
 VALIDATION = ('NoStartRule', 'InvalidStartRule', 'UnknownRuleRef', 'UnknownToken', 'NoPrecForToken', 'UnknownEPP')
 WORDS = {'UnknownRuleRef': 'unknown-rule', 'NoPrecForToken': 'no-precedence', 'MissingGrmtoolsSection': 'missing-section',
@@ -120,7 +125,7 @@ class Options:
     def __init__(self):
         self.kind, self.default_kind = None, None
         self.denies, self.is_quiet, self.stdin_name, self.files = False, False, '-', []
-        self.levels = dict.fromkeys(FINDINGS, 'warning') | dict.fromkeys(ALLOWED) | {'start-without-sentence': 'error'}
+        self.levels = dict.fromkeys(FINDINGS, 'warning') | dict.fromkeys(ALLOWED) | dict.fromkeys(DENIED, 'error')
         self.format, self.columns = 'text', 'characters'
 
     def set(self, option, value):

@@ -41,8 +41,10 @@ class Grammar:
         self.tokens = list(dict.fromkeys([*((True, n) for n in tree.tokens), self.end]))
 
     def precedence(self, tree, number, symbols):
-        """The precedence of the token of %prec, else of the last token."""
-        named = tree.productions[number].precedence if number < len(tree.productions) else None
+        """The precedence of the token of %prec, else of the last token. Added productions have none."""
+        if number >= len(tree.productions):
+            return None
+        named = tree.productions[number].precedence
         if named is not None:
             return self.precedences.get((True, named))
         tokens = [it for it in symbols if it[0]] if tree.has_default_precedence else []

@@ -31,7 +31,7 @@ MARKS = ('%%', ';', '|', ':', '=', '[', ']', '[x]', '[ a.b ]', '[1]', '%', '@', 
          '\n#line 5\n')
 FORMATS = ('', '', '', '--format=json ', '--format=github ', '--format=sarif ')
 LEVELS = ('', '', '--warn all ', '--warn=implicit-empty --warn useless-symbol ', '--deny cyclic-rule ',
-          '--columns bytes ')
+          '--deny reduce-reduce --allow unmet-expect ', '--columns bytes ')
 KINDS = ('--kind bison ', '--kind bison ', '--kind yacc ', '', '', '--default-kind bison ', '--kind original-noaction ')
 
 

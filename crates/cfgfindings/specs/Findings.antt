@@ -1,8 +1,9 @@
 -- The findings about a grammar without errors, given its syntax and its numbers. None are about rules and productions that the file doesn't
 -- have.
-use Rattle.std.specs.Prelude.{◌≡◌, ◌↔◌, ◌⊎◌, ℕ, ◌+◌, ◌<◌, ◌≤◌, List, [], ◌∷◌, ◌++◌, Contains, Option, Some, None, if◌then◌else◌, is_some, length, map, slice_get}
+use Rattle.std.specs.Prelude.{◌≡◌, ◌↔◌, ◌⊎◌, ℕ, ◌+◌, ◌<◌, ◌≤◌, List, ◌∷◌, ◌++◌, Contains, Option, Some, None, if◌then◌else◌, is_some, length, map, slice_get}
 use Rattle.std.specs.List.Sorted.{IsPermutation, IsSortedByKey, IsStableByKey, IsStrictlyIncreasing}
 use Rattle.std.specs.Ordering.{nat_cmp}
+use Rattle.cfgrammar.specs.Associativity.{Associativity}
 use Rattle.cfgrammar.specs.Grammar.{Sym, Rule, Token, HasProduction}
 use Rattle.cfgrammar.specs.UnitPaths.{DerivesRule, IsCyclic}
 use Rattle.cfgrammar.specs.StepPaths.{IsShortestCycle}
@@ -23,6 +24,7 @@ use Rattle.text_findings.specs.Glued.{ReportsGlued}
 use Rattle.text_findings.specs.Escapes.{ReportsEscaped}
 use Rattle.text_findings.specs.Empty.{ReportsImplicitlyEmpty}
 pub use Rattle.text_findings.specs.Reports.{ReportsBelow, none, reported, left}
+use Rattle.conflict_findings.specs.Conflicts.{AreConflictFindings}
 use Rattle.cfgfindings.specs.Needless.{ReportsUsedSymbol}
 use Rattle.text_findings.specs.declared.words.Words.TheVariants.{Precedences, RepeatedTokens, Tokens}
 
@@ -216,8 +218,9 @@ module _ (s : Syntax) where
 abbrev pub ReportsNeedless : Syntax → Numbered → ℕ → Option ShownFinding → Type 0
 ReportsNeedless s g = ReportsUsedSymbol s.expect_unused g
 
--- the findings for rules and tokens of the syntax, then those for rules, productions, precedences and declarations, one list after the other
-pub record AreReportedInTurn (text : List ℕ) (s : Syntax) (g : Numbered) (reported : List ShownFinding) : Type 0 where
+-- the findings for rules and tokens of the syntax, then those for rules, productions, precedences and declarations, and at last those for
+-- conflicts, one list after the other
+pub record AreReportedInTurn (text : List ℕ) (s : Syntax) (g : Numbered) (associativities : List Associativity) (reported : List ShownFinding) : Type 0 where
   pub unused_rules : List ShownFinding
   pub unused_tokens : List ShownFinding
   pub shadowed : List ShownFinding
@@ -235,6 +238,7 @@ pub record AreReportedInTurn (text : List ℕ) (s : Syntax) (g : Numbered) (repo
   pub needless : List ShownFinding
   pub escapes : List ShownFinding
   pub empty : List ShownFinding
+  pub conflicts : List ShownFinding
   pub are_unused_rules : ReportsBelow (ReportsUnusedRule s) (length s.rules) unused_rules
   pub are_unused_tokens : ReportsBelow (ReportsUnusedToken s) (length s.tokens) unused_tokens
   pub are_shadowed : ReportsBelow (ReportsShadowedRule s) (length s.rules) shadowed
@@ -252,10 +256,11 @@ pub record AreReportedInTurn (text : List ℕ) (s : Syntax) (g : Numbered) (repo
   pub are_needless : ReportsBelow (ReportsNeedless s g) (length s.expect_unused) needless
   pub are_escapes : ReportsBelow (ReportsEscaped s) (length s.tokens) escapes
   pub are_empty : ReportsBelow (ReportsImplicitlyEmpty text s) (length s.productions) empty
+  pub are_conflicts : AreConflictFindings g associativities s.settings conflicts
   pub is : reported ≡ unused_rules ++ (unused_tokens ++ (shadowed
       ++ (unproductive_rules ++ (unusable_rules ++ (unusable_productions ++ (useless_rules ++ (useless_tokens ++ (cycles ++ (repeats
       ++ (precedences ++ ((map repeated_token s.repeated_tokens ++ map overridden_precedence s.overridden_precedences)
-      ++ (glued_tokens ++ (glued_precedences ++ (glued_repeated_tokens ++ (needless ++ (escapes ++ empty))))))))))))))))
+      ++ (glued_tokens ++ (glued_precedences ++ (glued_repeated_tokens ++ (needless ++ (escapes ++ (empty ++ conflicts)))))))))))))))))
 
 -- the same findings sorted by offset; those at the same offset stay in their order
 pub record AreByOffset (reported all : List ShownFinding) : Type 0 where
@@ -264,7 +269,7 @@ pub record AreByOffset (reported all : List ShownFinding) : Type 0 where
   pub stable : IsStableByKey offset_of nat_cmp reported all
 
 -- all findings about a text, each once
-pub record AreFindings (text : List ℕ) (s : Syntax) (g : Numbered) (all : List ShownFinding) : Type 0 where
+pub record AreFindings (text : List ℕ) (s : Syntax) (g : Numbered) (associativities : List Associativity) (all : List ShownFinding) : Type 0 where
   pub reported : List ShownFinding
-  pub in_turn : AreReportedInTurn text s g reported
+  pub in_turn : AreReportedInTurn text s g associativities reported
   pub by_offset : AreByOffset reported all

@@ -1,7 +1,6 @@
 -- Symbols that `%expect-unused` names although they are used.
 use Rattle.std.specs.Prelude.{◌≡◌, ℕ, List, [], ◌∷◌, ◌++◌, codes, Option, None, Some, option_map, position, slice_get, bytes_eq}
 use Rattle.cfgrammar.specs.Accessors.{has_token_name}
-use Rattle.cfgrammar.specs.FileWords.{Word}
 use Rattle.cfgrammar.specs.Grammar.{HasProduction, Sym, Rule, Token}
 use Rattle.cfgrammar.specs.Numbered.{Numbered, core}
 use Rattle.cfgrammar.specs.Syntax.{Symbol, RuleSymbol, TokenSymbol}

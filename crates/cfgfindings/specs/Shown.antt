@@ -1,22 +1,17 @@
 -- The texts and the spans of findings.
-use Rattle.std.specs.Prelude.{ℕ, ◌+◌, List, [], ◌∷◌, ◌++◌, drop, map, take, codes, slice_get, unwrap_or}
+use Rattle.std.specs.Prelude.{ℕ, ◌+◌, List, [], ◌∷◌, ◌++◌, drop, map, take, codes}
 use Rattle.std.specs.List.{flat_map}
-use Rattle.std.specs.Option.{option_map_or}
 use Rattle.cfgrammar.specs.FileWords.{Word}
-use Rattle.cfgrammar.specs.Grammar.{Sym, Rule, Token}
+use Rattle.cfgrammar.specs.Grammar.{Sym}
 use Rattle.cfgrammar.specs.UnitStep.{UnitStep}
 use Rattle.cfgrammar.specs.Span.{Span}
-use Rattle.cfgrammar.specs.Check.{nowhere}
 use Rattle.cfgrammar.specs.Numbered.{Numbered, core}
-use Rattle.cfgrammar.specs.Accessors.{production_part, rule_part, sym_name}
+use Rattle.cfgrammar.specs.Accessors.{sym_name}
 use Rattle.cfgrammar.specs.Openings.{nth_production}
 pub use Rattle.text_findings.specs.Finding.{ShownFinding, offset_of, spanskind_of}
+pub use Rattle.text_findings.specs.Named.{production_span, quoted, rule_name, rule_span, token_name, token_span}
 use Rattle.finding_kinds.specs.declared.finding_kind.FindingKind.{FindingKind}
 use Rattle.finding_kinds.specs.declared.finding_kind.FindingKind.TheVariants.{CyclicRule, NoSentence, OverriddenPrecedence, RepeatedProduction, RepeatedToken, ShadowedRule, StartWithoutSentence, UnusableProduction, UnusableRule, UnusedPrecedence, UnusedRule, UnusedToken, UselessSymbol}
-
--- the name in quotes
-abbrev pub quoted : List ℕ → List ℕ
-quoted name = codes "'" ++ (name ++ codes "'")
 
 -- that the rule, or the token, with this name is unused
 abbrev pub unused_rule : List ℕ → Span → ShownFinding
@@ -34,66 +29,51 @@ shadowed_rule name span token = record {
 }
 
 module _ (g : Numbered) where
-  abbrev pub rule_name : ℕ → List ℕ
-  rule_name r = sym_name g (Rule r)
-
-  abbrev pub rule_span : ℕ → Span
-  rule_span r = unwrap_or (rule_part (λ rule. rule.span) g r) nowhere
-
-  abbrev pub token_name : ℕ → List ℕ
-  token_name t = sym_name g (Token t)
-
-  abbrev pub token_span : ℕ → Span
-  token_span t = option_map_or (λ token. unwrap_or token.span nowhere) (slice_get g.tokens t) nowhere
-
-  abbrev pub production_span : ℕ → Span
-  production_span p = unwrap_or (production_part (λ production. production.span) g p) nowhere
-
   -- that the rule, which is the start rule, has no sentence, nor have these others
   abbrev pub start_without_sentence : ℕ → List ℕ → ShownFinding
   start_without_sentence r others = record {
     kind = StartWithoutSentence;
-    spans = map rule_span (r ∷ others);
-    text = codes "No sentence can be derived from the start rule " ++ quoted (rule_name r);
+    spans = map (rule_span g) (r ∷ others);
+    text = codes "No sentence can be derived from the start rule " ++ quoted (rule_name g r);
   }
 
   -- that the rule has no sentence, nor have these others
   abbrev pub no_sentence : ℕ → List ℕ → ShownFinding
   no_sentence r others = record {
     kind = NoSentence;
-    spans = map rule_span (r ∷ others);
-    text = codes "Rule " ++ (quoted (rule_name r) ++ codes " has no sentence");
+    spans = map (rule_span g) (r ∷ others);
+    text = codes "Rule " ++ (quoted (rule_name g r) ++ codes " has no sentence");
   }
 
   -- that the rule can't be used, since others have no sentence
   abbrev pub unusable_rule : ℕ → ShownFinding
   unusable_rule r = record {
     kind = UnusableRule;
-    spans = rule_span r ∷ [];
-    text = codes "Unusable rule " ++ (quoted (rule_name r) ++ codes ": each of its productions has a rule without a sentence");
+    spans = rule_span g r ∷ [];
+    text = codes "Unusable rule " ++ (quoted (rule_name g r) ++ codes ": each of its productions has a rule without a sentence");
   }
 
   -- that the production can't be used, since this rule in it has no sentence
   abbrev pub unusable : ℕ → ℕ → ShownFinding
   unusable p q = record {
     kind = UnusableProduction;
-    spans = production_span p ∷ [];
-    text = codes "Unusable production: rule " ++ (quoted (rule_name q) ++ codes " has no sentence");
+    spans = production_span g p ∷ [];
+    text = codes "Unusable production: rule " ++ (quoted (rule_name g q) ++ codes " has no sentence");
   }
 
   -- that the rule, or the token, is reached only through unusable productions
   abbrev pub useless_rule : ℕ → ShownFinding
   useless_rule r = record {
     kind = UselessSymbol;
-    spans = rule_span r ∷ [];
-    text = codes "Rule " ++ (quoted (rule_name r) ++ codes " is reached only through unusable productions");
+    spans = rule_span g r ∷ [];
+    text = codes "Rule " ++ (quoted (rule_name g r) ++ codes " is reached only through unusable productions");
   }
 
   abbrev pub useless_token : ℕ → ShownFinding
   useless_token t = record {
     kind = UselessSymbol;
-    spans = token_span t ∷ [];
-    text = codes "Token " ++ (quoted (token_name t) ++ codes " is reached only through unusable productions");
+    spans = token_span g t ∷ [];
+    text = codes "Token " ++ (quoted (token_name g t) ++ codes " is reached only through unusable productions");
   }
 
   -- ` [NAME]` for each symbol, which is nullable
@@ -104,22 +84,22 @@ module _ (g : Numbered) where
   abbrev pub step_text : UnitStep → List ℕ
   step_text step =
       let symbols = (nth_production (core g) step.production).symbols in
-      codes " ->" ++ (nullable (take step.index symbols) ++ (codes " " ++ (rule_name step.rule ++ nullable (drop (step.index + 1) symbols))))
+      codes " ->" ++ (nullable (take step.index symbols) ++ (codes " " ++ (rule_name g step.rule ++ nullable (drop (step.index + 1) symbols))))
 
   -- that these rules are cyclic, and that the first of them is by this path of steps
   abbrev pub cyclic_finding : ℕ → List ℕ → List UnitStep → ShownFinding
   cyclic_finding r rules path = record {
     kind = CyclicRule;
-    spans = map rule_span rules;
-    text = codes "Rule " ++ (quoted (rule_name r) ++ (codes " derives itself: " ++ (rule_name r ++ flat_map step_text path)));
+    spans = map (rule_span g) rules;
+    text = codes "Rule " ++ (quoted (rule_name g r) ++ (codes " derives itself: " ++ (rule_name g r ++ flat_map step_text path)));
   }
 
   -- that the production has the symbols of an earlier one of its rule
   abbrev pub repeated : ℕ → ℕ → ShownFinding
   repeated p earlier = record {
     kind = RepeatedProduction;
-    spans = production_span p ∷ (production_span earlier ∷ []);
-    text = codes "Repeated production of rule '" ++ (rule_name (nth_production (core g) p).rule ++ codes "': each sentence by it has two trees");
+    spans = production_span g p ∷ (production_span g earlier ∷ []);
+    text = codes "Repeated production of rule '" ++ (rule_name g (nth_production (core g) p).rule ++ codes "': each sentence by it has two trees");
   }
 
 -- that the precedence of the token with this name, which is given here, is unused

@@ -13,14 +13,17 @@ use crate::sentences::{Unproductive, push_unusable};
 use crate::unproductive_rules::push_unproductive;
 use crate::unused::push_unused;
 use crate::useless::push_useless;
+use cfgrammar::bison::Associativity;
 use cfgrammar::yacc::YaccGrammar;
 use cfgrammar::yacc::ast::GrammarAST;
+use conflict_findings::push_conflicts;
 use std::alloc::{AllocError, Global};
 use text_findings::{Finding, push_escaped, push_glued, push_implicitly_empty};
 
 /// The findings about a grammar without errors, by offset; those at the same offset are in the order of
 /// [`FindingKind`](crate::FindingKind). `ast` is the tree of the text, and `grammar` its numbers. Where the two say
-/// nothing, as of the words of the file, the text decides.
+/// nothing, as of the words of the file, the text decides. `associativities` says how the operators of each level of
+/// precedences associate, as a `BisonFile` does; of a level that isn't in the list, the tokens themselves say it.
 ///
 /// # Errors
 ///
@@ -30,8 +33,10 @@ pub fn findings(
     text: &str,
     ast: &GrammarAST,
     grammar: &YaccGrammar<u32>,
+    associativities: &[Associativity],
 ) -> Result<Vec<Finding>, AllocError>
-    ensures { IfOk result (λ all. AreFindings text.now (syntax ast.now) grammar.now all.items) }
+    ensures { IfOk result (λ all. AreFindings text.now (syntax ast.now) grammar.now
+        associativities.now all.items) }
 {
     let mut all = Vec::new(alloc);
     push_unused(alloc, &mut all, ast)?;
@@ -47,6 +52,7 @@ pub fn findings(
     push_needless(alloc, &mut all, ast, &unproductive)?;
     push_escaped(alloc, &mut all, ast)?;
     push_implicitly_empty(alloc, &mut all, text, ast)?;
+    push_conflicts(alloc, &mut all, ast, grammar, associativities)?;
     all.sort_by_key(|finding| finding.offset())?;
     Ok(all)
 }

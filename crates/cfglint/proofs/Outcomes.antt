@@ -1,5 +1,5 @@
 -- What an outcome says of its text.
-use Rattle.std.proofs.Common.{◌≡◌, ℕ, List, true, false, inl, inr, Option, refl, sym, ◌∙◌}
+use Rattle.std.proofs.Common.{◌≡◌, ℕ, List, [], true, false, inl, inr, Option, refl, sym, ◌∙◌}
 use Rattle.cfgrammar.specs.Answer.{Found, Unnamed, WasRead, IsGrammar, IsRefused, in_numbers}
 use Rattle.cfgrammar.specs.Errors.{GrammarError}
 use Rattle.cfgrammar.specs.Numbered.{Numbered}
@@ -20,7 +20,8 @@ module _ (options : LintOptions) (name text : List ℕ) where
   Makes = IsMadeOf (IsRefusedOutcome options name text) (IsFoundOutcome options name text)
 
   abbrev MakesReport : Found → Printed → Type 0
-  MakesReport = IsMadeOf (ReportsErrors options.format options.columns name text) (ReportsFindings options.format options.columns name text options.levels)
+  MakesReport = IsMadeOf (ReportsErrors options.format options.columns name text)
+      (λ s g. ReportsFindings options.format options.columns name text options.levels s g [])
 
   -- it is the same whatever kind its report says
   pub outcome_as : (outcome : Outcome) (kind : Option FileKind) (found : Found) → Makes found outcome

@@ -2,6 +2,7 @@
 use Rattle.std.specs.Prelude.{◌≡◌, ℕ, ◌+◌, List, length, map, Option}
 use Rattle.std.specs.List.{count_by}
 use Rattle.std.specs.Option.{option_map_or}
+use Rattle.cfgrammar.specs.Associativity.{Associativity}
 use Rattle.cfgrammar.specs.ColumnUnit.{ColumnUnit}
 use Rattle.cfgrammar.specs.Errors.{GrammarError}
 use Rattle.cfgrammar.specs.Numbered.{Numbered}
@@ -50,10 +51,10 @@ module _ (format : Format) (unit : ColumnUnit) (name text : List ℕ) where
       AreErrorLines (noted_errors text (option_map_or names_of syntax no_names) (shown_errors syntax all)) reported.lines
       × (reported.errors ≡ length (shown_errors syntax all)) × (reported.warnings ≡ 0)
 
-  -- the findings about its grammar, given its syntax and its numbers, with these levels but for those that comments allow; those
-  -- that are no errors are warnings
-  abbrev pub ReportsFindings : Levels → Syntax → Numbered → Printed → Type 0
-  ReportsFindings levels s g reported = (all : List ShownFinding) × AreFindings text s g all
+  -- the findings about its grammar, given its syntax, its numbers, and how the operators of its levels associate, with these levels of
+  -- findings but for those that comments allow; those that are no errors are warnings
+  abbrev pub ReportsFindings : Levels → Syntax → Numbered → List Associativity → Printed → Type 0
+  ReportsFindings levels s g associativities reported = (all : List ShownFinding) × AreFindings text s g associativities all
       × AreFindingLines (reported_by text levels all) reported.lines
       × (reported.errors ≡ count_by (λ (finding : Reported). finding.is_error) (reported_by text levels all))
       × (reported.errors + reported.warnings ≡ length (reported_by text levels all))

@@ -47,7 +47,13 @@ fn report_file(
     ensures { IfOk result (ReportsBison reporter.now.options reporter.now.name.now text.now file.now) }
 {
     match file.grammar::<u32>(alloc) {
-        Ok(grammar) => with_levels(reporter).report_findings(alloc, text, file.ast(), &grammar),
+        Ok(grammar) => with_levels(reporter).report_findings(
+            alloc,
+            text,
+            file.ast(),
+            &grammar,
+            file.levels(),
+        ),
         Err(BisonFault::Errors(_)) => report_errors(alloc, text, file, reporter),
         Err(BisonFault::StorageTooSmall) => report_too_large(alloc, text, reporter),
         Err(BisonFault::OutOfMemory) => Err(AllocError),

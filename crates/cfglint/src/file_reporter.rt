@@ -9,6 +9,7 @@ use crate::reported_error::{ReportedError, error_lines};
 use cfgfindings::findings;
 use cfgjson::{annotation_lines, json_lines, result_lines};
 use cfglint_shell::{Format, LintOptions, Report};
+use cfgrammar::bison::Associativity;
 use cfgrammar::yacc::YaccGrammar;
 use cfgrammar::yacc::ast::GrammarAST;
 use std::alloc::{AllocError, Global};
@@ -43,7 +44,7 @@ impl FileReporter<'_> {
         })
     }
 
-    /// Reports the findings about a grammar.
+    /// Reports the findings about a grammar, the operators of whose levels associate as this says.
     ///
     /// # Errors
     ///
@@ -54,11 +55,12 @@ impl FileReporter<'_> {
         text: &str,
         ast: &GrammarAST,
         grammar: &YaccGrammar<u32>,
+        associativities: &[Associativity],
     ) -> Result<Report, AllocError>
         ensures { IfOk result (ReportsFindings self.now.options.format self.now.options.columns self.now.name.now
-            text.now self.now.options.levels (syntax ast.now) grammar.now) }
+            text.now self.now.options.levels (syntax ast.now) grammar.now associativities.now) }
     {
-        let all = findings(alloc, text, ast, grammar)?;
+        let all = findings(alloc, text, ast, grammar, associativities)?;
         let reported = reported_findings(alloc, text, &all, &self.options.levels)?;
         let lines = self.finding_lines(alloc, text, &reported)?;
         let errors = error_count(&reported);

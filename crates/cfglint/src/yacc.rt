@@ -86,7 +86,7 @@ impl TextReader<Outcome> for FileReporter<'_> {
         ast: &GrammarAST,
         grammar: &YaccGrammar<u32>,
     ) -> Result<Outcome, AllocError> {
-        let report = self.report_findings(alloc, text, ast, grammar)?;
+        let report = self.report_findings(alloc, text, ast, grammar, &[])?;
         Ok(Outcome {
             report,
             is_refused: false,

@@ -70,6 +70,9 @@ and the others are warnings. If a finding is given to several of these options, 
   needless-expect-unused  a symbol of an %expect-unused that is used
   escaped-token           a token whose name begins with a backslash: not reported
   implicit-empty          an empty production without %empty: not reported
+  shift-reduce            a production that may be reduced where the next token may also be shifted
+  reduce-reduce           a production that may be reduced where an earlier one may be too
+  unmet-expect            an %expect or %expect-rr with another number of conflicts than there are: an error
 
 --kind=KIND is --kind KIND, and so on.
 
@@ -299,7 +302,7 @@ const FORMATS: [&str; 4] = ["text", "json", "github", "sarif"];
 const UNITS: [&str; 3] = ["bytes", "characters", "display"];
 
 /// The values of `--allow`, `--warn` and `--deny`.
-const FINDINGS: [&str; 18] = [
+const FINDINGS: [&str; 21] = [
     "unused-rule",
     "unused-token",
     "shadowed-rule",
@@ -317,5 +320,8 @@ const FINDINGS: [&str; 18] = [
     "needless-expect-unused",
     "escaped-token",
     "implicit-empty",
+    "shift-reduce",
+    "reduce-reduce",
+    "unmet-expect",
     "all",
 ];

@@ -3,7 +3,7 @@ use Rattle.std.specs.Prelude.{ℕ, ◌==◌, List, [], ◌∷◌, Option, if◌t
 use Rattle.std.specs.List.{find}
 use Rattle.std.specs.Str.{bytes_eq}
 use Rattle.finding_kinds.specs.declared.finding_kind.FindingKind.{FindingKind}
-use Rattle.finding_kinds.specs.declared.finding_kind.FindingKind.TheVariants.{UnusedRule, UnusedToken, ShadowedRule, StartWithoutSentence, NoSentence, UnusableRule, UnusableProduction, UselessSymbol, CyclicRule, RepeatedProduction, UnusedPrecedence, RepeatedToken, OverriddenPrecedence, GluedKeyword, NeedlessExpectUnused, EscapedToken, ImplicitEmpty}
+use Rattle.finding_kinds.specs.declared.finding_kind.FindingKind.TheVariants.{UnusedRule, UnusedToken, ShadowedRule, StartWithoutSentence, NoSentence, UnusableRule, UnusableProduction, UselessSymbol, CyclicRule, RepeatedProduction, UnusedPrecedence, RepeatedToken, OverriddenPrecedence, GluedKeyword, NeedlessExpectUnused, EscapedToken, ImplicitEmpty, ShiftReduce, ReduceReduce, UnmetExpect}
 use Rattle.finding_kinds.specs.declared.levels.Level.{Level}
 use Rattle.finding_kinds.specs.declared.levels.Level.TheVariants.{Allow, Warn, Deny}
 use Rattle.finding_kinds.specs.declared.levels.Levels.{Levels}
@@ -27,12 +27,15 @@ word_of GluedKeyword = codes "glued-keyword"
 word_of NeedlessExpectUnused = codes "needless-expect-unused"
 word_of EscapedToken = codes "escaped-token"
 word_of ImplicitEmpty = codes "implicit-empty"
+word_of ShiftReduce = codes "shift-reduce"
+word_of ReduceReduce = codes "reduce-reduce"
+word_of UnmetExpect = codes "unmet-expect"
 
 -- the kinds, in order
 abbrev pub kinds : List FindingKind
 kinds = UnusedRule ∷ UnusedToken ∷ ShadowedRule ∷ StartWithoutSentence ∷ NoSentence ∷ UnusableRule ∷ UnusableProduction
     ∷ UselessSymbol ∷ CyclicRule ∷ RepeatedProduction ∷ UnusedPrecedence ∷ RepeatedToken ∷ OverriddenPrecedence
-    ∷ GluedKeyword ∷ NeedlessExpectUnused ∷ EscapedToken ∷ ImplicitEmpty ∷ []
+    ∷ GluedKeyword ∷ NeedlessExpectUnused ∷ EscapedToken ∷ ImplicitEmpty ∷ ShiftReduce ∷ ReduceReduce ∷ UnmetExpect ∷ []
 
 -- the kind that a word names
 abbrev pub finding_named : List ℕ → Option FindingKind
@@ -57,9 +60,12 @@ number GluedKeyword = 13
 number NeedlessExpectUnused = 14
 number EscapedToken = 15
 number ImplicitEmpty = 16
+number ShiftReduce = 17
+number ReduceReduce = 18
+number UnmetExpect = 19
 
--- A start rule without a sentence is an error, and every other finding is a warning, except for two groups that aren't reported: those that
--- only follow from a rule without a sentence, and those about a style that many files have.
+-- A start rule without a sentence and an expectation that isn't met are errors, and every other finding is a warning, except for two groups
+-- that aren't reported: those that only follow from a rule without a sentence, and those about a style that many files have.
 abbrev pub default_level : FindingKind → Level
 default_level StartWithoutSentence = Deny
 default_level UnusableRule = Allow
@@ -67,6 +73,7 @@ default_level UnusableProduction = Allow
 default_level UselessSymbol = Allow
 default_level EscapedToken = Allow
 default_level ImplicitEmpty = Allow
+default_level UnmetExpect = Deny
 default_level _ = Warn
 
 abbrev pub default_levels : Levels

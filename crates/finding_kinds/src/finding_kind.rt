@@ -42,10 +42,16 @@ pub enum FindingKind {
     EscapedToken,
     /// The production has no symbols, and no `%empty` says so.
     ImplicitEmpty,
+    /// Where the production is read, it may be reduced, and the next token may also be shifted.
+    ShiftReduce,
+    /// Where the production is read, an earlier one is too, and the next token may come after both.
+    ReduceReduce,
+    /// An `%expect` or `%expect-rr` has another number than there are conflicts.
+    UnmetExpect,
 }
 
 /// The kinds, in order.
-pub(crate) const KINDS: [FindingKind; 17] = [
+pub(crate) const KINDS: [FindingKind; 20] = [
     FindingKind::UnusedRule,
     FindingKind::UnusedToken,
     FindingKind::ShadowedRule,
@@ -63,6 +69,9 @@ pub(crate) const KINDS: [FindingKind; 17] = [
     FindingKind::NeedlessExpectUnused,
     FindingKind::EscapedToken,
     FindingKind::ImplicitEmpty,
+    FindingKind::ShiftReduce,
+    FindingKind::ReduceReduce,
+    FindingKind::UnmetExpect,
 ];
 
 impl FindingKind {
@@ -95,6 +104,9 @@ impl FindingKind {
             FindingKind::NeedlessExpectUnused => "needless-expect-unused",
             FindingKind::EscapedToken => "escaped-token",
             FindingKind::ImplicitEmpty => "implicit-empty",
+            FindingKind::ShiftReduce => "shift-reduce",
+            FindingKind::ReduceReduce => "reduce-reduce",
+            FindingKind::UnmetExpect => "unmet-expect",
         }
     }
 

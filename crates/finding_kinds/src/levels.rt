@@ -19,13 +19,13 @@ pub enum Level {
 /// The level of each kind of finding.
 #[derive(Clone, Copy, Debug)]
 pub struct Levels {
-    by_kind: [Level; 17],
+    by_kind: [Level; 20],
 }
 
 impl Levels {
-    /// A start rule without a sentence is an error, and every other finding is a warning, except for two groups that
-    /// aren't reported: those that only follow from a rule without a sentence, and those about a style that many files
-    /// have.
+    /// A start rule without a sentence and an expectation that isn't met are errors, and every other finding is a
+    /// warning, except for two groups that aren't reported: those that only follow from a rule without a sentence, and
+    /// those about a style that many files have.
     pub fn new() -> Self
         ensures { result ≡ default_levels }
     {
@@ -36,6 +36,7 @@ impl Levels {
         levels.set(FindingKind::UselessSymbol, Level::Allow);
         levels.set(FindingKind::EscapedToken, Level::Allow);
         levels.set(FindingKind::ImplicitEmpty, Level::Allow);
+        levels.set(FindingKind::UnmetExpect, Level::Deny);
         levels
     }
 
@@ -44,7 +45,7 @@ impl Levels {
         ensures { result ≡ all_levels level }
     {
         Levels {
-            by_kind: [level; 17],
+            by_kind: [level; 20],
         }
     }
 

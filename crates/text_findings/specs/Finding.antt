@@ -5,7 +5,7 @@ use Rattle.cfgrammar.specs.Span.{Span}
 use Rattle.cfgrammar.specs.SpansKind.{SpansKind}
 use Rattle.cfgrammar.specs.SpansKind.TheVariants.{DuplicationError, Error}
 use Rattle.finding_kinds.specs.declared.finding_kind.FindingKind.{FindingKind}
-use Rattle.finding_kinds.specs.declared.finding_kind.FindingKind.TheVariants.{CyclicRule, NoSentence, RepeatedProduction, ShadowedRule, StartWithoutSentence}
+use Rattle.finding_kinds.specs.declared.finding_kind.FindingKind.TheVariants.{CyclicRule, NoSentence, ReduceReduce, RepeatedProduction, ShadowedRule, ShiftReduce, StartWithoutSentence}
 
 -- the kind of finding, its spans and its text
 pub record ShownFinding : Type 0 where
@@ -20,6 +20,8 @@ spanskind_of StartWithoutSentence = DuplicationError
 spanskind_of NoSentence = DuplicationError
 spanskind_of CyclicRule = DuplicationError
 spanskind_of RepeatedProduction = DuplicationError
+spanskind_of ShiftReduce = DuplicationError
+spanskind_of ReduceReduce = DuplicationError
 spanskind_of _ = Error
 
 -- the offset of a finding, in bytes: the start of its first span

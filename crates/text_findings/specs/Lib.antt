@@ -4,3 +4,4 @@ pub mod Words
 pub mod Glued
 pub mod Escapes
 pub mod Empty
+pub mod Named

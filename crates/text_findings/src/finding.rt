@@ -120,7 +120,9 @@ impl Spanned for Finding {
             | FindingKind::StartWithoutSentence
             | FindingKind::NoSentence
             | FindingKind::CyclicRule
-            | FindingKind::RepeatedProduction => SpansKind::DuplicationError,
+            | FindingKind::RepeatedProduction
+            | FindingKind::ShiftReduce
+            | FindingKind::ReduceReduce => SpansKind::DuplicationError,
             _ => SpansKind::Error,
         }
     }

@@ -1,4 +1,4 @@
-// Searches in an archive: words and phrases, joined by operators. It has two mistakes, which cfglint reports.
+// Searches in an archive: words and phrases, joined by operators. A name is misspelled, and cfglint reports what follows from it.
 
 %token WORD PHRASE
 
@@ -22,5 +22,5 @@ Term:
   | Term "or" Term
   | Term "and" Term
   | "not" Term
-  | Terms
+  | "(" Terms ")"
   ;

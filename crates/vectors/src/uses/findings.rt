@@ -18,5 +18,10 @@ pub fn show_findings(
     text: &str,
     (ast, grammar): (&GrammarAST, &YaccGrammar<u32>),
 ) -> Result<String, AllocError> {
-    render_all(alloc, name, text, &findings(alloc, text, ast, grammar)?)
+    render_all(
+        alloc,
+        name,
+        text,
+        &findings(alloc, text, ast, grammar, &[])?,
+    )
 }

@@ -1,5 +1,6 @@
 use Rattle.std.proofs.Common.{IfOk, subst}
 use Rattle.std.proofs.lemmas.Result.{IfOk-weaker}
+use Rattle.cfgrammar.specs.BisonAnswer.{bison_numbers}
 use Rattle.cfgrammar.specs.TreeView.{syntax}
 use Rattle.cfglint.specs.BisonReports.{ReportsBison, found, levels_of}
 use Rattle.cfglint.specs.ReportedLines.{ReportsFindings}
@@ -15,8 +16,9 @@ returns-in-Ok c =
     let answer = c.in-Ok.ensures in
     let Finds = ReportsFindings options.format options.columns name text (levels_of options.levels) in
     let read = syntax c.ast.result.now in
-    IfOk-weaker c.report_findings.result (Finds read c.in-Ok.grammar) (ReportsBison options name text file) (λ reported made.
-    found answer.0 answer.1 (subst (λ g. Finds file.syntax g reported) answer.2
-    (subst (λ s. Finds s c.in-Ok.grammar reported) c.ast.ensures made)))
+    let levels = c.levels.result.now in
+    IfOk-weaker c.report_findings.result (Finds read c.in-Ok.grammar levels) (ReportsBison options name text file) (λ reported made.
+    found answer.0 answer.1 (subst (λ a. Finds file.syntax (bison_numbers file) a reported) c.levels.ensures (subst (λ g. Finds file.syntax g levels reported) answer.2
+    (subst (λ s. Finds s c.in-Ok.grammar levels reported) c.ast.ensures made))))
     (subst (λ (reporter : FileReporter). IfOk c.report_findings.result (ReportsFindings reporter.options.format reporter.options.columns
-    reporter.name.now text reporter.options.levels read c.in-Ok.grammar)) c.with_levels.ensures c.report_findings.ensures)
+    reporter.name.now text reporter.options.levels read c.in-Ok.grammar levels)) c.with_levels.ensures c.report_findings.ensures)

@@ -1,0 +1,93 @@
+//! Expectations of conflicts.
+
+ghost use Rattle.std.specs.Prelude.{◌≡◌, ◌++◌, IfOk, OnOk, if◌then◌else◌};
+ghost use Rattle.cfgrammar.specs.TreeView.{syntax};
+ghost use Rattle.conflict_findings.specs.Conflicts.{all_unmet, is_listed};
+ghost use Rattle.conflict_findings.specs.Shown.{unmet};
+ghost use Rattle.lr_conflicts.specs.declared.clashes.Clash.{Clash};
+
+use cfgrammar::Span;
+use cfgrammar::yacc::ast::GrammarAST;
+use lr_conflicts::{Clash, Conflicts};
+use std::alloc::{AllocError, Global};
+use text_findings::{Finding, FindingKind};
+
+/// Which conflicts are listed.
+#[derive(Clone, Copy)]
+pub(crate) struct Listing {
+    /// Whether those of shifts are.
+    pub(crate) shift_reduce: bool,
+    /// Whether those of two productions are.
+    pub(crate) reduce_reduce: bool,
+}
+
+impl Listing {
+    /// Whether this one is listed.
+    pub(crate) fn has(self, clash: Clash) -> bool
+        ensures { result ≡ (if clash.shifts then self.shift_reduce else self.reduce_reduce) }
+    {
+        if clash.shifts {
+            self.shift_reduce
+        } else {
+            self.reduce_reduce
+        }
+    }
+}
+
+/// Adds the expectations of the file that aren't met, and says which conflicts are listed.
+pub(crate) fn push_unmet(
+    alloc: Global,
+    all: &mut Vec<Finding>,
+    ast: &GrammarAST,
+    conflicts: &Conflicts,
+) -> Result<Listing, AllocError>
+    ensures unmet { OnOk result (all.new.items
+        ≡ all.old.items ++ all_unmet (syntax ast.now).settings conflicts.now.conflicts) }
+    ensures listing { IfOk result (λ listing. (clash : Clash) → (if clash.shifts then listing.shift_reduce
+        else listing.reduce_reduce)
+        ≡ is_listed (syntax ast.now).settings (all_unmet (syntax ast.now).settings conflicts.now.conflicts) clash) }
+{
+    let before = all.len();
+    let expect = ast.expect();
+    let expectrr = ast.expectrr();
+    push_number(
+        alloc,
+        all,
+        "Shift/reduce conflicts: ",
+        conflicts.shift_reduce(),
+        *expect,
+    )?;
+    push_number(
+        alloc,
+        all,
+        "Reduce/reduce conflicts: ",
+        conflicts.reduce_reduce(),
+        *expectrr,
+    )?;
+    let unmet = before < all.len();
+    Ok(Listing {
+        shift_reduce: unmet || expect.is_none(),
+        reduce_reduce: unmet || expectrr.is_none(),
+    })
+}
+
+/// Adds that there are so many conflicts, if another number is expected.
+fn push_number(
+    alloc: Global,
+    all: &mut Vec<Finding>,
+    title: &str,
+    found: usize,
+    expected: Option<(usize, Span)>,
+) -> Result<(), AllocError>
+    ensures { OnOk result (all.new.items ≡ all.old.items ++ unmet title.now found expected) }
+{
+    let Some((number, span)) = expected else {
+        return Ok(());
+    };
+    if number == found {
+        return Ok(());
+    }
+    let text = format!(in alloc; "{title}{found} found, {number} expected")?;
+    all.push(Finding::at(alloc, FindingKind::UnmetExpect, span, text)?)?;
+    Ok(())
+}
