@@ -12,8 +12,8 @@ use Rattle.lr_states.specs.Automaton.{Automaton}
 use Rattle.lr_states.specs.declared.Item.{Item}
 use Rattle.lr_conflicts.specs.Clashes.{IsIn, ShiftsBy, accepts, next, reduce, shift}
 use Rattle.lr_conflicts.specs.Conflicts.{items_of, read_item}
-use Rattle.lr_conflicts.specs.Inner.Choices.{IsShiftedBy}
-use Rattle.lr_conflicts.specs.Inner.Choices as choices
+use Rattle.lr_conflicts.specs.Tables.{IsShiftedBy}
+use Rattle.lr_conflicts.specs.Tables as tables
 use Rattle.lr_conflicts.specs.Inner.Pushed.{AddsClashes, IsAgainst, IsInOne, IsReductionIn, IsShiftIn, clash_of}
 use Rattle.lr_conflicts.specs.declared.Conflict.{Conflict}
 use Rattle.lr_conflicts.specs.declared.clashes.Clash.{Clash}
@@ -120,12 +120,12 @@ module _ (g : Numbered) (conflict : Conflict) where
 
 module _ (g : Numbered) (x : Automaton) (conflict : Conflict) where
   shifts_by : (item : Item) → Contains (items_of x conflict.state) item → IsShiftedBy g item conflict.token → ShiftsBy g x conflict item
-  shifts_by item among (choices.next at) = next among at
-  shifts_by item among (choices.accepts read end) = accepts (subst (Contains (items_of x conflict.state)) read among) end read
+  shifts_by item among (tables.next at) = next among at
+  shifts_by item among (tables.accepts read end) = accepts (subst (Contains (items_of x conflict.state)) read among) end read
 
   by_shifts : (item : Item) → ShiftsBy g x conflict item → Contains (items_of x conflict.state) item × IsShiftedBy g item conflict.token
-  by_shifts item (next among at) = (among, choices.next at)
-  by_shifts item (accepts among end read) = (subst (Contains (items_of x conflict.state)) (sym read) among, choices.accepts read end)
+  by_shifts item (next among at) = (among, tables.next at)
+  by_shifts item (accepts among end read) = (subst (Contains (items_of x conflict.state)) (sym read) among, tables.accepts read end)
 
   pub shifts_all : IsTrue conflict.shifts → (old new : List Entry) → AddsClashes (IsShiftOf g conflict (items_of x conflict.state)) old new
       → AddsClashes (IsShiftIn g x conflict) old new

@@ -14,8 +14,9 @@ use Rattle.lr_states.specs.declared.Item.{Item}
 use Rattle.lr_states.specs.Viable.{IsUsed}
 use Rattle.lr_lookaheads.specs.Lookaheads.{AreLookaheads, LookaheadTables}
 use Rattle.lr_conflicts.specs.Conflicts.{CanShift, accepts, items_of, next, read_item}
-use Rattle.lr_conflicts.specs.Inner.Choices.{AreReductions, IsReducible, IsReductionAt, IsShiftedBy}
-use Rattle.lr_conflicts.specs.Inner.Choices as choices
+use Rattle.lr_conflicts.specs.Inner.Choices.{AreReductions, IsReducible, IsReductionAt}
+use Rattle.lr_conflicts.specs.Tables.{IsShiftedBy}
+use Rattle.lr_conflicts.specs.Tables as tables
 use Rattle.lr_conflicts.specs.declared.parser.Reduction.{Reduction}
 
 module _ (g : Numbered) where
@@ -121,9 +122,9 @@ module _ (g : Numbered) where
   shifted_in levels items t = (to, from)
     where
       to : IsShiftedIn items t → CanShift g levels items t
-      to (item, among, choices.next at) = next item among at
-      to (item, among, choices.accepts read end) = accepts (subst (Contains items) read among) end
+      to (item, among, tables.next at) = next item among at
+      to (item, among, tables.accepts read end) = accepts (subst (Contains items) read among) end
 
       from : CanShift g levels items t → IsShiftedIn items t
-      from (next item among at) = (item, among, choices.next at)
-      from (accepts among end) = (read_item g g.start_production, among, choices.accepts refl end)
+      from (next item among at) = (item, among, tables.next at)
+      from (accepts among end) = (read_item g g.start_production, among, tables.accepts refl end)

@@ -1,4 +1,5 @@
 pub mod Precedences
 pub mod Conflicts
+pub mod Tables
 pub mod Clashes
 pub mod Inner

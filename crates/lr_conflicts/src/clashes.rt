@@ -14,7 +14,8 @@ use std::alloc::{AllocError, Global};
 /// A production that could be reduced at a token where something else could be done too.
 #[derive(Clone, Copy)]
 pub struct Clash {
-    /// Whether that is to shift the token. Otherwise it is to reduce an earlier production, the first of those that could be.
+    /// Whether that is to shift the token. Otherwise it is to reduce an earlier production, the first of those that
+    /// could be.
     pub shifts: bool,
     /// The production.
     pub production: usize,

@@ -7,16 +7,16 @@ mod entered;
 mod listed;
 mod parser;
 mod precedences;
-mod tables;
+pub mod tables;
 
-ghost use Rattle.std.specs.Prelude.{◌≡◌, ◌-◌, ◌^◌, IfOk, List, count_by, length, map, min, sum};
+ghost use Rattle.std.specs.Prelude.{◌≡◌, ◌-◌, ◌^◌, IfOk, count_by, length, map, min, sum};
 ghost use Rattle.cfgrammar.specs.Numbered.{core};
 ghost use Rattle.lr_conflicts.specs.Clashes.{AreClashes};
 ghost use Rattle.lr_conflicts.specs.Conflicts.{AreConflicts};
 ghost use Rattle.lr_conflicts.specs.declared.Conflict.{Conflict};
 ghost use Rattle.lr_conflicts.specs.Inner.Choices.{AreTables};
 ghost use Rattle.lr_lookaheads.specs.Lookaheads.{AreLookaheads};
-ghost use Rattle.lr_states.specs.Automaton.{AreGotos};
+ghost use Rattle.lr_states.specs.Automaton.{AreGotos, HaveTargets};
 ghost use Rattle.lr_states.specs.Viable.{AreStates, IsUsed};
 
 use crate::parser::Parser;
@@ -75,6 +75,7 @@ impl Conflicts {
             x.lookaheads.automaton.states) }
         ensures gotos { IfOk result (λ x. AreGotos (core grammar.now) (IsUsed (core grammar.now))
             x.lookaheads.automaton) }
+        ensures targets { IfOk result (λ x. HaveTargets (core grammar.now) x.lookaheads.automaton) }
         ensures lookaheads { IfOk result (λ x. AreLookaheads (core grammar.now) (IsUsed (core grammar.now))
             x.lookaheads) }
         ensures conflicts { IfOk result (λ x. AreConflicts grammar.now levels.now x.lookaheads.automaton x.conflicts) }
@@ -114,8 +115,8 @@ impl Conflicts {
         count
     }
 
-    /// How many reduce/reduce conflicts there are, as Bison counts them: at each state and token one less than there are
-    /// productions. `usize::MAX` if there are more than that.
+    /// How many reduce/reduce conflicts there are, as Bison counts them: at each state and token one less than there
+    /// are productions. `usize::MAX` if there are more than that.
     pub fn reduce_reduce(&self) -> usize
         ensures { result ≡ min (sum (map (λ (c : Conflict). length c.productions.items - 1) self.now.conflicts))
             (2 ^ 64 - 1) }

@@ -1,9 +1,10 @@
 //! What a parser can do in a state, and what precedence takes from it.
 
-ghost use Rattle.std.specs.Prelude.{◌≡◌, ◌↔◌, ◌⊎◌, ◌<◌, ℕ, [], Contains, IfOk, IsTrue, MatchOption, false, get_or, length, slice_index_or};
+ghost use Rattle.std.specs.Prelude.{◌≡◌, ◌↔◌, ◌<◌, ℕ, Contains, IfOk, IsTrue, MatchOption, false, length};
+ghost use Rattle.std.specs.Prelude.{slice_index_or};
 ghost use Rattle.std.specs.List.Sorted.{IsStrictlyIncreasing};
 ghost use Rattle.lr_conflicts.specs.Conflicts.{TakesShift, read_item};
-ghost use Rattle.lr_conflicts.specs.Inner.Choices.{AreTables, IsFirstTaker, IsReducible, IsReductionAt, IsState, Takes, items_in};
+ghost use Rattle.lr_conflicts.specs.Inner.Choices.{AreTables, IsFirstTaker, IsReductionAt, IsState, Takes, items_in};
 ghost use Rattle.lr_conflicts.specs.Precedences.{settled, token_precedence};
 
 use crate::precedences::{Settled, verdict};
@@ -15,8 +16,8 @@ use lr_lookaheads::Lookaheads;
 use lr_states::Item;
 use std::alloc::{AllocError, Global};
 
-/// What a parser goes by: a grammar, how the operators of its levels of precedences associate, and the lookaheads of its
-/// states.
+/// What a parser goes by: a grammar, how the operators of its levels of precedences associate, and the lookaheads of
+/// its states.
 #[derive(Drop)]
 pub(crate) struct Parser<'a> {
     pub(crate) alloc: Global,
@@ -82,11 +83,10 @@ impl<'a> Parser<'a> {
         ensures production { result.production ≡ production }
         ensures reduction { IsReductionAt self.now.grammar.now self.now.lookaheads.now state result }
     {
+        let item = read_item(self.grammar, production);
         Reduction {
             production,
-            tokens: self
-                .lookaheads
-                .tokens(state, read_item(self.grammar, production)),
+            tokens: self.lookaheads.tokens(state, item).unwrap(),
             precedence: production_precedence(self.grammar, production),
         }
     }

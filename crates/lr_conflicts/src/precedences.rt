@@ -17,8 +17,8 @@ pub enum Settled {
     Neither,
 }
 
-/// What precedence says, if both have one. `levels` says how the operators of each level associate, and the token itself
-/// does of a level that isn't there.
+/// What precedence says, if both have one. `levels` says how the operators of each level associate, and the token
+/// itself does of a level that isn't there.
 pub(crate) fn verdict(
     levels: &[Associativity],
     token: Option<Precedence>,

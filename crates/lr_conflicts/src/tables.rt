@@ -6,8 +6,9 @@ ghost use Rattle.cfgrammar.specs.Numbered.{core};
 ghost use Rattle.cfgrammar.specs.NumberedSymbols.{sym_of};
 ghost use Rattle.cfgrammar.specs.Openings.{nth_production};
 ghost use Rattle.lr_conflicts.specs.Conflicts.{read_item};
-ghost use Rattle.lr_conflicts.specs.Inner.Choices.{IsReducible, IsShiftedBy};
+ghost use Rattle.lr_conflicts.specs.Inner.Choices.{IsReducible};
 ghost use Rattle.lr_conflicts.specs.Precedences.{production_precedence, token_precedence};
+ghost use Rattle.lr_conflicts.specs.Tables.{IsShiftedBy};
 
 use cfgrammar::storage::to_storage;
 use cfgrammar::yacc::{Precedence, YaccGrammar};
@@ -36,8 +37,8 @@ pub(crate) fn next_symbol(grammar: &YaccGrammar<u32>, item: Item) -> Option<Symb
     symbols_of(grammar, item.production).get(item.read).copied()
 }
 
-/// The item with all symbols of the production read.
-pub(crate) fn read_item(grammar: &YaccGrammar<u32>, production: usize) -> Item
+/// The item with all symbols of a production read. A production that the grammar doesn't have has no symbols.
+pub fn read_item(grammar: &YaccGrammar<u32>, production: usize) -> Item
     ensures { result ≡ read_item grammar.now production }
 {
     Item {
@@ -55,9 +56,9 @@ pub(crate) fn is_reducible(grammar: &YaccGrammar<u32>, item: Item) -> bool
         && item == read_item(grammar, item.production)
 }
 
-/// The token that can be shifted by the item: the one that is next; or if the production of the start rule is read, the
-/// end token.
-pub(crate) fn shifted_token(grammar: &YaccGrammar<u32>, item: Item) -> Option<usize>
+/// The token that a parser can shift by an item: the one that is next; or if the production of the start rule is read,
+/// the end token, by which it accepts. None if another symbol is next, or none.
+pub fn shifted_token(grammar: &YaccGrammar<u32>, item: Item) -> Option<usize>
     ensures is { (t : ℕ) → (result ≡ Some t) ↔ IsShiftedBy grammar.now item t }
     ensures within { IfSome result (λ t. t < length grammar.now.tokens) }
 {

@@ -7,7 +7,8 @@ use Rattle.cfgrammar.specs.Grammar.{Grammar, IsGrammar, IsSymbolOf, Production, 
 use Rattle.cfgrammar.proofs.Contained.{contains_first}
 use Rattle.cfgrammar.specs.Openings.{nth_production}
 use Rattle.lr_states.specs.declared.Item.{Item}
-use Rattle.lr_lookaheads.specs.Inner.Graph.{Shows, rest_of}
+use Rattle.lr_lookaheads.specs.Lookaheads.{Shows}
+use Rattle.lr_lookaheads.specs.Inner.Graph.{rest_of}
 
 module _ (g : Grammar) (grammar : IsGrammar g) where
   pub rule_within : (p : ℕ) → (nth_production g p).rule < g.rules

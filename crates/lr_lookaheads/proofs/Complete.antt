@@ -15,8 +15,8 @@ use Rattle.lr_states.specs.Viable.{AreStates, HasNext, IsStateOf, IsValid, IsVia
 use Rattle.lr_states.specs.Automaton.{AreGotos, Automaton, IsGoto, goto_of}
 use Rattle.lr_states.proofs.Spines.{more_read, slice_at}
 use Rattle.lr_states.proofs.Closed.{next_symbol}
-use Rattle.lr_lookaheads.specs.Lookaheads.{HasUsed, IsLookahead, MayBegin, begins, ends}
-use Rattle.lr_lookaheads.specs.Inner.Graph.{LeadsTo, Node, Shows, begun, next, node_at, rest_of, shown, token}
+use Rattle.lr_lookaheads.specs.Lookaheads.{HasUsed, IsLookahead, MayBegin, Shows, begins, ends}
+use Rattle.lr_lookaheads.specs.Inner.Graph.{LeadsTo, Node, begun, next, node_at, rest_of, shown, token}
 use Rattle.lr_lookaheads.specs.Inner.Graph as graph
 use Rattle.lr_lookaheads.proofs.Firsts.{BeginsIn, SymbolBegins, begins_in, begins_none, begins_shows, first, second}
 

@@ -6,8 +6,7 @@ use Rattle.cfgrammar.specs.First.{First, Nullable}
 use Rattle.cfgrammar.specs.FirstSets.{Begins}
 use Rattle.derivation.proofs.Concatenation.{derives_both, derives_right, derives_trans}
 use Rattle.derivation.proofs.Firsts.{begins_derived, begins_derives, begins_parts, derived_closed, nullable_derived, nullable_derives, nullable_parts}
-use Rattle.lr_lookaheads.specs.Lookaheads.{HasUsed, MayBegin, begins, ends}
-use Rattle.lr_lookaheads.specs.Inner.Graph.{Shows}
+use Rattle.lr_lookaheads.specs.Lookaheads.{HasUsed, MayBegin, Shows, begins, ends}
 
 -- a symbol that begins with the token: the token itself, or a rule of which F says so
 abbrev pub SymbolBegins : (ℕ → ℕ → Type 0) → Sym → ℕ → Type 0

@@ -12,17 +12,19 @@ use Rattle.lr_states.specs.Automaton.{AreGotos, Automaton, HaveTargets, IsGoto, 
 use Rattle.lr_states.specs.Viable.{AreStates, HasNext, IsStateOf, IsValid, Spine, inner, item_at, start}
 use Rattle.lr_states.proofs.Closed.{next_symbol, next_within}
 use Rattle.lr_states.proofs.Spines.{read_back, read_one, slice_at}
-use Rattle.lr_lookaheads.specs.Lookaheads.{HasUsed, IsLookahead}
-use Rattle.lr_lookaheads.specs.Inner.Graph.{LeadsTo, Node, Shows, begun, next, node_at, read, rest_of, shown, token}
+use Rattle.search.proofs.PathGroups.{contains_there}
+use Rattle.lr_states.proofs.Targets.{target_state}
+use Rattle.lr_lookaheads.specs.Lookaheads.{HasUsed, IsLookahead, Shows}
+use Rattle.lr_lookaheads.specs.Inner.Graph.{LeadsTo, Node, begun, next, node_at, read, rest_of, shown, token}
 use Rattle.lr_lookaheads.specs.Inner.Graph as graph
 use Rattle.lr_lookaheads.specs.Inner.Reached.{Leads}
 use Rattle.lr_lookaheads.specs.Inner.Numbers.{AreNumbers, IsNode, Numbers, at_place, at_start, block_of, by_target, item_number, next_number, number, place_of_item, shown_number}
-use Rattle.lr_lookaheads.specs.Inner.Edges.{EndEdge, IsEdge, ItemEdge, ProductionEdge, ShowsFrom, TargetEdge, at_end, back_of, before_number, by_production, rule_at}
+use Rattle.lr_lookaheads.specs.Inner.Edges.{IsEdge, ItemEdge, at_end, before_number, by_production, rule_at}
 use Rattle.lr_lookaheads.specs.Inner.Edges as made
 use Rattle.lr_lookaheads.proofs.Bounds.{rest_within, rule_within, shown_within, symbols_within}
 use Rattle.lr_lookaheads.proofs.Reaching.{lookaheads_are_reached}
 use Rattle.lr_lookaheads.proofs.Numbering.{injective, number_within}
-use Rattle.lr_lookaheads.proofs.Places.{contains_at, item_placed, place_holds, rule_placed, target_found, target_state}
+use Rattle.lr_lookaheads.proofs.Places.{item_placed, place_holds, rule_placed, target_found}
 
 -- the symbol with the number of a rule
 rule_symbol : (rules : ℕ) (x : Sym) (k : ℕ) → symbol_number rules x ≡ k → k < rules → x ≡ Rule k
@@ -96,7 +98,7 @@ module _ (g : Grammar) (grammar : IsGrammar g) (Used : ℕ → Type 0) (bound : 
   next_node q within item among rule at =
       let goes = goes_on q within item among (Rule rule) at in
       let (place, is) = target_for q (Rule rule) goes.state goes.goes in
-      (within, next_symbol g grammar item (Rule rule) at, by_target (record { symbol = rule; state = goes.state }) (contains_at (targets_at q) place _ is) refl)
+      (within, next_symbol g grammar item (Rule rule) at, by_target (record { symbol = rule; state = goes.state }) (contains_there (targets_at q) place _ is) refl)
 
   pub symbol_node : (symbol : Sym) → IsSymbolOf g symbol → IsNode g x (shown symbol)
   symbol_node (Rule r) is = is
@@ -144,13 +146,13 @@ module _ (g : Grammar) (grammar : IsGrammar g) (Used : ℕ → Type 0) (bound : 
   pub moves : (q place : ℕ) (target : Target) (index : ℕ) (item : Item) → q < length x.states → slice_get (targets_at q) place ≡ Some target
       → slice_get (items_at target.state) index ≡ Some item → 0 < item.read → Moves q target item
   moves q place target index item within at is some =
-      let (symbol, known, num) = ready.symbols q within target (contains_at (targets_at q) place target at) in
+      let (symbol, known, num) = ready.symbols q within target (contains_there (targets_at q) place target at) in
       let goes : goto_of x q symbol ≡ Some target.state = ap (λ m. target_of (targets_at q) (symbol_number m symbol)) ready.rules ∙ ap (target_of (targets_at q)) num
       ∙ target_state (targets_at q) (ready.ascending q within) place target at in
       let leads = goto_as q symbol target.state (goto_of x q symbol) goes (gotos q within symbol known) in
       let (prefix, viable, state) = are.only q within in
       let more : item.read - 1 + 1 ≡ item.read = omega (arith, some) in
-      let valid = (leads.1 prefix state item).0 (contains_at (items_at target.state) index item is) in
+      let valid = (leads.1 prefix state item).0 (contains_there (items_at target.state) index item is) in
       let back = read_back g Used prefix symbol item.production (item.read - 1) (subst (λ m. IsValid g Used (prefix ++ symbol ∷ []) (item_at item.production m)) (sym more) valid) in
       record {
         symbol = symbol;
@@ -206,7 +208,7 @@ module _ (g : Grammar) (grammar : IsGrammar g) (Used : ℕ → Type 0) (bound : 
       record {
         from = read target.state item;
         to = node_at g q before;
-        source = (m.inside, some, contains_at (items_at target.state) index item is);
+        source = (m.inside, some, contains_there (items_at target.state) index item is);
         dest = item_node q within before m.among;
         first = first ∙ ap (λ k. (block_of n target.state).items + k) (sym (item_placed (items_at target.state) (are.sorted target.state m.inside) index item is));
         second = second ∙ item_is q before (next_within g before m.symbol m.next);

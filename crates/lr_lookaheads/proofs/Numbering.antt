@@ -6,10 +6,11 @@ use Rattle.lr_states.specs.declared.Item.{Item}
 use Rattle.lr_states.specs.declared.kernels.Target.{Target}
 use Rattle.lr_states.specs.Automaton.{Automaton, HaveTargets}
 use Rattle.lr_states.specs.Viable.{AreSorted}
+use Rattle.search.proofs.PathGroups.{contains_at}
 use Rattle.lr_lookaheads.specs.declared.nodes.Block.{Block}
 use Rattle.lr_lookaheads.specs.Inner.Graph.{Node, begun, next, read, token}
 use Rattle.lr_lookaheads.specs.Inner.Numbers.{AreNumbers, IsBlock, IsNext, IsNode, Numbers, at_place, block_of, number, place_of_item, place_of_rule, at_start, by_target}
-use Rattle.lr_lookaheads.proofs.Places.{at_contains, place_cases, place_holds, rule_placed}
+use Rattle.lr_lookaheads.proofs.Places.{place_cases, place_holds, rule_placed}
 
 module _ (g : Grammar) (x : Automaton) (n : Numbers) (are : AreNumbers g x n) (ready : HaveTargets g x)
     (sorted : (q : ℕ) → q < length x.states → AreSorted (get_or x.states q [])) where
@@ -76,7 +77,7 @@ module _ (g : Grammar) (x : Automaton) (n : Numbers) (are : AreNumbers g x n) (r
           placed place target at same here (omega (arith, here, end))
       go None e (at_start zero first) = alone zero first (ap (at_place (n.tokens + n.rules) (block q).rules) (sym e))
       go None e (by_target target h same) =
-          let (i, at) = at_contains (targets_at q) target h in
+          let (i, at) = contains_at (targets_at q) target h in
           let some : place_of_rule (targets_at q) rule ≡ Some i = subst (λ r. place_of_rule (targets_at q) r ≡ Some i) same (rule_placed (targets_at q) (ready.ascending q within) i target at) in
           absurd (cc)
 

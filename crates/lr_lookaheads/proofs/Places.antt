@@ -1,27 +1,24 @@
 -- Where an item or a target is in its list.
 use Rattle.std.proofs.Common.{◌≡◌, ◌==◌, inl, inr, ℕ, zero, suc, ◌+◌, ◌<◌, ◌≤◌, Bool, true, false, cond, not, nat_lt, ◌↔◌, List, [], ◌∷◌, Option, None, Some, Contains, get_or, length, slice_get, refl, sym, ap, subst, ◌∙◌, arith, ltb, lt-ltb, true≢false}
 use Rattle.std.specs.Bool.{Decides}
-use Rattle.std.specs.List.{position_or_len}
+use Rattle.std.specs.List.{list_any, position_or_len}
 use Rattle.std.specs.List.Sorted.{IsPartitionPoint, IsPartitionedBy}
 use Rattle.std.proofs.lemmas.Bool.{cases_Bool, cases_eq, cases_lt, ltb-true}
 use Rattle.std.proofs.lemmas.Bool.Decides.{Decides-and, Decides-eqb, Decides-like, Decides-ltb}
+use Rattle.std.proofs.lemmas.List.Folds.{Any-from_list_any, list_any_at}
 use Rattle.std.proofs.lemmas.Option.{get_or_from_slice_get, slice_get-get_or, slice_get_within}
 use Rattle.cfgrammar.proofs.Elements.{element_at}
 use Rattle.lr_states.specs.declared.Item.{Item}
 use Rattle.lr_states.specs.declared.kernels.Target.{Target}
 use Rattle.lr_states.specs.Automaton.{AreAscending, target_of}
 use Rattle.lr_states.specs.Viable.{AreSorted, IsBefore}
+use Rattle.search.proofs.PathGroups.{contains_at, contains_there}
 use Rattle.lr_states.proofs.Order.{before_not_after}
+use Rattle.lr_states.proofs.Targets.{not_same, symbol_missing, symbol_rises}
 use Rattle.lr_lookaheads.specs.Lookaheads.{is_item}
 use Rattle.lr_lookaheads.specs.Inner.Numbers.{place_of_item, place_of_rule}
 
 module _ {A : Type 0} where
-  pub contains_at : (xs : List A) (i : ℕ) (x : A) → slice_get xs i ≡ Some x → Contains xs x
-  contains_at xs i x at = (i, slice_get_within xs i x at, get_or_from_slice_get xs i x x at)
-
-  pub at_contains : (xs : List A) (x : A) → Contains xs x → (i : ℕ) × (slice_get xs i ≡ Some x)
-  at_contains xs x (i, within, is) = (i, slice_get-get_or xs i x within ∙ ap Some is)
-
   -- the first element that passes a test
   pub first_passes : (p : A → Bool) (xs : List A) → position_or_len p xs < length xs → (x : A) × (slice_get xs (position_or_len p xs) ≡ Some x) × (p x ≡ true)
   first_passes p [] within = absurd (omega (arith, within))
@@ -42,6 +39,15 @@ same_item a b = Decides-like _
     (λ e. (ap (λ (z : Item). z.production) e, ap (λ (z : Item). z.read) e))
     (Decides-and _ _ (Decides-eqb a.production b.production) (Decides-eqb a.read b.read))
 
+-- whether the item is in the list
+pub any_item : (items : List Item) (item : Item) → (list_any (λ other. is_item other item) items ≡ true) ↔ Contains items item
+any_item items item = (
+  (λ found.
+      let (i, other, within, at, same) = Any-from_list_any (λ other. is_item other item) items found in
+      subst (Contains items) ((same_item other item).0 same) (i, within, at)),
+  (λ has. let (i, within, at) = has in list_any_at (λ other. is_item other item) items i item within ((same_item (get_or items i item) item).1 at)),
+)
+
 before_apart : (a b : Item) → IsBefore a b → is_item b a ≡ false
 before_apart a b before = elim (cases_Bool (is_item b a)) [
   | inl same ↦ let itself = subst (IsBefore a) ((same_item b a).0 same) before in absurd (before_not_after a a itself itself)
@@ -54,20 +60,17 @@ item_placed (x ∷ items) sorted zero item at =
     let same : x ≡ item = cc in
     ap (λ b. cond (not b) (1 + place_of_item items item) 0) ((same_item item x).1 (sym same))
 item_placed (x ∷ items) sorted (suc i) item at =
-    ap (λ b. cond (not b) (1 + place_of_item items item) 0) (before_apart x item (sorted.0 item (contains_at items i item at)))
+    ap (λ b. cond (not b) (1 + place_of_item items item) 0) (before_apart x item (sorted.0 item (contains_there items i item at)))
     ∙ (let later = item_placed items sorted.1 i item at in omega (arith, later))
 
 -- the place of an item of the list
 pub place_holds : (items : List Item) → AreSorted items → (item : Item) → Contains items item → slice_get items (place_of_item items item) ≡ Some item
 place_holds items sorted item h =
-    let (i, at) = at_contains items item h in
+    let (i, at) = contains_at items item h in
     subst (λ n. slice_get items n ≡ Some item) (sym (item_placed items sorted i item at)) at
 
 abbrev is_for : ℕ → Target → Bool
 is_for rule target = target.symbol == rule
-
-not_same : (a b : ℕ) → a < b → (a == b) ≡ false
-not_same a b lt = elim (cases_Bool (a == b)) [ inl same ↦ absurd (omega (arith, lt, (Decides-eqb a b).0 same)) | inr apart ↦ apart ]
 
 first_target : (targets : List Target) → AreAscending targets → (i : ℕ) (target : Target) → slice_get targets i ≡ Some target
     → position_or_len (is_for target.symbol) targets ≡ i
@@ -76,7 +79,7 @@ first_target (t ∷ targets) ascending zero target at =
     let same : t ≡ target = cc in
     ap (λ b. cond (not b) (1 + position_or_len (is_for target.symbol) targets) 0) ((Decides-eqb t.symbol target.symbol).1 (ap (λ (u : Target). u.symbol) same))
 first_target (t ∷ targets) ascending (suc i) target at =
-    ap (λ b. cond (not b) (1 + position_or_len (is_for target.symbol) targets) 0) (not_same t.symbol target.symbol (ascending.0 target (contains_at targets i target at)))
+    ap (λ b. cond (not b) (1 + position_or_len (is_for target.symbol) targets) 0) (not_same t.symbol target.symbol (ascending.0 target (contains_there targets i target at)))
     ∙ (let later = first_target targets ascending.1 i target at in omega (arith, later))
 
 pub rule_placed : (targets : List Target) → AreAscending targets → (i : ℕ) (target : Target) → slice_get targets i ≡ Some target
@@ -97,17 +100,6 @@ place_cases targets rule o is i some = go (nat_lt (position_or_len (is_for rule)
         let (target, at, passes) = first_passes (is_for rule) targets ((Decides-ltb _ _).0 lt) in
         (target, subst (λ n. slice_get targets n ≡ Some target) (sym here) at, (Decides-eqb target.symbol rule).0 passes)
     go false lt same = absurd (cc)
-
--- the state of a target
-pub target_state : (targets : List Target) → AreAscending targets → (i : ℕ) (target : Target) → slice_get targets i ≡ Some target → target_of targets target.symbol ≡ Some target.state
-target_state [] ascending i target at = absurd (cc)
-target_state (t ∷ targets) ascending zero target at =
-    let same : t ≡ target = cc in
-    ap (λ b. cond b (Some t.state) (target_of targets target.symbol)) ((Decides-eqb t.symbol target.symbol).1 (ap (λ (u : Target). u.symbol) same))
-    ∙ ap (λ (u : Target). Some u.state) same
-target_state (t ∷ targets) ascending (suc i) target at =
-    ap (λ b. cond b (Some t.state) (target_of targets target.symbol)) (not_same t.symbol target.symbol (ascending.0 target (contains_at targets i target at)))
-    ∙ target_state targets ascending.1 i target at
 
 pub target_found : (targets : List Target) (symbol state : ℕ) → target_of targets symbol ≡ Some state → (i : ℕ) × (slice_get targets i ≡ Some (record { symbol = symbol; state = state }))
 target_found [] symbol state is = absurd (cc)
@@ -142,22 +134,13 @@ read_falls [] sorted i j a b most at there = absurd (cc)
 read_falls (x ∷ items) sorted zero zero a b most at there = let same : a ≡ b = cc in let reads = ap (λ (z : Item). z.read) same in omega (arith, reads)
 read_falls (x ∷ items) sorted zero (suc j) a b most at there =
     let same : x ≡ a = cc in
-    subst (λ (z : Item). b.read ≤ z.read) same (before_reads x b (sorted.0 b (contains_at items j b there)))
+    subst (λ (z : Item). b.read ≤ z.read) same (before_reads x b (sorted.0 b (contains_there items j b there)))
   where
     before_reads : (a b : Item) → IsBefore a b → b.read ≤ a.read
     before_reads a b (inl less) = omega (arith, less)
     before_reads a b (inr same) = let reads = same.0 in omega (arith, reads)
 read_falls (x ∷ items) sorted (suc i) zero a b most at there = absurd (omega (arith, most))
 read_falls (x ∷ items) sorted (suc i) (suc j) a b most at there = read_falls items sorted.1 i j a b (omega (arith, most)) at there
-
-pub symbol_rises : (targets : List Target) → AreAscending targets → (i j : ℕ) (a b : Target) → i ≤ j → slice_get targets i ≡ Some a → slice_get targets j ≡ Some b → a.symbol ≤ b.symbol
-symbol_rises [] ascending i j a b most at there = absurd (cc)
-symbol_rises (t ∷ targets) ascending zero zero a b most at there = let same : a ≡ b = cc in let symbols = ap (λ (z : Target). z.symbol) same in omega (arith, symbols)
-symbol_rises (t ∷ targets) ascending zero (suc j) a b most at there =
-    let same : t ≡ a = cc in
-    let less = subst (λ (z : Target). z.symbol < b.symbol) same (ascending.0 b (contains_at targets j b there)) in omega (arith, less)
-symbol_rises (t ∷ targets) ascending (suc i) zero a b most at there = absurd (omega (arith, most))
-symbol_rises (t ∷ targets) ascending (suc i) (suc j) a b most at there = symbol_rises targets ascending.1 i j a b (omega (arith, most)) at there
 
 pub reads_first : (items : List Item) → AreSorted items → (n : ℕ) → ((i : ℕ) (item : Item) → i < n → slice_get items i ≡ Some item → 0 < item.read) → ((item : Item) → slice_get items n ≡ Some item → item.read ≡ 0)
     → (i : ℕ) (item : Item) → slice_get items i ≡ Some item → (0 < item.read) ↔ (i < n)
@@ -191,27 +174,6 @@ no_place targets rule none = go (place_of_rule targets rule) refl
     go None e = e
     go (Some i) e = let (target, at, same) = place_cases targets rule (Some i) e i refl in absurd (none i target at same)
 
-pub rules_parted : (targets : List Target) → AreAscending targets → (rule : ℕ) → IsPartitionedBy (λ (target : Target). ltb target.symbol rule) targets
-rules_parted targets ascending rule i j d most within low =
-    let less = symbol_rises targets ascending i j (get_or targets i d) (get_or targets j d) most (slice_get-get_or targets i d (omega (arith, most, within))) (slice_get-get_or targets j d within) in
-    let below = ltb-true (get_or targets j d).symbol rule low in
-    lt-ltb (get_or targets i d).symbol rule (omega (arith, less, below))
-
 pub rule_missing : (targets : List Target) → AreAscending targets → (rule place : ℕ) → IsPartitionPoint (λ (target : Target). ltb target.symbol rule ≡ true) (λ (target : Target). ltb target.symbol rule ≡ false) targets place
     → (d : Target) → (place < length targets → (get_or targets place d).symbol ≡ rule → ⊥) → None ≡ place_of_rule targets rule
-rule_missing targets ascending rule place (low, high) d none = no_place targets rule (λ i target at same.
-    let within = slice_get_within targets i target at in
-    let read = get_or_from_slice_get targets i target d at in
-    elim (cases_lt i place) [
-      | inl early ↦
-          let less = ltb-true target.symbol rule (subst (λ (t : Target). ltb t.symbol rule ≡ true) read (low i d (omega arith) early)) in
-          omega (arith, less, same)
-      | inr late ↦
-          let there : place < length targets = omega (arith, late, within) in
-          let least = ge-from-ltb (get_or targets place d).symbol rule (high place d (omega arith) there) in
-          let most = symbol_rises targets ascending place i (get_or targets place d) target late (slice_get-get_or targets place d there) at in
-          none there (omega (arith, least, most, same))
-    ])
-  where
-    ge-from-ltb : (a b : ℕ) → ltb a b ≡ false → b ≤ a
-    ge-from-ltb a b e = elim (cases_lt a b) [ inl less ↦ absurd (true≢false (sym (lt-ltb a b less) ∙ e)) | inr most ↦ most ]
+rule_missing targets ascending rule place point d none = no_place targets rule (symbol_missing targets ascending rule place point d none)

@@ -11,6 +11,8 @@ use Rattle.lr_states.specs.declared.Item.{Item}
 use Rattle.lr_states.specs.declared.kernels.Target.{Target}
 use Rattle.lr_states.specs.Automaton.{Automaton, IsGoto, goto_of, symbol_number, target_of}
 use Rattle.lr_states.specs.Viable.{IsUsed, item_at}
+use Rattle.search.proofs.PathGroups.{contains_there}
+use Rattle.lr_states.proofs.Targets.{target_state}
 use Rattle.lr_lookaheads.specs.Lookaheads.{HasUsed}
 use Rattle.lr_lookaheads.specs.Inner.Numbers.{AreReady, IsBlock, Numbers, block_of}
 use Rattle.lr_lookaheads.specs.Inner.Edges.{AddsEdges, Below, EndEdge, IsEdge, ItemEdge, KernelEdge, ProductionEdge, ShowsFrom, StateEdge, TargetEdge, at_end, back, back_of, before_number, by_production, by_target, comes, ends, rule_at}
@@ -18,7 +20,6 @@ use Rattle.lr_lookaheads.specs.Inner.Reached.{Leads}
 use Rattle.lr_lookaheads.proofs.Adds.{IsOne, adds_as, adds_then}
 use Rattle.lr_lookaheads.proofs.MadeEdges.{moves}
 use Rattle.lr_lookaheads.proofs.Numbering.{block_before, block_is}
-use Rattle.lr_lookaheads.proofs.Places.{contains_at, target_state}
 use Rattle.lr_lookaheads.proofs.Ready.{production_within, used_within}
 
 module _ (g : Grammar) (Used : ℕ → Type 0) (n : Numbers) (x : Automaton) (q : ℕ) (item : Item) (after : ℕ) (node : ℕ) (is : node ≡ before_number g Used n x q item) where
@@ -67,7 +68,7 @@ module _ (g : Grammar) (x : Automaton) (n : Numbers) (r : AreReady g x n) (q : �
 
   pub target_inside : target.state < length x.states
   target_inside =
-      let (symbol, known, num) = r.targets.symbols q within target (contains_at (get_or x.targets q []) place target at) in
+      let (symbol, known, num) = r.targets.symbols q within target (contains_there (get_or x.targets q []) place target at) in
       let goes : goto_of x q symbol ≡ Some target.state = ap (λ m. target_of (get_or x.targets q []) (symbol_number m symbol)) r.targets.rules
       ∙ ap (target_of (get_or x.targets q [])) num ∙ target_state (get_or x.targets q []) (r.targets.ascending q within) place target at in
       (subst (IsGoto g Used x.states q symbol) goes (r.gotos q within symbol known)).0
@@ -94,7 +95,7 @@ module _ (g : Grammar) (x : Automaton) (n : Numbers) (r : AreReady g x n) (q : �
       let item = get_or (get_or x.states target.state []) index d in
       let is = slice_get-get_or (get_or x.states target.state []) index d (omega (arith, below, first, inside)) in
       let some = (b.reads index item is).1 (omega (arith, below, first)) in
-      let among = contains_at (get_or x.states target.state []) index item is in
+      let among = contains_there (get_or x.states target.state []) index item is in
       let m = moves g r.grammar Used (used_within g x n r) x n r.numbers r.targets r.states r.gotos q place target index item within at is some in
       let (prefix, viable, state) = r.states.only target.state target_inside in
       record {

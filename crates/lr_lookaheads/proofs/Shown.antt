@@ -8,8 +8,7 @@ use Rattle.derivation.proofs.Concatenation.{derives_both}
 use Rattle.derivation.proofs.UnitPaths.{empty_in_parts}
 use Rattle.lr_states.proofs.Spines.{split_at}
 use Rattle.lr_states.specs.Automaton.{Automaton}
-use Rattle.lr_lookaheads.specs.Lookaheads.{HasUsed}
-use Rattle.lr_lookaheads.specs.Inner.Graph.{Shows}
+use Rattle.lr_lookaheads.specs.Lookaheads.{HasUsed, Shows}
 use Rattle.lr_lookaheads.specs.Inner.Numbers.{Numbers, shown_number}
 use Rattle.lr_lookaheads.specs.Inner.Edges.{AddsEdges, ShowsFrom}
 use Rattle.lr_lookaheads.proofs.Adds.{IsOne, adds_as, adds_none, adds_then}

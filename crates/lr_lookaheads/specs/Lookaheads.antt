@@ -15,6 +15,13 @@ pub record HasUsed (g : Grammar) (Used : ℕ → Type 0) (rule : ℕ) (symbols :
   pub owner : (nth_production g index).rule ≡ rule
   pub is : (nth_production g index).symbols ≡ symbols
 
+-- this symbol comes after nullable ones
+pub record Shows (g : Grammar) (Used : ℕ → Type 0) (symbols : List Sym) (x : Sym) : Type 0 where
+  pub before : List Sym
+  pub after : List Sym
+  pub nullable : Derives (HasUsed g Used) before []
+  pub is : symbols ≡ before ++ x ∷ after
+
 -- by used productions the symbols derive a list that begins with the token; or the empty list, and it is the end token
 pub data MayBegin (g : Grammar) (Used : ℕ → Type 0) (symbols : List Sym) (t : ℕ) : Type 0 where
   begins : (rest : List Sym) → Derives (HasUsed g Used) symbols (Token t ∷ rest) → MayBegin g Used symbols t

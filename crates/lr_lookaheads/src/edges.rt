@@ -153,8 +153,8 @@ impl<'a> Graph<'a> {
         }
     }
 
-    /// The edges of an item before its last symbol was read in a state, by the item after that, and that one's node; and
-    /// by the node of the symbol if it is a rule.
+    /// The edges of an item before its last symbol was read in a state, by the item after that, and that one's node;
+    /// and by the node of the symbol if it is a rule.
     fn push_item(
         &self,
         edges: &mut ListTable<usize>,

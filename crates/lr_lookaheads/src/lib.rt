@@ -1,14 +1,14 @@
-//! The lookaheads of a grammar's LALR(1) parser: the tokens that may come after a production where the parser has read all
-//! of it (DeRemer and Pennello, Efficient computation of LALR(1) look-ahead sets, 1982).
+//! The lookaheads of a grammar's LALR(1) parser: the tokens that may come after a production where the parser has
+//! read all of it (DeRemer and Pennello, Efficient computation of LALR(1) look-ahead sets, 1982).
 #![tactic(auto)]
 
 mod edges;
 mod nodes;
 mod reached;
 
-ghost use Rattle.std.specs.Prelude.{◌≡◌, ◌<◌, [], Contains, IfOk, get_or, length};
+ghost use Rattle.std.specs.Prelude.{◌≡◌, ◌↔◌, ◌<◌, [], None, Contains, IfOk, IfSome, IsTrue, get_or, length};
 ghost use Rattle.cfgrammar.specs.Numbered.{core};
-ghost use Rattle.lr_states.specs.Automaton.{AreGotos};
+ghost use Rattle.lr_states.specs.Automaton.{AreGotos, HaveTargets};
 ghost use Rattle.lr_states.specs.Viable.{AreStates, IsUsed};
 ghost use Rattle.lr_lookaheads.specs.Lookaheads.{AreLookaheads, tokens_of};
 
@@ -53,6 +53,7 @@ impl Lookaheads {
     pub fn of(alloc: Global, grammar: &YaccGrammar<u32>) -> Result<Self, AllocError>
         ensures states { IfOk result (λ x. AreStates (core grammar.now) (IsUsed (core grammar.now)) x.automaton.states) }
         ensures gotos { IfOk result (λ x. AreGotos (core grammar.now) (IsUsed (core grammar.now)) x.automaton) }
+        ensures targets { IfOk result (λ x. HaveTargets (core grammar.now) x.automaton) }
         ensures lookaheads { IfOk result (λ x. AreLookaheads (core grammar.now) (IsUsed (core grammar.now)) x) }
     {
         grammar.invariant_holds();
@@ -83,13 +84,26 @@ impl Lookaheads {
         &self.states
     }
 
-    /// The tokens that may come after an item's production where a parser is in a state: a bit for each token.
-    pub fn tokens(&self, state: usize, item: Item) -> &Vob
-        requires state { state < length self.now.automaton.states }
-        requires item { Contains (get_or self.now.automaton.states state []) item }
-        ensures { result.now ≡ tokens_of self.now state item }
+    /// The tokens that may come after an item's production where a parser is in a state: a bit for each token. None
+    /// if the state doesn't have the item.
+    pub fn tokens(&self, state: usize, item: Item) -> Option<&Vob>
+        ensures some { IfSome result (λ row. row.now ≡ tokens_of self.now state item) }
+        ensures none { (result ≡ None) ↔ ((state < length self.now.automaton.states)
+            × Contains (get_or self.now.automaton.states state []) item → ⊥) }
     {
-        self.reached
-            .row(self.nodes.of_item(&self.states, state, item))
+        if has_item(&self.states, state, item) {
+            let node = self.nodes.of_item(&self.states, state, item);
+            Some(self.reached.row(node))
+        } else {
+            None
+        }
     }
+}
+
+/// Whether a state has an item.
+#[tactic(auto, using(crate::proofs::Places::any_item))]
+fn has_item(states: &States, state: usize, item: Item) -> bool
+    ensures { IsTrue result ↔ ((state < length states.now.states) × Contains (get_or states.now.states state []) item) }
+{
+    state < states.len() && states.items(state).contains(&item)
 }

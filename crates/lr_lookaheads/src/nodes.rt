@@ -1,7 +1,8 @@
 //! The numbers of the nodes of a graph: those of the tokens come first, then those of the rules, then one for the start
 //! rule in the first state, and then those of each state.
 
-ghost use Rattle.std.specs.Prelude.{◌≡◌, ◌↔◌, ◌+◌, ◌<◌, ◌≤◌, ℕ, [], Some, Contains, IfOk, IfSome, get_or, length, slice_get};
+ghost use Rattle.std.specs.Prelude.{◌≡◌, ◌↔◌, ◌+◌, ◌<◌, ◌≤◌, ℕ, [], Some, Contains, IfOk, IfSome, get_or, length};
+ghost use Rattle.std.specs.Prelude.{slice_get};
 ghost use Rattle.cfgrammar.specs.Grammar.{Grammar};
 ghost use Rattle.cfgrammar.specs.Numbered.{core};
 ghost use Rattle.cfgrammar.specs.NumberedSymbols.{sym_of};

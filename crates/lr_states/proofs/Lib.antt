@@ -1,5 +1,6 @@
 pub mod Spines
 pub mod Order
+pub mod Targets
 pub mod Closed
 pub mod Bits
 pub mod Rules

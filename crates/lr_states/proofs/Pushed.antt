@@ -2,7 +2,7 @@
 use Rattle.std.proofs.Common.{◌≡◌, ◌↔◌, ◌⊎◌, inl, inr, ℕ, ◌+◌, ◌<◌, List, [], ◌∷◌, ◌++◌, Contains, refl, sym, ap, subst, arith}
 use Rattle.std.proofs.lemmas.Bool.{cases_eq}
 use Rattle.std.proofs.lemmas.List.Elements.{Contains-append_left, Contains-push, Contains-push_cases}
-use Rattle.search.specs.Reachable.{Reachable}
+use Rattle.search.specs.Reachable.{Reachable, led, seed}
 use Rattle.cfgrammar.specs.Grammar.{Grammar}
 use Rattle.cfgrammar.specs.Openings.{nth_production}
 use Rattle.lr_states.specs.declared.Item.{Item}
@@ -82,4 +82,18 @@ pushed_all g Used Reached kernel i items are within is = record {
     ])),
   );
   sorted = are.sorted;
+}
+
+no_seeds : {Seed : ℕ → Type 0} {Leads : ℕ → ℕ → Type 0} → ((n : ℕ) → Seed n → ⊥) → {n : ℕ} → Reachable Seed Leads n → ⊥
+no_seeds none (seed {a = n} h) = none n h
+no_seeds none (led h k) = no_seeds none h
+
+-- without such rules nothing is pushed
+pub closed_kernel : (g : Grammar) (Used : ℕ → Type 0) (kernel items : List Item) → items ≡ kernel → ((rule : ℕ) → IsSeed g kernel rule → ⊥) → IsClosure g Used kernel items
+closed_kernel g Used kernel items is none = record {
+  all = λ item. (
+    (λ h. inl (subst (λ l. Contains l item) is h)),
+    (λ h. elim h [ inl among ↦ subst (λ l. Contains l item) (sym is) among | inr e ↦ absurd (no_seeds none e.reached) ]),
+  );
+  sorted = λ sorted some. subst AreSorted (sym is) sorted;
 }

@@ -1,6 +1,6 @@
 //! The items of a state by those with symbols read.
 
-ghost use Rattle.std.specs.Prelude.{◌≡◌, ◌↔◌, ◌<◌, ℕ, [], Contains, IfOk, IsTrue, OnOk, length};
+ghost use Rattle.std.specs.Prelude.{◌≡◌, ◌↔◌, ◌<◌, ℕ, [], Contains, IfOk, IsTrue, OnOk, false, length};
 ghost use Rattle.cfgrammar.specs.Grammar.{Rule};
 ghost use Rattle.cfgrammar.specs.Numbered.{core};
 ghost use Rattle.cfgrammar.specs.Openings.{nth_production};
@@ -73,9 +73,12 @@ impl<'a> Used<'a> {
         ensures { IfOk result (λ items. IsClosure (core self.now.grammar.now) (IsOn self.now.bits)
             kernel.now items.items) }
     {
-        let search = self.entered(alloc, kernel)?;
         let mut items = kernel.to_vec(alloc)?;
-        self.push_entered(&search, &mut items)?;
+        // Most states have none, and a search through all rules would be long.
+        if has_seed(self.grammar, kernel) {
+            let search = self.entered(alloc, kernel)?;
+            self.push_entered(&search, &mut items)?;
+        }
         Ok(items)
     }
 
@@ -135,6 +138,22 @@ fn reach_next(grammar: &YaccGrammar<u32>, search: &mut Search, item: Item) -> Re
         Some(Symbol::Rule(rule)) => search.reach(usize::from(rule)),
         _ => Ok(()),
     }
+}
+
+/// Whether a rule is next in one of the items, or there are none.
+fn has_seed(grammar: &YaccGrammar<u32>, kernel: &[Item]) -> bool
+    requires { (item : Item) → Contains kernel.now item → item.production < length grammar.now.productions }
+    ensures { (result ≡ false) → (rule : ℕ) → IsSeed (core grammar.now) kernel.now rule → ⊥ }
+{
+    if kernel.is_empty() {
+        return true;
+    }
+    for item in kernel {
+        if let Some(Symbol::Rule(_)) = next_symbol(grammar, *item) {
+            return true;
+        }
+    }
+    false
 }
 
 /// Reaches the rules that are next in the items; if there are none, the start rule.

@@ -11,7 +11,7 @@ mod used;
 ghost use Rattle.std.specs.Prelude.{◌≡◌, ◌<◌, [], get_or, length, IfOk};
 ghost use Rattle.cfgrammar.specs.Numbered.{core};
 ghost use Rattle.cfgrammar.specs.NumberedSymbols.{sym_of};
-ghost use Rattle.lr_states.specs.Automaton.{AreGotos, HaveTargets, goto_of, target_of};
+ghost use Rattle.lr_states.specs.Automaton.{AreAscending, AreGotos, HaveTargets, goto_of, target_of};
 ghost use Rattle.lr_states.specs.Viable.{AreStates, IsUsed};
 
 use crate::closure::Used;
@@ -40,8 +40,8 @@ pub struct States {
 }
 
 impl Model for States {
-    ghost use Rattle.std.specs.Prelude.{map};
-    ghost use Rattle.lr_states.specs.Automaton.{Automaton};
+    ghost use Rattle.std.specs.Prelude.{All, map};
+    ghost use Rattle.lr_states.specs.Automaton.{AreAscending, Automaton};
 
     ghost Value = { Automaton };
 
@@ -50,6 +50,8 @@ impl Model for States {
       states = map (λ v. v.items.items) x.visited.items;
       targets = map (λ v. v.targets.items) x.visited.items;
     } };
+
+    ghost invariant = { λ x. All (λ v. AreAscending v.targets.items) x.visited.items };
 }
 
 impl States {
@@ -102,8 +104,8 @@ impl States {
         &self.visited[number].targets
     }
 
-    /// The state that a symbol of the grammar leads to from a state: that of its prefixes with the symbol. There is none
-    /// if these are not viable.
+    /// The state that a symbol of the grammar leads to from a state: that of its prefixes with the symbol. There is
+    /// none if these are not viable.
     pub fn goto(&self, number: usize, symbol: Symbol<u32>) -> Option<usize>
         requires { number < length self.now.states }
         ensures { result ≡ goto_of self.now number (sym_of (λ s. s) symbol) }
@@ -116,14 +118,15 @@ impl States {
     }
 }
 
-/// The state of the first target for a symbol with this number.
+/// The state of the target for a symbol with this number.
 fn target_of(targets: &[Target], node: usize) -> Option<usize>
+    requires { AreAscending targets.now }
     ensures { result ≡ target_of targets.now node }
 {
-    for target in targets {
-        if target.symbol == node {
-            return Some(target.state);
-        }
+    let place = targets.partition_point(|target| target.symbol < node);
+    if place < targets.len() && targets[place].symbol == node {
+        Some(targets[place].state)
+    } else {
+        None
     }
-    None
 }

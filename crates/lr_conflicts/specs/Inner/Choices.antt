@@ -1,5 +1,5 @@
 -- What the code finds of a state, and of a token in it.
-use Rattle.std.specs.Prelude.{◌≡◌, ◌↔◌, ◌⊎◌, ◌<◌, ◌≤◌, ◌+◌, ℕ, false, List, Option, Some, Contains, IsTrue, MatchOption, length, map, slice_index_or}
+use Rattle.std.specs.Prelude.{◌≡◌, ◌↔◌, ◌⊎◌, ◌<◌, ◌≤◌, ℕ, false, List, Option, Some, Contains, IsTrue, MatchOption, length, map, slice_index_or}
 use Rattle.std.specs.List.Sorted.{IsStrictlyIncreasing}
 use Rattle.cfgrammar.specs.Associativity.{Associativity}
 use Rattle.cfgrammar.specs.Grammar.{Sym, Rule, Token}
@@ -28,11 +28,6 @@ abbrev pub ShiftsBefore : Turn → ℕ → Type 0
 ShiftsBefore turn p = IsTrue turn.can_shift × MatchOption turn.taker (Unit {0}) (λ taker. p ≤ taker)
 
 module _ (g : Numbered) where
-  -- by the item the token can be shifted, in the states that the item is in
-  pub data IsShiftedBy (item : Item) (t : ℕ) : Type 0 where
-    next : HasNext (core g) item (Token t) → IsShiftedBy item t
-    accepts : item ≡ read_item g g.start_production → t + 1 ≡ length g.tokens → IsShiftedBy item t
-
   -- by the item its production can be reduced
   pub record IsReducible (item : Item) : Type 0 where
     pub ours : item.production ≡ g.start_production → ⊥

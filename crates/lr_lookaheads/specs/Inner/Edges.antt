@@ -8,8 +8,8 @@ use Rattle.lr_states.specs.declared.Item.{Item}
 use Rattle.lr_states.specs.declared.kernels.Target.{Target}
 use Rattle.lr_states.specs.Automaton.{Automaton}
 use Rattle.lr_states.specs.Viable.{IsUsed, item_at}
-use Rattle.lr_lookaheads.specs.Lookaheads.{HasUsed}
-use Rattle.lr_lookaheads.specs.Inner.Graph.{Shows, next}
+use Rattle.lr_lookaheads.specs.Lookaheads.{HasUsed, Shows}
+use Rattle.lr_lookaheads.specs.Inner.Graph.{next}
 use Rattle.lr_lookaheads.specs.Inner.Reached.{Leads}
 use Rattle.lr_lookaheads.specs.Inner.Numbers.{AreReady, Numbers, block_of, item_number, number, shown_number}
 

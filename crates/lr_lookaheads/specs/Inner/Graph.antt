@@ -1,12 +1,12 @@
 -- Lookaheads as what is reachable in a graph: its nodes are what tokens may come after, or begin.
-use Rattle.std.specs.Prelude.{◌≡◌, ◌==◌, ◌<◌, ◌+◌, ℕ, cond, List, [], ◌∷◌, ◌++◌, Some, Contains, drop, get_or, length}
+use Rattle.std.specs.Prelude.{◌≡◌, ◌==◌, ◌<◌, ◌+◌, ℕ, cond, List, [], Some, Contains, drop, get_or, length}
 use Rattle.cfgrammar.specs.Grammar.{Grammar, Sym, Rule, Token}
 use Rattle.cfgrammar.specs.Derivation.{Derives}
 use Rattle.cfgrammar.specs.Openings.{nth_production}
 use Rattle.lr_states.specs.declared.Item.{Item}
 use Rattle.lr_states.specs.Viable.{HasNext, item_at}
 use Rattle.lr_states.specs.Automaton.{Automaton, goto_of}
-use Rattle.lr_lookaheads.specs.Lookaheads.{HasUsed}
+use Rattle.lr_lookaheads.specs.Lookaheads.{HasUsed, Shows}
 
 -- a token; a rule, for what it begins with; and for what comes after them: an item of a state with symbols
 -- read, by its production, and a rule that is next in a state
@@ -24,13 +24,6 @@ node_at g q item = cond (item.read == 0) (next q (nth_production g item.producti
 abbrev pub shown : Sym → Node
 shown (Rule r) = begun r
 shown (Token t) = token t
-
--- this symbol comes after nullable ones
-pub record Shows (g : Grammar) (Used : ℕ → Type 0) (symbols : List Sym) (x : Sym) : Type 0 where
-  pub before : List Sym
-  pub after : List Sym
-  pub nullable : Derives (HasUsed g Used) before []
-  pub is : symbols ≡ before ++ x ∷ after
 
 -- what comes after the item's next symbol in its production
 abbrev pub rest_of : Grammar → Item → List Sym

@@ -1,7 +1,8 @@
 use Rattle.std.proofs.Common.{◌≡◌, ◌<◌, arith, get_or, length, ltb, rules}
 use Rattle.std.proofs.lemmas.List.Sorted.{IsPartitionPoint-from_clause}
 use Rattle.lr_states.specs.declared.kernels.Target.{Target}
-use Rattle.lr_lookaheads.proofs.Places.{rule_found, rule_missing, rules_parted}
+use Rattle.lr_states.proofs.Targets.{targets_parted}
+use Rattle.lr_lookaheads.proofs.Places.{rule_found, rule_missing}
 use Rattle.lr_lookaheads.proofs.nodes.place_of_rule.Goals as goal
 use Rattle.lr_lookaheads.proofs.nodes.place_of_rule.Goals.{else-place-targets-via-then-place-targets+else-targets-place, else-place-targets-via-else-place-targets}
 
@@ -15,7 +16,7 @@ pub returns-else-place-targets : goal.returns-else-place-targets
 returns-else-place-targets c =
     let all = c.args.targets.now in
     let place = c.partition_point-place.result in
-    let point = IsPartitionPoint-from_clause (λ (target : Target). ltb target.symbol c.args.rule) _ _ c.partition_point-place.ensures.partitioned (rules_parted all c.requires c.args.rule)
+    let point = IsPartitionPoint-from_clause (λ (target : Target). ltb target.symbol c.args.rule) _ _ c.partition_point-place.ensures.partitioned (targets_parted all c.requires c.args.rule)
     (λ a r q k. search rules) in
     let none : place < length all → (get_or all place nothing).symbol ≡ c.args.rule → ⊥ = elim c.else-place-targets.branch [
       | else-place-targets-via-then-place-targets+else-targets-place w ↦ λ within. w.if-targets-place.false

@@ -6,6 +6,7 @@ use Rattle.lr_states.specs.Inner.Closure.{IsOn}
 use Rattle.lr_states.specs.Automaton.{AreGotos, Automaton, HaveTargets}
 use Rattle.lr_states.specs.Viable.{AreStates, IsUsed}
 use Rattle.lr_states.proofs.Alike.{gotos_as, none_gotos, none_targets, none_viable, states_as}
+use Rattle.lr_states.proofs.Targets.{all_ascending}
 use Rattle.lr_states.proofs.States.of.Goals as goal
 use Rattle.lr_states.proofs.States.of.Goals.{then-branch+in_ok-visited, else-branch}
 
@@ -47,3 +48,14 @@ returns c =
             (none_targets g)
       ]);
     }
+
+pub invariant_of-result : goal.invariant_of-result
+invariant_of-result c =
+    let g = core c.args.grammar.now in
+    all_ascending g g.rules c.if-branch.visited.items (elim c.if-branch.branch [
+      | then-branch+in_ok-visited w ↦
+          subst (λ (v : Vec Visited Global). HaveTargets g (automaton g.rules v.items)) (sym w.visited-is) w.in_ok-visited.ensures.targets
+      | else-branch w ↦
+          subst (λ (v : List Visited). HaveTargets g (automaton g.rules v)) (sym (ap (λ (v : Vec Visited Global). v.items) w.visited-is ∙ w.new-visited.ensures.items))
+          (none_targets g)
+    ])

@@ -1,6 +1,6 @@
 use Rattle.std.proofs.Common.{◌≡◌, ◌↔◌, ℕ, Contains, IsTrue, false, get_or, length, take}
 use Rattle.lr_states.specs.declared.Item.{Item}
-use Rattle.lr_conflicts.specs.Inner.Choices.{IsShiftedBy}
+use Rattle.lr_conflicts.specs.Tables.{IsShiftedBy}
 use Rattle.lr_conflicts.proofs.parser.Parser.shifts.Given as goal
 
 -- the bits of the tokens of the items so far are on
