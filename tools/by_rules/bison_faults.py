@@ -65,6 +65,19 @@ NO_TOKEN = 'if it is a token, declare it by %token'
 # what would end a word that has no end
 CLOSING = {'IncompleteComment': "'*/'", 'IncompleteLiteral': 'quote', 'IncompleteString': 'quote', 'IncompleteTag': "'>'",
            'IncompleteName': "']'", 'IncompleteCode': "'}'", 'IncompletePrologue': "'%}'"}
+# what is said whatever the word is
+PLAIN = {'EmptyLiteral': 'one character is between the quotes, and %empty is for a production without symbols',
+         'LongLiteral': 'several characters are in double quotes',
+         'IllegalName': 'brackets have one name'}
+# what is said after the word in which a fault is, and after characters that begin no word
+ADVICE = {'IllegalEscape': ": escapes are those of C, and '\\\\' is a backslash",
+          'IllegalIdentifier': ': a name begins with no digit, and a string is in double quotes',
+          'IllegalInteger': ': the greatest number is 2147483647'}
+QUOTE = tuple(c.encode() for c in '\u2018\u2019\u201a\u201b\u201c\u201d\u201e\u201f')
+CHARACTERS = ((b'#', ": comments begin with '//' or '/*'"),
+              (b':', ": one ':' is between a rule's name and its productions"),
+              (QUOTE, ": quotes are ' and \""),
+              (b'', ': a token is in quotes, and productions have no operators'))
 
 
 class BisonFault(Fault):
@@ -90,12 +103,18 @@ def note_on(t, error, names):
     covered = t[slice(*error.span)]
     if error.kind == 'Unexpected':
         no_colon = error.missing == 'rule' and re.match(rb'[A-Za-z_.]', covered)
-        return 'found ' + found(covered) + (", and no ':' after it" if no_colon else '')
+        return 'found ' + found(covered) + (", and no ':' after it: '%%' comes before code" if no_colon else '')
     if error.kind == 'IllegalCharacters' and covered.startswith(b'\xef\xbb\xbf'):
         return 'a byte order mark: save the file without one'
     if error.kind in CLOSING:
         return 'no %s closes it' % CLOSING[error.kind]
     word = covered.decode('utf-8')
+    if error.kind == 'IllegalCharacters':
+        return "found '%s'" % word + next(advice for begin, advice in CHARACTERS if covered.startswith(begin))
+    if error.kind in ADVICE:
+        return "found '%s'" % word + ADVICE[error.kind]
+    if error.kind in PLAIN:
+        return PLAIN[error.kind]
     if error.kind == 'UnknownDirective':
         return nearest(word, SUGGESTED)
     if error.kind == 'UnknownSymbol':

@@ -6,10 +6,10 @@ from .unused import TEXTS, unused_of
 
 
 class Finding:
-    """A finding: its kind, its spans, and its text."""
+    """A finding: its kind, its spans, its text, and the note on it or None."""
 
-    def __init__(self, kind, spans, text):
-        self.kind, self.spans, self.text = kind, spans, text
+    def __init__(self, kind, spans, text, note=None):
+        self.kind, self.spans, self.text, self.note = kind, spans, text, note
 
     def spans_kind(self):
         several = ('ShadowedRule', 'StartWithoutSentence', 'NoSentence', 'CyclicRule', 'RepeatedProduction', 'ShiftReduce',

@@ -11,6 +11,7 @@ from .hints import hint
 from .near import nearest
 from .rendered import note, placed, rendered, visible
 from .section import named_kind, section
+from .shown_states import states_text
 from .validation import errors_of, every_fault
 
 USAGE = 'usage: cfglint [OPTION..] [--] FILE..\n'
@@ -31,6 +32,8 @@ usage: cfglint [OPTION..] [--] FILE..
                      Only text has a summary.
   --columns UNIT     What a column of text counts from 1: bytes, characters, the default, or display: columns of a
                      terminal, of which wide characters take two, and tabs those up to the next multiple of 8.
+  --states           Writes the states of the parser after the findings, for reading a conflict by hand. Only text has
+                     them.
   --allow FINDING    Findings of this kind aren't reported.
   --warn FINDING     Findings of this kind are warnings.
   --deny FINDING     Findings of this kind are errors.
@@ -71,8 +74,8 @@ and the others are warnings. If a finding is given to several of these options, 
 status: 0 without errors or denied warnings; 1 with either; 2 if the arguments are wrong, a file can't be read or
 the output can't be written; 3 if there is no memory left
 '''
-OPTIONS = ('--kind', '--default-kind', '--format', '--columns', '--allow', '--warn', '--deny', '--deny-warnings', '--quiet',
-           '--stdin-name', '--help', '--version')
+OPTIONS = ('--kind', '--default-kind', '--format', '--columns', '--allow', '--warn', '--deny', '--deny-warnings', '--states',
+           '--quiet', '--stdin-name', '--help', '--version')
 KINDS = ('original-noaction', 'original-useraction', 'original-genericparsetree', 'grmtools', 'eco', 'bison', 'yacc',
          'section')
 SAME = {'yacc': 'bison'}
@@ -126,7 +129,7 @@ class Options:
         self.kind, self.default_kind = None, None
         self.denies, self.is_quiet, self.stdin_name, self.files = False, False, '-', []
         self.levels = dict.fromkeys(FINDINGS, 'warning') | dict.fromkeys(ALLOWED) | dict.fromkeys(DENIED, 'error')
-        self.format, self.columns = 'text', 'characters'
+        self.format, self.columns, self.shows_states = 'text', 'characters', False
 
     def set(self, option, value):
         if option == '--stdin-name':
@@ -174,6 +177,8 @@ def options_of(arguments):
             options.files, left = options.files + left, []
         elif argument == '--deny-warnings':
             options.denies = True
+        elif argument == '--states':
+            options.shows_states = True
         elif argument == '--quiet':
             options.is_quiet = True
         elif option in ('--kind', '--default-kind', '--format', '--columns', *LEVELS, '--stdin-name'):
@@ -214,6 +219,8 @@ class Tally:
             # Files of Bison have no %expect-unused: only tokens that no production needs are expected to be unused there.
             if word != 'bison' or finding.kind != 'NeedlessExpectUnused':
                 self.add_finding(options, name, t, finding)
+        if options.shows_states and options.format == 'text':
+            self.add_lines(states_text(tree))
 
     def add_errors(self, options, name, t, errors, tree):
         for index, error in enumerate(shown_errors(errors, tree)):
@@ -226,7 +233,7 @@ class Tally:
         else:
             message = ': '.join(['error', error.display(), *([] if words is None else [words])])
             self.add_lines(rendered(name, t, '%s [%s]' % (message, error_word(error)), error.spans, error.spans_kind(), options.columns))
-            self.add_lines([] if words is None else [note(name, t, words, error.spans[0][0], options.columns)])
+            self.add_note(options, name, t, words, error.spans[0][0])
 
     def add_unread(self, options, name, before, word, says):
         """Adds a file whose reading stopped after this text."""
@@ -240,10 +247,14 @@ class Tally:
         self.errors += level == 'error'
         self.warnings += level == 'warning'
         if level and options.format in WRITERS:
-            self.add_written(options, name, t, level, word, finding.text, finding.spans)
+            self.add_written(options, name, t, level, word, finding.text, finding.spans, finding.note)
         elif level:
             text = '%s: %s [%s]' % (level, finding.text, word)
             self.add_lines(rendered(name, t, text, finding.spans, finding.spans_kind(), options.columns))
+            self.add_note(options, name, t, finding.note, finding.spans[0][0])
+
+    def add_note(self, options, name, t, words, offset):
+        self.add_lines([] if words is None else [note(name, t, words, offset, options.columns)])
 
     def add_written(self, options, *parts):
         """Adds a line that programs read."""

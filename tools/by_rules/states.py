@@ -39,6 +39,7 @@ class Grammar:
         for number, p in self.productions.items():
             self.of_rule.setdefault(p.rule, []).append(number)
         self.tokens = list(dict.fromkeys([*((True, n) for n in tree.tokens), self.end]))
+        self.symbols = [(False, rule.name) for rule in numbered.rules] + self.tokens
 
     def precedence(self, tree, number, symbols):
         """The precedence of the token of %prec, else of the last token. Added productions have none."""
@@ -49,6 +50,10 @@ class Grammar:
             return self.precedences.get((True, named))
         tokens = [it for it in symbols if it[0]] if tree.has_default_precedence else []
         return self.precedences.get(tokens[-1]) if tokens else None
+
+    def own_symbols(self, number):
+        """The symbols of a production, without the end token of the added one."""
+        return tuple(it for it in self.productions[number].symbols if number != self.added or it != self.end)
 
     def next(self, item):
         """The symbol that an item has next, or None."""
@@ -124,3 +129,20 @@ class States:
         for symbol in symbols:
             states.append(self.after[states[-1]][symbol])
         return states
+
+
+class Numbers:
+    """The states as `cfglint` numbers them: breadth first, by the rules in order and then by the tokens. The state after the end
+    token is none of them.
+    """
+
+    def __init__(self, states):
+        self.targets, self.of = {}, {state: state for state in states.numbers[:1]}
+        order = [*self.of]
+        for state in order:
+            after = states.after[state]
+            self.targets[state] = [(it, after[it]) for it in states.grammar.symbols[:-1] if it in after]
+            for _, to in self.targets[state]:
+                if to not in self.of:
+                    self.of[to] = len(order)
+                    order.append(to)

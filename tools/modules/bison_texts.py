@@ -30,6 +30,7 @@ MODIFIERS = ('%prec A', '%prec \'+\'', '%prec "a"', '%empty', '%dprec 1', '%dpre
 MARKS = ('%%', ';', '|', ':', '=', '[', ']', '[x]', '[ a.b ]', '[1]', '%', '@', '$', '%?', '}', '>', '#line 5\n',
          '\n#line 5\n')
 FORMATS = ('', '', '', '--format=json ', '--format=github ', '--format=sarif ')
+STATES = ('', '', '--states ')
 LEVELS = ('', '', '--warn all ', '--warn=implicit-empty --warn useless-symbol ', '--deny cyclic-rule ',
           '--deny reduce-reduce --allow unmet-expect ', '--columns bytes ')
 KINDS = ('--kind bison ', '--kind bison ', '--kind yacc ', '', '', '--default-kind bison ', '--kind original-noaction ')
@@ -56,7 +57,7 @@ class BisonTexts(Texts):
             text = ''.join(self.word() + self.blank() for _ in range(self.random.randint(0, 25)))
         else:
             text = self.file() if pick < 0.8 else self.changed(self.file())
-        return 'lint', ''.join(map(self.random.choice, (KINDS, FORMATS, LEVELS))) + '-', text
+        return 'lint', ''.join(map(self.random.choice, (KINDS, FORMATS, LEVELS, STATES))) + '-', text
 
     def word(self):
         kinds = (NAMES, NAMES, LITERALS, STRINGS, TAGS, CODE, PROLOGUES, NUMBERS, LISTS, OTHERS, MODIFIERS, MARKS,

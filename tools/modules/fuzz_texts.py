@@ -44,7 +44,7 @@ class Texts:
         if ty == 'row' and self.random.random() < 0.25:
             formats = '--format=json ', '--format=github ', '--format=sarif ', ''
             levels = ('', '--warn=useless-symbol --warn=unusable-production ', '--warn unusable-rule --deny no-sentence ', '--warn all ')
-            options = (f'--kind {kind} ', ''), formats, levels
+            options = (f'--kind {kind} ', ''), formats, levels, ('', '', '--states ')
             return 'lint', ''.join(map(self.random.choice, options)) + '-', text
         return ty, kind, text
 

@@ -1,4 +1,4 @@
-"""Tests of by_rules/conflicts.py: the cases, their examples, their definitions, and other kinds of files."""
+"""Tests of by_rules/conflicts.py: the cases, their examples, those that cfglint shows, their definitions, and other kinds of files."""
 import os
 import random
 import sys
@@ -7,9 +7,11 @@ TOOLS = os.path.dirname(os.path.dirname(os.path.realpath(__file__)))
 sys.path.insert(0, TOOLS)
 from by_rules.bison_cases import cases_of
 from by_rules.bison_tree import read_bison
-from by_rules.conflict_examples import example, fault
+from by_rules.conflict_examples import derives, example, fault
+from by_rules.conflict_findings import clashes_of, plain
 from by_rules.conflict_lines import lines_of
 from by_rules.conflicts import Conflicts
+from by_rules.shown_examples import example as shown_example
 from by_rules.validation import errors_of
 from modules.conflict_texts import ConflictTexts
 
@@ -40,6 +42,35 @@ def test_examples(_):
     for text in [*(it.text for it in CASES), *(texts.make().encode() for _ in range(50))]:
         found = [it for it in faults(conflicts_of(text)) if it]
         assert not found, f"{text.decode()}: {found[0]}"
+
+
+def shown_fault(conflicts, clash):
+    """What is wrong with the example that is shown of a clash, or None."""
+    grammar, sides = conflicts.grammar, shown_example(conflicts, clash)
+    (prefix, _), (other_prefix, _) = sides
+    number = clash.production
+    for (before, rest), (production, read) in zip(sides, [(number, len(grammar.productions[number].symbols)), clash.other]):
+        symbols = [*before, *rest, grammar.end]
+        above = [*before[:len(before) - read], grammar.productions[production].rule,
+                 *symbols[len(before) + len(grammar.own_symbols(production)) - read:]]
+        if conflicts.states.path(0, before)[-1] != clash.state:
+            return "the prefix doesn't lead to the state"
+        if symbols[len(before)] != grammar.tokens[clash.token]:
+            return "the token doesn't come after the prefix"
+        if not derives(grammar, symbols) or production != grammar.added and not derives(grammar, above):
+            return "a list isn't derived"
+    return "the prefixes differ" if clash.shifts and prefix != other_prefix else None
+
+
+def test_shown_examples(_):
+    texts = ConflictTexts(random.Random(2))
+    count = 0
+    for text in [*(it.text for it in CASES), *(texts.make().encode() for _ in range(100))]:
+        conflicts = Conflicts(plain(read_bison(text)[0]))
+        for clash in clashes_of(conflicts)[:20]:
+            found, count = shown_fault(conflicts, clash), count + 1
+            assert not found, f"{text.decode()}: {found}"
+    assert count > 100, f"{count} examples"
 
 
 def derived(grammar):

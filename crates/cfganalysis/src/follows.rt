@@ -1,6 +1,7 @@
 //! FOLLOW: the tokens that come right after rules (Aho, Lam, Sethi and Ullman, 4.4.2).
 
-ghost use Rattle.std.specs.Prelude.{◌≡◌, ◌-◌, ◌^◌, ◌<◌, ◌≤◌, ◌↔◌, ℕ, [], ◌∷◌, Contains, length, IfOk, IsTrue, MatchBool, ⊤};
+ghost use Rattle.std.specs.Prelude.{◌≡◌, ◌-◌, ◌^◌, ◌<◌, ◌≤◌, ◌↔◌, ℕ, [], ◌∷◌};
+ghost use Rattle.std.specs.Prelude.{Contains, length, IfOk, IsTrue, MatchBool, ⊤};
 ghost use Rattle.derivation.specs.Grammar.{Grammar, IsGrammar, IsSymbolOf, Rule};
 ghost use Rattle.cfganalysis.specs.Firsts.{AreFirsts};
 ghost use Rattle.cfganalysis.specs.Follows.{AreFollows};
@@ -90,8 +91,8 @@ enum Lookahead<S: Storage> {
 struct GrowingFollows<'a, S: Storage> {
     firsts: &'a YaccFirsts<S>,
     follows: WordTable,
-    /// A rule whose set has all of that of another, so that this one need not be added again. Productions of a rule that
-    /// end with the same rule follow each other.
+    /// A rule whose set has all of that of another, so that this one need not be added again. Productions of a rule
+    /// that end with the same rule follow each other.
     includes: Option<(usize, usize)>,
 }
 
@@ -350,7 +351,8 @@ impl<'a, S: Storage> Analysis<S> for FollowAnalysis<'a, S> {
         dependents: &mut Dependents,
     ) -> Result<(), AllocError>
         requires { CanNote dependents.old (shown S.number rule _symbols.now) }
-        ensures { IfOk result (λ _. Notes production (IsOwner (shown S.number rule _symbols.now)) dependents.old dependents.new) }
+        ensures { IfOk result (λ _. Notes production (IsOwner (shown S.number rule _symbols.now))
+            dependents.old dependents.new) }
     {
         dependents.note(usize::from(rule), production)
     }

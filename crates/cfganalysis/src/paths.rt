@@ -60,7 +60,8 @@ pub fn reach_referred<S: Storage, T: Tables<S>, M: Marks>(
     requires rules { length search.old.reachable ≡ (T.grammar tables.now).rules }
     requires productions { All (λ p. p < length (T.grammar tables.now).productions)
         (map (λ p. S.number p.0) productions.now) }
-    ensures { OnOk result (Reaches (FoundBy (ProductionRefersAt (T.grammar tables.now)) (map (λ p. S.number p.0) productions.now))
+    ensures { OnOk result (Reaches
+        (FoundBy (ProductionRefersAt (T.grammar tables.now)) (map (λ p. S.number p.0) productions.now))
         search.old search.new) }
 {
     let _rules = tables.rules_len();

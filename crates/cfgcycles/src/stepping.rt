@@ -50,7 +50,8 @@ fn put_steps<S: Storage, T: Tables<S>>(
     ensures put { OnOk result (ArePut (λ a step. IsStep (T.grammar tables.now) a step × (step.production ≡ production))
         steps.old steps.new) }
     ensures order { OnOk result (AreAllInOrder steps.old
-        → ((a : ℕ) (step : UnitStep) → HasStep steps.old a step → step.production < production) → AreAllInOrder steps.new) }
+        → ((a : ℕ) (step : UnitStep) → HasStep steps.old a step → step.production < production)
+        → AreAllInOrder steps.new) }
 {
     tables.invariant_holds();
     let pidx = PIdx(to_storage(production));
@@ -83,7 +84,8 @@ fn put_step<S: Storage>(
     ensures put { OnOk result (ArePut (λ a step. (a ≡ rule) × (Rule step.rule ≡ sym_of S.number symbol)
         × (step.production ≡ production) × (step.index ≡ index)) steps.old steps.new) }
     ensures order { OnOk result (AreAllInOrder steps.old
-        → ((step : UnitStep) → HasStep steps.old rule step → IsEarlier production index step) → AreAllInOrder steps.new) }
+        → ((step : UnitStep) → HasStep steps.old rule step → IsEarlier production index step)
+        → AreAllInOrder steps.new) }
     ensures refused { OnErr result ((next : ℕ) × (sym_of S.number symbol ≡ Rule next)) }
 {
     match symbol {

@@ -92,15 +92,16 @@ quote name rest = simp append_assoc
 pub target_reported : (g : Numbered) (stored rule : ℕ) → stored ≡ rule → (name : List ℕ) → rule_part (λ rule. rule.name) g stored ≡ Some name
     → (rules : List ℕ) (spans : List Span) → spans ≡ map (rule_span g) rules → (path : List UnitStep) (begun text : List ℕ)
     → begun ≡ codes "Rule '" ++ (name ++ (codes "' derives itself: " ++ name)) → text ≡ begun ++ flat_map (step_text g) path
-    → (finding : ShownFinding) → finding ≡ record { kind = CyclicRule; spans = spans; text = text } → finding ≡ cyclic_finding g rule rules path
+    → (finding : ShownFinding) → finding ≡ record { kind = CyclicRule; spans = spans; text = text; hint = None } → finding ≡ cyclic_finding g rule rules path
 target_reported g stored rule same name named rules spans located path begun text first written finding is =
     let called : rule_name g rule ≡ name = ap (rule_name g) (sym same) ∙ rule_named g stored name named in
     let reported = written ∙ ap (λ t. t ++ flat_map (step_text g) path) first ∙ quote name (flat_map (step_text g) path) in
-    is ∙ (λ i. record { kind = CyclicRule; spans = located i; text = reported i })
+    is ∙ (λ i. record { kind = CyclicRule; spans = located i; text = reported i; hint = None })
     ∙ (λ i. record {
       kind = CyclicRule;
       spans = map (rule_span g) rules;
       text = codes "Rule " ++ ((codes "'" ++ (sym called i ++ codes "'")) ++ (codes " derives itself: " ++ (sym called i ++ flat_map (step_text g) path)));
+      hint = None;
     })
 
 -- the span of one more rule

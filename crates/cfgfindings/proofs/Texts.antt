@@ -16,7 +16,7 @@ after_quoted name prefix back = ap (λ t. prefix ++ (codes "'" ++ t)) (sym (appe
 
 -- a finding at some spans, and at one
 abbrev pub shown_with : FindingKind → List Span → List ℕ → ShownFinding
-shown_with kind spans text = record { kind = kind; spans = spans; text = text }
+shown_with kind spans text = record { kind = kind; spans = spans; text = text; hint = None }
 
 abbrev pub shown_at : FindingKind → Span → List ℕ → ShownFinding
 shown_at kind span text = shown_with kind (span ∷ []) text

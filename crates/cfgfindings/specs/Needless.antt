@@ -25,11 +25,13 @@ needless (RuleSymbol word) = record {
   kind = NeedlessExpectUnused;
   spans = word.span ∷ [];
   text = codes "Needless %expect-unused: rule '" ++ (word.name ++ codes "' is used");
+  hint = None;
 }
 needless (TokenSymbol word) = record {
   kind = NeedlessExpectUnused;
   spans = word.span ∷ [];
   text = codes "Needless %expect-unused: token '" ++ (word.name ++ codes "' is used");
+  hint = None;
 }
 
 -- the n-th of these symbols is used

@@ -1,5 +1,5 @@
 -- The texts and the spans of findings.
-use Rattle.std.specs.Prelude.{ℕ, ◌+◌, List, [], ◌∷◌, ◌++◌, drop, map, take, codes}
+use Rattle.std.specs.Prelude.{ℕ, ◌+◌, List, [], ◌∷◌, ◌++◌, None, drop, map, take, codes}
 use Rattle.std.specs.List.{flat_map}
 use Rattle.cfgrammar.specs.FileWords.{Word}
 use Rattle.cfgrammar.specs.Grammar.{Sym}
@@ -15,10 +15,10 @@ use Rattle.finding_kinds.specs.declared.finding_kind.FindingKind.TheVariants.{Cy
 
 -- that the rule, or the token, with this name is unused
 abbrev pub unused_rule : List ℕ → Span → ShownFinding
-unused_rule name span = record { kind = UnusedRule; spans = span ∷ []; text = codes "Unused rule " ++ quoted name }
+unused_rule name span = record { kind = UnusedRule; spans = span ∷ []; text = codes "Unused rule " ++ quoted name; hint = None }
 
 abbrev pub unused_token : List ℕ → Span → ShownFinding
-unused_token name span = record { kind = UnusedToken; spans = span ∷ []; text = codes "Unused token " ++ quoted name }
+unused_token name span = record { kind = UnusedToken; spans = span ∷ []; text = codes "Unused token " ++ quoted name; hint = None }
 
 -- that the rule with this name is never used, since the token that first occurs at the second span has the same name
 abbrev pub shadowed_rule : List ℕ → Span → Span → ShownFinding
@@ -26,6 +26,7 @@ shadowed_rule name span token = record {
   kind = ShadowedRule;
   spans = span ∷ (token ∷ []);
   text = codes "Rule " ++ (quoted name ++ codes " is never used: its name is that of a token");
+  hint = None;
 }
 
 module _ (g : Numbered) where
@@ -35,6 +36,7 @@ module _ (g : Numbered) where
     kind = StartWithoutSentence;
     spans = map (rule_span g) (r ∷ others);
     text = codes "No sentence can be derived from the start rule " ++ quoted (rule_name g r);
+    hint = None;
   }
 
   -- that the rule has no sentence, nor have these others
@@ -43,6 +45,7 @@ module _ (g : Numbered) where
     kind = NoSentence;
     spans = map (rule_span g) (r ∷ others);
     text = codes "Rule " ++ (quoted (rule_name g r) ++ codes " has no sentence");
+    hint = None;
   }
 
   -- that the rule can't be used, since others have no sentence
@@ -51,6 +54,7 @@ module _ (g : Numbered) where
     kind = UnusableRule;
     spans = rule_span g r ∷ [];
     text = codes "Unusable rule " ++ (quoted (rule_name g r) ++ codes ": each of its productions has a rule without a sentence");
+    hint = None;
   }
 
   -- that the production can't be used, since this rule in it has no sentence
@@ -59,6 +63,7 @@ module _ (g : Numbered) where
     kind = UnusableProduction;
     spans = production_span g p ∷ [];
     text = codes "Unusable production: rule " ++ (quoted (rule_name g q) ++ codes " has no sentence");
+    hint = None;
   }
 
   -- that the rule, or the token, is reached only through unusable productions
@@ -67,6 +72,7 @@ module _ (g : Numbered) where
     kind = UselessSymbol;
     spans = rule_span g r ∷ [];
     text = codes "Rule " ++ (quoted (rule_name g r) ++ codes " is reached only through unusable productions");
+    hint = None;
   }
 
   abbrev pub useless_token : ℕ → ShownFinding
@@ -74,6 +80,7 @@ module _ (g : Numbered) where
     kind = UselessSymbol;
     spans = token_span g t ∷ [];
     text = codes "Token " ++ (quoted (token_name g t) ++ codes " is reached only through unusable productions");
+    hint = None;
   }
 
   -- ` [NAME]` for each symbol, which is nullable
@@ -92,6 +99,7 @@ module _ (g : Numbered) where
     kind = CyclicRule;
     spans = map (rule_span g) rules;
     text = codes "Rule " ++ (quoted (rule_name g r) ++ (codes " derives itself: " ++ (rule_name g r ++ flat_map step_text path)));
+    hint = None;
   }
 
   -- that the production has the symbols of an earlier one of its rule
@@ -100,6 +108,7 @@ module _ (g : Numbered) where
     kind = RepeatedProduction;
     spans = production_span g p ∷ (production_span g earlier ∷ []);
     text = codes "Repeated production of rule '" ++ (rule_name g (nth_production (core g) p).rule ++ codes "': each sentence by it has two trees");
+    hint = None;
   }
 
 -- that the precedence of the token with this name, which is given here, is unused
@@ -108,11 +117,12 @@ unused_precedence name span = record {
   kind = UnusedPrecedence;
   spans = span ∷ [];
   text = codes "Unused precedence: token " ++ (quoted name ++ codes " is not a symbol of any production, and none takes its precedence from it");
+  hint = None;
 }
 
 -- a finding at a word: its text is `before`, the word's name in quotes, and `after`
 abbrev pub at_word : FindingKind → List ℕ → List ℕ → Word → ShownFinding
-at_word kind before after word = record { kind = kind; spans = word.span ∷ []; text = before ++ (quoted word.name ++ after) }
+at_word kind before after word = record { kind = kind; spans = word.span ∷ []; text = before ++ (quoted word.name ++ after); hint = None }
 
 -- that a `%token` list has this token, which such a list has before
 abbrev pub repeated_token : Word → ShownFinding

@@ -1,6 +1,6 @@
 //! Unproductive rules.
 
-ghost use Rattle.std.specs.Prelude.{◌≡◌, ◌++◌, ◌&&◌, ◌==◌, ◌<◌, ◌≤◌, ◌∷◌, ℕ, IfOk, List, Some, length, map, not};
+ghost use Rattle.std.specs.Prelude.{◌≡◌, ◌++◌, ◌&&◌, ◌==◌, ◌<◌, ◌≤◌, ◌∷◌, ℕ, IfOk, List, None, Some, length, map, not};
 ghost use Rattle.std.specs.Prelude.{MatchBool, MatchOption, OnOk, nat_le, string_bytes};
 ghost use Rattle.std.specs.List.{filter};
 ghost use Rattle.cfgrammar.specs.Accessors.{rule_part};
@@ -101,6 +101,7 @@ fn with_others(
           kind = kind;
           spans = map (rule_span grammar.now) (rule ∷ others);
           text = string_bytes text;
+          hint = None;
         })) }
 {
     let others = others_of(alloc, rules_added(grammar), rule, group)?;

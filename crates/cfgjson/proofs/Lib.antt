@@ -1,5 +1,6 @@
-pub mod Places
-pub mod LineTexts
-pub mod Results
 pub mod FormatLines
+pub mod LineTexts
+pub mod Members
+pub mod Places
+pub mod Results
 pub mod Uris

@@ -1,19 +1,19 @@
 -- Where a span is, and how deep its object nests.
-use Rattle.std.proofs.Common.{◌≡◌, ◌≤◌, ℕ, Bool, true, false, if◌then◌else◌, List, [], ◌∷◌, map, refl, arith, Option, Some, None}
+use Rattle.std.proofs.Common.{◌≡◌, ◌≤◌, ℕ, Bool, true, false, if◌then◌else◌, List, [], ◌∷◌, ◌+◌, codes, map, refl, arith, Option, Some, None}
 use Rattle.std.proofs.lemmas.Bool.Decides.{nat_tests}
 use Rattle.std.proofs.lemmas.List.{get_or_past}
 use Rattle.std.specs.Str.{IsCharBoundary}
 use Rattle.cfgbase.specs.declared.span.Span.{Span}
 use Rattle.cfglines.specs.Lines.{line_number, column}
-use Rattle.serde_json.specs.Data.{Data, null, depth, items_depth, Members, members_depth}
+use Rattle.serde_json.specs.Data.{Data, null, depth, items_depth, member, Members, members_depth, no_members, string}
 use Rattle.serde_json.specs.View.{items_of}
 use Rattle.serde_json.specs.Written.{has_float, items_have_float, members_have_float}
-use Rattle.cfgjson.specs.Objects.{ShownDiagnostic, count, is_boundary, position_of, place_of, diagnostic_object, with_hint}
+use Rattle.cfgjson.specs.Objects.{ShownDiagnostic, count, is_boundary, position_of, place_of, diagnostic_object, text_at, with_hint, with_symbols}
 
-boundary : (text : List ℕ) (b : ℕ) → IsCharBoundary text b → is_boundary text b ≡ true
+pub boundary : (text : List ℕ) (b : ℕ) → IsCharBoundary text b → is_boundary text b ≡ true
 boundary text b at = let past = get_or_past text b 0 in grind (arith, nat_tests)
 
-no_boundary : (text : List ℕ) (b : ℕ) → (IsCharBoundary text b → ⊥) → is_boundary text b ≡ false
+pub no_boundary : (text : List ℕ) (b : ℕ) → (IsCharBoundary text b → ⊥) → is_boundary text b ≡ false
 no_boundary text b none = let past = get_or_past text b 0 in grind (arith, nat_tests)
 
 pub position-boundary : (text : List ℕ) (b : ℕ) → IsCharBoundary text b → position_of text b ≡ (count (line_number text b), count (column text b))
@@ -60,10 +60,29 @@ hint_whole : (hint : Option (List ℕ)) (rest : Members) → members_have_float 
 hint_whole None rest = refl
 hint_whole (Some hint) rest = refl
 
+symbols_flat : (symbols : List (List ℕ))
+    → (items_depth (items_of (map string symbols)) ≡ 0) × (items_have_float (items_of (map string symbols)) ≡ false)
+symbols_flat [] = (refl, refl)
+symbols_flat (symbol ∷ symbols) =
+    let others = symbols_flat symbols in (rw (others.0) refl, rw (others.1) refl)
+
+symbols_depth : (has : Bool) (symbols : List (List ℕ)) (rest : Members)
+    → members_depth (with_symbols has symbols rest) ≤ 1 + members_depth rest
+symbols_depth false symbols rest = omega arith
+symbols_depth true symbols rest = rw ((symbols_flat symbols).0) (omega arith)
+
+symbols_whole : (has : Bool) (symbols : List (List ℕ)) (rest : Members)
+    → members_have_float (with_symbols has symbols rest) ≡ members_have_float rest
+symbols_whole false symbols rest = refl
+symbols_whole true symbols rest = rw ((symbols_flat symbols).1) refl
+
 pub object_shallow : (name text : List ℕ) (shown : ShownDiagnostic) → depth (diagnostic_object name text shown) ≤ 127
 unfolding diagnostic_object
-object_shallow name text shown = rw (hint_depth shown.hint) (omega (arith, (places_flat text shown.spans).0))
+object_shallow name text shown =
+    let symbols = symbols_depth shown.has_symbols (map (text_at text) shown.spans) (member (codes "text") (string shown.text) no_members) in
+    rw (hint_depth shown.hint) (omega (arith, (places_flat text shown.spans).0, symbols))
 
 pub object_whole : (name text : List ℕ) (shown : ShownDiagnostic) → has_float (diagnostic_object name text shown) ≡ false
 unfolding diagnostic_object
-object_whole name text shown = rw (hint_whole shown.hint, (places_flat text shown.spans).1) refl
+object_whole name text shown =
+    rw (hint_whole shown.hint, (places_flat text shown.spans).1, symbols_whole shown.has_symbols (map (text_at text) shown.spans)) refl

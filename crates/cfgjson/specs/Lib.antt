@@ -1,3 +1,4 @@
 pub mod Objects
 pub mod Annotations
 pub mod Sarif
+pub mod Inner

@@ -1,5 +1,5 @@
 -- An error or a warning as a JSON object, with the places of its spans in the text; and lines of such objects.
-use Rattle.std.specs.Prelude.{◌≡◌, ℕ, Bool, ◌&&◌, nat_le, if◌then◌else◌, List, [], ◌∷◌, ◌++◌, codes, length, map, slice_index, Contains, Option, Some, None}
+use Rattle.std.specs.Prelude.{◌≡◌, ℕ, Bool, true, false, ◌&&◌, nat_le, if◌then◌else◌, List, [], ◌∷◌, ◌++◌, codes, length, map, slice_index, slice_range, Contains, Option, Some, None}
 use Rattle.cfgbase.specs.declared.span.Span.{Span}
 use Rattle.cfglines.specs.Characters.{begins_character}
 use Rattle.cfglines.specs.Lines.{line_number, column}
@@ -29,18 +29,30 @@ place_of text span = object
     (member (codes "line") (position_of text span.start).0
     (member (codes "start") (count span.start) no_members))))))
 
--- what is shown of an error or a warning: the word of its kind, what it says, a note on it, and its spans
+-- the text at a span: empty if the span doesn't start and end at character boundaries of the text
+unfoldable pub text_at : List ℕ → Span → List ℕ
+text_at text span = if is_boundary text span.start && (is_boundary text span.end && nat_le span.start span.end)
+    then slice_range text span.start span.end
+    else []
+
+-- what is shown of an error or a warning: the word of its kind, what it says, a note on it, its spans, and whether these are names of symbols
 pub record ShownDiagnostic : Type 0 where
   pub is_error : Bool
   pub kind : List ℕ
   pub text : List ℕ
   pub hint : Option (List ℕ)
   pub spans : List Span
+  pub has_symbols : Bool
 
 -- these members, and before them the note if there is one
 abbrev pub with_hint : Option (List ℕ) → Members → Members
 with_hint None members = members
 with_hint (Some hint) members = member (codes "hint") (string hint) members
+
+-- these members, and before them the symbols if there are any
+abbrev pub with_symbols : Bool → List (List ℕ) → Members → Members
+with_symbols false symbols members = members
+with_symbols true symbols members = member (codes "symbols") (array (items_of (map string symbols))) members
 
 -- an error or a warning about the text of a file of this name
 unfoldable pub diagnostic_object : List ℕ → List ℕ → ShownDiagnostic → Data
@@ -50,7 +62,8 @@ diagnostic_object name text shown = object
     (member (codes "kind") (string shown.kind)
     (member (codes "places") (array (items_of (map (place_of text) shown.spans)))
     (member (codes "severity") (string (if shown.is_error then codes "error" else codes "warning"))
-    (member (codes "text") (string shown.text) no_members))))))
+    (with_symbols shown.has_symbols (map (text_at text) shown.spans)
+    (member (codes "text") (string shown.text) no_members)))))))
 
 -- the object's text without spaces, which reads back as the object, and is one line
 pub record IsJsonLine (shown : Data) (line : List ℕ) : Type 0 where

@@ -1,13 +1,16 @@
 //! An error or a warning, as programs read it.
 
-ghost use Rattle.std.specs.Prelude.{◌≡◌, IfOk, OnOk, string_bytes};
-ghost use Rattle.serde_json.specs.View.{view};
-ghost use Rattle.cfgjson.specs.Objects.{AddsJsonLine, IsJsonLine, diagnostic_object};
+ghost use Rattle.std.specs.Prelude.{◌≡◌, IfOk, OnOk, map, string_bytes};
+ghost use Rattle.std.specs.Option.{option_map};
+ghost use Rattle.serde_json.specs.View.{members_view, view};
+ghost use Rattle.cfgjson.specs.Objects.{AddsJsonLine, IsJsonLine, diagnostic_object, text_at};
+ghost use Rattle.cfgjson.specs.Inner.{own_members, put_hint, put_symbols};
 
 use crate::place::places;
+use crate::symbols::symbols;
 use cfgbase::Span;
 use cfglines::Positions;
-use serde_json::{Value, json};
+use serde_json::{Map, ToValue, Value, put};
 use std::alloc::{AllocError, Global};
 use std::marker::Model;
 
@@ -22,6 +25,8 @@ pub struct Diagnostic<'a> {
     /// A note on it, if there is one.
     pub hint: Option<&'a str>,
     pub spans: &'a [Span],
+    /// Whether the texts at the spans are names of rules and tokens.
+    pub has_symbols: bool,
 }
 
 impl<'a> Model for Diagnostic<'a> {
@@ -36,6 +41,7 @@ impl<'a> Model for Diagnostic<'a> {
       text = x.text.now;
       hint = option_map (λ words. words.now) x.hint;
       spans = x.spans.now;
+      has_symbols = x.has_symbols;
     } };
 }
 
@@ -73,7 +79,6 @@ fn line_of(
 }
 
 /// The object.
-#[tactic(auto, unfolding(crate::specs::Objects::diagnostic_object))]
 fn object_of(
     alloc: Global,
     name: &str,
@@ -82,27 +87,77 @@ fn object_of(
 ) -> Result<Value, AllocError>
     ensures { IfOk result (λ object. view object ≡ diagnostic_object name.now positions.now diagnostic.now) }
 {
-    let places = places(alloc, positions, diagnostic.spans)?;
+    let mut members = members_of(alloc, name, positions, diagnostic)?;
+    put_hint(alloc, &mut members, diagnostic.hint)?;
+    put_symbols(alloc, &mut members, positions.text(), diagnostic)?;
+    Ok(Value::Object(members))
+}
+
+/// The members that each object has.
+fn members_of(
+    alloc: Global,
+    name: &str,
+    positions: &Positions<'_>,
+    diagnostic: &Diagnostic<'_>,
+) -> Result<Map<String, Value>, AllocError>
+    ensures { IfOk result (λ members. members_view members.entries
+        ≡ own_members name.now positions.now diagnostic.now) }
+{
     let severity = if diagnostic.is_error {
         "error"
     } else {
         "warning"
     };
-    match diagnostic.hint {
-        Some(hint) => json!(in alloc; {
-            "file": name,
-            "severity": severity,
-            "kind": diagnostic.kind,
-            "text": diagnostic.text,
-            "hint": hint,
-            "places": places
-        }),
-        None => json!(in alloc; {
-            "file": name,
-            "severity": severity,
-            "kind": diagnostic.kind,
-            "text": diagnostic.text,
-            "places": places
-        }),
+    let places = places(alloc, positions, diagnostic.spans)?;
+    let mut members = Map::new(alloc);
+    put(&mut members, alloc, "file", name.to_value(alloc)?)?;
+    put(&mut members, alloc, "severity", severity.to_value(alloc)?)?;
+    put(
+        &mut members,
+        alloc,
+        "kind",
+        diagnostic.kind.to_value(alloc)?,
+    )?;
+    put(
+        &mut members,
+        alloc,
+        "text",
+        diagnostic.text.to_value(alloc)?,
+    )?;
+    put(&mut members, alloc, "places", Value::Array(places))?;
+    Ok(members)
+}
+
+/// Adds the note, if there is one.
+fn put_hint(
+    alloc: Global,
+    members: &mut Map<String, Value>,
+    hint: Option<&str>,
+) -> Result<(), AllocError>
+    ensures { OnOk result (members_view members.new.entries
+        ≡ put_hint (option_map (λ words. words.now) hint.entry) (members_view members.old.entries)) }
+{
+    match hint {
+        Some(hint) => put(members, alloc, "hint", hint.to_value(alloc)?),
+        None => Ok(()),
+    }
+}
+
+/// Adds the symbols, if there are any.
+fn put_symbols(
+    alloc: Global,
+    members: &mut Map<String, Value>,
+    text: &str,
+    diagnostic: &Diagnostic<'_>,
+) -> Result<(), AllocError>
+    ensures { OnOk result (members_view members.new.entries
+        ≡ put_symbols diagnostic.now.has_symbols (map (text_at text.now) diagnostic.now.spans)
+        (members_view members.old.entries)) }
+{
+    if diagnostic.has_symbols {
+        let symbols = symbols(alloc, text, diagnostic.spans)?;
+        put(members, alloc, "symbols", Value::Array(symbols))
+    } else {
+        Ok(())
     }
 }

@@ -8,6 +8,7 @@ pub mod laws;
 pub mod lines;
 mod place;
 pub mod sarif;
+mod symbols;
 mod uri;
 
 pub use annotation::push_annotation;

@@ -21,7 +21,7 @@ module _ (options : LintOptions) (name text : List ℕ) where
 
   abbrev MakesReport : Found → Printed → Type 0
   MakesReport = IsMadeOf (ReportsErrors options.format options.columns name text)
-      (λ s g. ReportsFindings options.format options.columns name text options.levels s g [])
+      (λ s g. ReportsFindings options.format options.columns name text options.shows_states options.levels s g [])
 
   -- it is the same whatever kind its report says
   pub outcome_as : (outcome : Outcome) (kind : Option FileKind) (found : Found) → Makes found outcome

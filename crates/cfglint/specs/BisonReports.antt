@@ -41,7 +41,7 @@ module _ (options : LintOptions) (name text : List ℕ) where
     refused : (file.errors ≡ [] → ⊥) → ReportsBisonErrors file reported → ReportsBison file reported
     too_large : file.errors ≡ [] → (Fits greatest (bison_numbers file) → ⊥) → ReportsTooLarge reported → ReportsBison file reported
     found : file.errors ≡ [] → Fits greatest (bison_numbers file)
-        → ReportsFindings options.format options.columns name text (levels_of options.levels) file.syntax (bison_numbers file) file.levels reported
+        → ReportsFindings options.format options.columns name text options.shows_states (levels_of options.levels) file.syntax (bison_numbers file) file.levels reported
         → ReportsBison file reported
 
   -- the same of what the text says, and as what it was read

@@ -1,6 +1,6 @@
 -- The word of each kind of error: it is in the error's line, and JSON's `kind`. A word is never used again for another kind, since
 -- people search for it, and scripts depend on it.
-use Rattle.std.specs.Prelude.{ℕ, List, codes}
+use Rattle.std.specs.Prelude.{ℕ, Bool, true, false, List, codes}
 use Rattle.cfgrammar.specs.Errors.{ErrorKind, IllegalInteger, IllegalName, IllegalString, IncompleteRule, IncompleteComment, IncompleteAction, MissingColon, MissingRightArrow, MismatchedBrace, NonEmptyProduction, PrematureEnd, ProductionNotTerminated, ProgramsNotSupported, UnknownDeclaration, PrecNotFollowedByToken, DuplicatePrecedence, DuplicateAvoidInsertDeclaration, DuplicateImplicitTokensDeclaration, DuplicateExpectDeclaration, DuplicateExpectRRDeclaration, DuplicateStartDeclaration, DuplicateActiontypeDeclaration, DuplicateEPP, ReachedEOL, InvalidString, NoStartRule, UnknownSymbol, InvalidStartRule, UnknownRuleRef, UnknownToken, NoPrecForToken, UnknownEPP, ExpectedInput, InvalidYaccKind, Header, StorageTooSmall}
 use Rattle.cfgrammar.specs.HeaderErrors.{ShownErrorKind}
 use Rattle.cfgrammar.specs.HeaderErrors as section
@@ -52,3 +52,11 @@ error_word (ExpectedInput character) = codes "expected-input"
 error_word InvalidYaccKind = codes "invalid-yacc-kind"
 error_word (Header kind spanskind) = section_word kind
 error_word StorageTooSmall = codes "storage-too-small"
+
+-- whether the spans of an error of this kind are names of symbols: those that the file doesn't have
+abbrev pub has_symbols_of : ErrorKind → Bool
+has_symbols_of (InvalidStartRule name) = true
+has_symbols_of (UnknownRuleRef name) = true
+has_symbols_of (UnknownToken name) = true
+has_symbols_of (UnknownEPP name) = true
+has_symbols_of _ = false

@@ -1,5 +1,5 @@
 -- Errors as they are reported, whatever the files that they are in.
-use Rattle.std.specs.Prelude.{ℕ, true, List, [], ◌++◌, codes, drop, map, slice_get, take, Option, Some, None}
+use Rattle.std.specs.Prelude.{ℕ, Bool, true, List, [], ◌++◌, codes, drop, map, slice_get, take, Option, Some, None}
 use Rattle.std.specs.List.{flat_map}
 use Rattle.std.specs.Option.{option_map_or, option_or}
 use Rattle.cfgrammar.specs.ColumnUnit.{ColumnUnit}
@@ -10,16 +10,18 @@ use Rattle.cfgrammar.specs.Render.{note_line, rendered_in}
 use Rattle.cfgrammar.specs.Span.{Span}
 use Rattle.cfgrammar.specs.SpansKind.{SpansKind}
 use Rattle.cfgjson.specs.Objects.{ShownDiagnostic}
-use Rattle.cfglint.specs.ErrorWords.{error_word}
+use Rattle.cfglint.specs.ErrorWords.{error_word, has_symbols_of}
 use Rattle.cfglint.specs.Suggestions.{Names, most_suggestions, no_names, suggestion}
 
--- an error as it is reported: what it says, the word of its kind, where it is, which of these spans are shown, and the note on it, if there is one
+-- an error as it is reported: what it says, the word of its kind, where it is, which of these spans are shown, the note on it, if there is one, and
+-- whether the spans are names of symbols
 pub record NotedError : Type 0 where
   pub text : List ℕ
   pub word : List ℕ
   pub spans : List Span
   pub spanskind : SpansKind
   pub hint : Option (List ℕ)
+  pub has_symbols : Bool
 
 -- the message: with its note, if there is one, since few programs show the line of a note, and with the word of its kind
 abbrev pub said_note : Option (List ℕ) → List ℕ → List ℕ
@@ -44,7 +46,14 @@ error_lines unit name text all = flat_map (λ (shown : NotedError).
 
 -- an error, as programs read it
 abbrev pub shown_error : NotedError → ShownDiagnostic
-shown_error shown = record { is_error = true; kind = shown.word; text = shown.text; hint = shown.hint; spans = shown.spans }
+shown_error shown = record {
+  is_error = true;
+  kind = shown.word;
+  text = shown.text;
+  hint = shown.hint;
+  spans = shown.spans;
+  has_symbols = shown.has_symbols;
+}
 
 -- an error of a file of one of the library's kinds, with this note
 abbrev pub noted_as : GrammarError → Option (List ℕ) → NotedError
@@ -54,6 +63,7 @@ noted_as error hint = record {
   spans = error.spans;
   spanskind = spanskind_of error.kind;
   hint = hint;
+  has_symbols = has_symbols_of error.kind;
 }
 
 -- the note on such an error, in a text with these names

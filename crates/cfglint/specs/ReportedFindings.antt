@@ -1,14 +1,17 @@
 -- Findings as they are reported.
-use Rattle.std.specs.Prelude.{ℕ, Bool, true, false, if◌then◌else◌, List, [], ◌∷◌, ◌++◌, codes, None}
+use Rattle.std.specs.Prelude.{ℕ, Bool, true, false, if◌then◌else◌, List, [], ◌∷◌, ◌++◌, codes}
 use Rattle.std.specs.List.{flat_map}
+use Rattle.std.specs.Option.{option_map_or}
 use Rattle.cfgrammar.specs.ColumnUnit.{ColumnUnit}
-use Rattle.cfgrammar.specs.Render.{rendered_in}
+use Rattle.cfgrammar.specs.Render.{note_line, rendered_in}
 use Rattle.cfgjson.specs.Objects.{ShownDiagnostic}
+use Rattle.finding_kinds.specs.declared.finding_kind.FindingKind.{FindingKind}
+use Rattle.finding_kinds.specs.declared.finding_kind.FindingKind.TheVariants.{CyclicRule, EscapedToken, GluedKeyword, NeedlessExpectUnused, NoSentence, OverriddenPrecedence, RepeatedToken, ShadowedRule, StartWithoutSentence, UnusableRule, UnusedPrecedence, UnusedRule, UnusedToken, UselessSymbol}
 use Rattle.finding_kinds.specs.declared.levels.Level.{Level}
 use Rattle.finding_kinds.specs.declared.levels.Level.TheVariants.{Allow, Warn, Deny}
 use Rattle.finding_kinds.specs.declared.levels.Levels.{Levels}
 use Rattle.finding_kinds.specs.FindingKinds.{level_of, word_of}
-use Rattle.cfgfindings.specs.Shown.{ShownFinding, spanskind_of}
+use Rattle.cfgfindings.specs.Shown.{ShownFinding, offset_of, spanskind_of}
 use Rattle.cfglint.specs.Allowed.{is_allowed}
 
 -- a finding that is reported, as an error or as a warning
@@ -34,10 +37,33 @@ abbrev pub finding_message : Reported → List ℕ
 finding_message reported = (if reported.is_error then codes "error" else codes "warning")
     ++ (codes ": " ++ (reported.finding.text ++ (codes " [" ++ (word_of reported.finding.kind ++ codes "]"))))
 
+-- the line of the note on a finding, if there is one
+abbrev pub note_of : ColumnUnit → List ℕ → List ℕ → ShownFinding → List ℕ
+note_of unit name text finding = option_map_or (λ words. note_line unit name text words (offset_of finding)) finding.hint []
+
 -- the lines for findings about a text with this name, with columns in this unit
 abbrev pub finding_lines : ColumnUnit → List ℕ → List ℕ → List Reported → List ℕ
 finding_lines unit name text all = flat_map (λ (reported : Reported).
-    rendered_in unit name text (finding_message reported) reported.finding.spans (spanskind_of reported.finding.kind)) all
+    rendered_in unit name text (finding_message reported) reported.finding.spans (spanskind_of reported.finding.kind)
+    ++ note_of unit name text reported.finding) all
+
+-- whether the spans of findings of a kind are names of symbols; the spans of the others are productions or numbers
+abbrev pub has_symbols_of : FindingKind → Bool
+has_symbols_of UnusedRule = true
+has_symbols_of UnusedToken = true
+has_symbols_of ShadowedRule = true
+has_symbols_of StartWithoutSentence = true
+has_symbols_of NoSentence = true
+has_symbols_of UnusableRule = true
+has_symbols_of UselessSymbol = true
+has_symbols_of CyclicRule = true
+has_symbols_of UnusedPrecedence = true
+has_symbols_of RepeatedToken = true
+has_symbols_of OverriddenPrecedence = true
+has_symbols_of GluedKeyword = true
+has_symbols_of NeedlessExpectUnused = true
+has_symbols_of EscapedToken = true
+has_symbols_of _ = false
 
 -- a finding, as programs read it
 abbrev pub shown_finding : Reported → ShownDiagnostic
@@ -45,6 +71,7 @@ shown_finding reported = record {
   is_error = reported.is_error;
   kind = word_of reported.finding.kind;
   text = reported.finding.text;
-  hint = None;
+  hint = reported.finding.hint;
   spans = reported.finding.spans;
+  has_symbols = has_symbols_of reported.finding.kind;
 }

@@ -1,5 +1,5 @@
 -- The lines for errors and for findings of a text, and what is reported with them.
-use Rattle.std.specs.Prelude.{◌≡◌, ℕ, ◌+◌, List, length, map, Option}
+use Rattle.std.specs.Prelude.{◌≡◌, ℕ, ◌+◌, ◌++◌, ◌&&◌, Bool, true, false, List, [], length, map, Option}
 use Rattle.std.specs.List.{count_by}
 use Rattle.std.specs.Option.{option_map_or}
 use Rattle.cfgrammar.specs.Associativity.{Associativity}
@@ -12,8 +12,10 @@ use Rattle.cfgjson.specs.Objects.{AreJsonLines, diagnostic_object}
 use Rattle.cfgjson.specs.Sarif.{result_lines}
 use Rattle.cfglint_shell.specs.declared.format.Format.{Format}
 use Rattle.cfglint_shell.specs.declared.format.Format.TheVariants.{Text, Json, Github, Sarif}
+use Rattle.cfglint_shell.specs.Formats.{is_text}
 use Rattle.cfglint_shell.specs.Tally.{Printed}
 use Rattle.finding_kinds.specs.declared.levels.Levels.{Levels}
+use Rattle.conflict_findings.specs.States.{IsStatesText}
 use Rattle.cfgfindings.specs.Findings.{AreFindings}
 use Rattle.cfgfindings.specs.Shown.{ShownFinding}
 use Rattle.cfglint.specs.ReportedErrors.{NotedError, error_lines, noted_errors, shown_error}
@@ -27,6 +29,11 @@ InFormat Text AsText AsJson AsAnnotations AsResults = AsText
 InFormat Json AsText AsJson AsAnnotations AsResults = AsJson
 InFormat Github AsText AsJson AsAnnotations AsResults = AsAnnotations
 InFormat Sarif AsText AsJson AsAnnotations AsResults = AsResults
+
+-- the states of the parser, if they are shown
+abbrev pub ShowsStates : Bool → Numbered → List Associativity → List ℕ → Type 0
+ShowsStates true g associativities lines = IsStatesText g associativities lines
+ShowsStates false g associativities lines = lines ≡ []
 
 -- what is reported, in this format and with columns in this unit, for a text in a file with this name
 module _ (format : Format) (unit : ColumnUnit) (name text : List ℕ) where
@@ -52,9 +59,10 @@ module _ (format : Format) (unit : ColumnUnit) (name text : List ℕ) where
       × (reported.errors ≡ length (shown_errors syntax all)) × (reported.warnings ≡ 0)
 
   -- the findings about its grammar, given its syntax, its numbers, and how the operators of its levels associate, with these levels of
-  -- findings but for those that comments allow; those that are no errors are warnings
-  abbrev pub ReportsFindings : Levels → Syntax → Numbered → List Associativity → Printed → Type 0
-  ReportsFindings levels s g associativities reported = (all : List ShownFinding) × AreFindings text s g associativities all
-      × AreFindingLines (reported_by text levels all) reported.lines
+  -- findings but for those that comments allow, and after them the states if they are shown; those that are no errors are warnings
+  abbrev pub ReportsFindings : Bool → Levels → Syntax → Numbered → List Associativity → Printed → Type 0
+  ReportsFindings shows levels s g associativities reported = (all : List ShownFinding) × AreFindings text s g associativities all
+      × (lines states : List ℕ) × AreFindingLines (reported_by text levels all) lines × ShowsStates (is_text format && shows) g associativities states
+      × (reported.lines ≡ lines ++ states)
       × (reported.errors ≡ count_by (λ (finding : Reported). finding.is_error) (reported_by text levels all))
       × (reported.errors + reported.warnings ≡ length (reported_by text levels all))

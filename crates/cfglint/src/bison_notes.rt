@@ -1,9 +1,10 @@
 //! The note on an error of a Bison file.
 
-ghost use Rattle.std.specs.Prelude.{◌≡◌, IfOk, option_map, slice_range, string_bytes};
+ghost use Rattle.std.specs.Prelude.{◌≡◌, [], ◌∷◌, ◌++◌, IfOk, codes, option_map, slice_range, string_bytes};
 ghost use Rattle.cfgrammar.specs.TextSpans.{IsPiece};
-ghost use Rattle.cfglint.specs.BisonNotes.{begins_as_name, begins_with, begins_with_mark, bison_note, closing};
-ghost use Rattle.cfglint.specs.BisonNotes.{fault_note, found_note, long_word, symbol_note, unexpected_note, word_note};
+ghost use Rattle.cfglint.specs.BisonNotes.{begins_as_name, begins_with, begins_with_mark, begins_with_quote};
+ghost use Rattle.cfglint.specs.BisonNotes.{bison_note, character_advice, characters_note, closing, fault_advice, fault_note};
+ghost use Rattle.cfglint.specs.BisonNotes.{found_note, long_word, symbol_note, unexpected_note, word_note};
 
 use crate::suggestion::{Names, question_of};
 use cfgrammar::Span;
@@ -60,16 +61,73 @@ fn closing(fault: WordFaultKind) -> Option<&'static str>
     }
 }
 
-/// The note on a misspelled directive and on a byte order mark, if the word is one.
+/// The note on a fault in a word that has an end, if it has one.
 fn word_note(alloc: Global, fault: WordFaultKind, word: &str) -> Result<Option<String>, AllocError>
     ensures { IfOk result (λ hint. option_map (λ words. string_bytes words) hint ≡ word_note fault word.now) }
 {
     match fault {
         WordFaultKind::UnknownDirective => question_of(alloc, &DIRECTIVES, word),
-        WordFaultKind::IllegalCharacters if begins_with_mark(word) => {
-            Ok(Some(String::from_str(alloc, "a byte order mark: save the file without one")?))
+        WordFaultKind::IllegalCharacters => Ok(Some(characters_note(alloc, word)?)),
+        WordFaultKind::EmptyLiteral => Ok(Some(String::from_str(alloc, EMPTY_LITERAL)?)),
+        WordFaultKind::LongLiteral => Ok(Some(String::from_str(alloc, LONG_LITERAL)?)),
+        WordFaultKind::IllegalName => Ok(Some(String::from_str(alloc, ILLEGAL_NAME)?)),
+        _ => advice_note(alloc, word, fault_advice(fault)),
+    }
+}
+
+/// The note that says what was found, and this advice, if there is one.
+fn advice_note(
+    alloc: Global,
+    word: &str,
+    advice: Option<&str>,
+) -> Result<Option<String>, AllocError>
+    ensures { IfOk result (λ hint. option_map (λ words. string_bytes words) hint
+        ≡ option_map (λ advice. codes "found '" ++ (word.now ++ (codes "'" ++ advice.now))) advice.entry) }
+{
+    match advice {
+        Some(advice) => Ok(Some(format!(in alloc; "found '{word}'{advice}")?)),
+        None => Ok(None),
+    }
+}
+
+/// What to say of a fault after the word with it.
+fn fault_advice(fault: WordFaultKind) -> Option<&'static str>
+    ensures { option_map (λ advice. advice.now) result ≡ fault_advice fault }
+{
+    match fault {
+        WordFaultKind::IllegalEscape => Some(": escapes are those of C, and '\\\\' is a backslash"),
+        WordFaultKind::IllegalIdentifier => {
+            Some(": a name begins with no digit, and a string is in double quotes")
         }
-        _ => Ok(None),
+        WordFaultKind::IllegalInteger => Some(": the greatest number is 2147483647"),
+        _ => None,
+    }
+}
+
+/// The note on characters that begin no word.
+fn characters_note(alloc: Global, word: &str) -> Result<String, AllocError>
+    ensures { IfOk result (λ note. string_bytes note ≡ characters_note word.now) }
+{
+    if begins_with_mark(word) {
+        return String::from_str(alloc, "a byte order mark: save the file without one");
+    }
+    let advice = character_advice(word);
+    format!(in alloc; "found '{word}'{advice}")
+}
+
+/// What to say of such characters.
+#[tactic(auto, unfolding(crate::specs::BisonNotes::character_advice))]
+fn character_advice(word: &str) -> &'static str
+    ensures { result.now ≡ character_advice word.now }
+{
+    if begins_with(word, "#") {
+        ": comments begin with '//' or '/*'"
+    } else if begins_with(word, ":") {
+        ": one ':' is between a rule's name and its productions"
+    } else if begins_with_quote(word) {
+        ": quotes are ' and \""
+    } else {
+        ": a token is in quotes, and productions have no operators"
     }
 }
 
@@ -121,7 +179,7 @@ fn unexpected_note(alloc: Global, expected: Expected, word: &str) -> Result<Stri
 {
     match expected {
         Expected::Rule if begins_as_name(word) => {
-            Ok(format!(in alloc; "found '{word}', and no ':' after it")?)
+            Ok(format!(in alloc; "found '{word}', and no ':' after it: '%%' comes before code")?)
         }
         _ => found_note(alloc, word),
     }
@@ -134,6 +192,18 @@ fn begins_as_name(word: &str) -> bool
     match word.as_bytes() {
         [b, ..] => b.is_ascii_alphabetic() || *b == b'_' || *b == b'.',
         [] => false,
+    }
+}
+
+/// Whether a word begins with a typographic quote.
+fn begins_with_quote(word: &str) -> bool
+    ensures { result ≡ begins_with_quote word.now }
+{
+    match word.as_bytes() {
+        [first, second, third, ..] => {
+            *first == 226 && *second == 128 && *third >= 152 && *third <= 159
+        }
+        _ => false,
     }
 }
 
@@ -153,6 +223,14 @@ fn symbol_note(alloc: Global, names: &Names<'_>, name: &str) -> Result<String, A
         None => Ok(format!(in alloc; "if it is a token, declare it by %token")?),
     }
 }
+
+/// The notes on literals of no character and of more than one, and on names in brackets.
+const EMPTY_LITERAL: &str =
+    "one character is between the quotes, and %empty is for a production without symbols";
+
+const LONG_LITERAL: &str = "several characters are in double quotes";
+
+const ILLEGAL_NAME: &str = "brackets have one name";
 
 /// The directives that may be meant.
 const DIRECTIVES: [&str; 42] = [

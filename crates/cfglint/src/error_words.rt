@@ -3,7 +3,7 @@
 ghost use Rattle.std.specs.Prelude.{◌≡◌};
 ghost use Rattle.cfgrammar.specs.Errors.{kind_view};
 ghost use Rattle.cfgrammar.specs.HeaderErrors.{error_kind_view};
-ghost use Rattle.cfglint.specs.ErrorWords.{error_word, section_word};
+ghost use Rattle.cfglint.specs.ErrorWords.{error_word, has_symbols_of, section_word};
 
 use cfgrammar::header::HeaderErrorKind;
 use cfgrammar::yacc::YaccGrammarErrorKind;
@@ -49,6 +49,19 @@ pub(crate) fn error_word(kind: &YaccGrammarErrorKind) -> &'static str
         YaccGrammarErrorKind::InvalidYaccKind => "invalid-yacc-kind",
         YaccGrammarErrorKind::Header(kind, _) => section_word(kind),
         YaccGrammarErrorKind::StorageTooSmall => "storage-too-small",
+    }
+}
+
+/// Whether the spans of an error of this kind are names of symbols: those that the file doesn't have.
+pub(crate) fn has_symbols(kind: &YaccGrammarErrorKind) -> bool
+    ensures { result ≡ has_symbols_of (kind_view kind.now) }
+{
+    match kind {
+        YaccGrammarErrorKind::InvalidStartRule(_)
+        | YaccGrammarErrorKind::UnknownRuleRef(_)
+        | YaccGrammarErrorKind::UnknownToken(_)
+        | YaccGrammarErrorKind::UnknownEPP(_) => true,
+        _ => false,
     }
 }
 

@@ -1,8 +1,10 @@
 //! What is reported of the text of a file, in the format that the options name.
 
-ghost use Rattle.std.specs.Prelude.{IfOk, string_bytes};
+ghost use Rattle.std.specs.Prelude.{◌&&◌, IfOk, string_bytes};
 ghost use Rattle.cfgrammar.specs.TreeView.{syntax};
+ghost use Rattle.cfglint_shell.specs.Formats.{is_text};
 ghost use Rattle.cfglint.specs.ReportedLines.{AreErrorLines, AreFindingLines, ReportsFindings, ReportsNoted};
+ghost use Rattle.cfglint.specs.ReportedLines.{ShowsStates};
 
 use crate::reported::{ReportedFinding, error_count, finding_lines, reported_findings};
 use crate::reported_error::{ReportedError, error_lines};
@@ -12,6 +14,7 @@ use cfglint_shell::{Format, LintOptions, Report};
 use cfgrammar::bison::Associativity;
 use cfgrammar::yacc::YaccGrammar;
 use cfgrammar::yacc::ast::GrammarAST;
+use conflict_findings::states_text;
 use std::alloc::{AllocError, Global};
 
 /// Reports errors or findings for the text of the file with this name, without what it was read as.
@@ -44,7 +47,8 @@ impl FileReporter<'_> {
         })
     }
 
-    /// Reports the findings about a grammar, the operators of whose levels associate as this says.
+    /// Reports the findings about a grammar, the operators of whose levels associate as this says, and after them the
+    /// states of its parser if the options show them.
     ///
     /// # Errors
     ///
@@ -58,11 +62,14 @@ impl FileReporter<'_> {
         associativities: &[Associativity],
     ) -> Result<Report, AllocError>
         ensures { IfOk result (ReportsFindings self.now.options.format self.now.options.columns self.now.name.now
-            text.now self.now.options.levels (syntax ast.now) grammar.now associativities.now) }
+            text.now self.now.options.shows_states self.now.options.levels (syntax ast.now) grammar.now
+            associativities.now) }
     {
         let all = findings(alloc, text, ast, grammar, associativities)?;
         let reported = reported_findings(alloc, text, &all, &self.options.levels)?;
-        let lines = self.finding_lines(alloc, text, &reported)?;
+        let mut lines = self.finding_lines(alloc, text, &reported)?;
+        let states = self.states_lines(alloc, grammar, associativities)?;
+        lines.push_str(&states)?;
         let errors = error_count(&reported);
         Ok(Report {
             lines,
@@ -105,6 +112,25 @@ impl FileReporter<'_> {
             Format::Json => json_lines(alloc, self.name, text, all),
             Format::Github => annotation_lines(alloc, self.name, text, all),
             Format::Sarif => result_lines(alloc, self.name, text, all),
+        }
+    }
+
+    /// The states of the grammar's parser if they are shown, as only the format `text` does; otherwise nothing.
+    fn states_lines(
+        &self,
+        alloc: Global,
+        grammar: &YaccGrammar<u32>,
+        associativities: &[Associativity],
+    ) -> Result<String, AllocError>
+        ensures { IfOk result (λ states. ShowsStates
+            (is_text self.now.options.format && self.now.options.shows_states) grammar.now associativities.now
+            (string_bytes states)) }
+    {
+        match self.options.format {
+            Format::Text if self.options.shows_states => {
+                states_text(alloc, grammar, associativities)
+            }
+            _ => Ok(String::new(alloc)),
         }
     }
 }

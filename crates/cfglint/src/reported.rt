@@ -1,12 +1,12 @@
 //! Findings as the program reports them.
 
-ghost use Rattle.std.specs.Prelude.{◌≡◌, IfOk, string_bytes};
+ghost use Rattle.std.specs.Prelude.{◌≡◌, [], ◌∷◌, ◌++◌, IfOk, OnOk, string_bytes};
 ghost use Rattle.std.specs.List.{count_by};
 ghost use Rattle.cfglint.specs.Allowed.{AreOf};
-ghost use Rattle.cfglint.specs.ReportedFindings.{finding_lines, level_in, reported_by};
+ghost use Rattle.cfglint.specs.ReportedFindings.{finding_lines, has_symbols_of, level_in, reported_by};
 
 use crate::allowed::Allowances;
-use cfgfindings::Finding;
+use cfgfindings::{Finding, FindingKind};
 use cfgjson::{Diagnosed, Diagnostic};
 use cfgrammar::{ColumnUnit, Source, Span, Spanned, SpansKind};
 use finding_kinds::{Level, Levels};
@@ -72,10 +72,34 @@ impl Diagnosed for ReportedFinding<'_> {
             is_error: self.is_error,
             kind: self.finding.kind().word(),
             text,
-            hint: None,
+            hint: self.finding.hint(),
             spans: self.finding.spans(),
+            has_symbols: has_symbols(self.finding.kind()),
         }
     }
+}
+
+/// Whether the spans of findings of this kind are names of symbols.
+fn has_symbols(kind: FindingKind) -> bool
+    ensures { result ≡ has_symbols_of kind }
+{
+    matches!(
+        kind,
+        FindingKind::UnusedRule
+            | FindingKind::UnusedToken
+            | FindingKind::ShadowedRule
+            | FindingKind::StartWithoutSentence
+            | FindingKind::NoSentence
+            | FindingKind::UnusableRule
+            | FindingKind::UselessSymbol
+            | FindingKind::CyclicRule
+            | FindingKind::UnusedPrecedence
+            | FindingKind::RepeatedToken
+            | FindingKind::OverriddenPrecedence
+            | FindingKind::GluedKeyword
+            | FindingKind::NeedlessExpectUnused
+            | FindingKind::EscapedToken
+    )
 }
 
 /// The findings about a text that are reported with these levels, in order: those that no comment allows.
@@ -112,7 +136,7 @@ fn level_of(text: &str, allowances: &Allowances<'_>, levels: &Levels, finding: &
     }
 }
 
-/// The findings as people read them.
+/// The findings as people read them, each with its note after it.
 pub(crate) fn finding_lines(
     alloc: Global,
     unit: ColumnUnit,
@@ -125,9 +149,26 @@ pub(crate) fn finding_lines(
     let source = Source::with_columns(alloc, name, text, unit)?;
     let mut lines = String::new(alloc);
     for finding in findings {
-        source.push(alloc, &mut lines, finding)?;
+        push_finding(alloc, &mut lines, &source, finding)?;
     }
     Ok(lines)
+}
+
+/// Writes a finding, and its note after it.
+fn push_finding(
+    alloc: Global,
+    lines: &mut String,
+    source: &Source<'_>,
+    reported: &ReportedFinding<'_>,
+) -> Result<(), AllocError>
+    ensures { OnOk result (string_bytes lines.new ≡ string_bytes lines.old
+        ++ finding_lines source.now.unit source.now.name.now source.now.text (reported.now ∷ [])) }
+{
+    source.push(alloc, lines, reported)?;
+    match reported.finding.hint() {
+        Some(hint) => source.push_note(lines, hint, reported.finding.offset()),
+        None => Ok(()),
+    }
 }
 
 /// How many of them are errors.

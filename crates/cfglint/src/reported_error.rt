@@ -2,19 +2,20 @@
 
 ghost use Rattle.std.specs.Prelude.{◌≡◌, [], ◌∷◌, ◌++◌, IfOk, OnOk, string_bytes};
 ghost use Rattle.std.specs.Option.{option_map};
-ghost use Rattle.cfglint.specs.BisonNotes.{bison_noted_as};
+ghost use Rattle.cfglint.specs.BisonNotes.{bison_noted_as, has_symbols_of};
 ghost use Rattle.cfglint.specs.ReportedErrors.{error_lines, error_offset, noted_as};
 
-use crate::error_words::error_word;
+use crate::error_words::{error_word, has_symbols};
 use cfgjson::{Diagnosed, Diagnostic};
-use cfgrammar::bison::Error;
+use cfgrammar::bison::{Error, ErrorKind};
 use cfgrammar::yacc::YaccGrammarError;
 use cfgrammar::{ColumnUnit, Source, Span, Spanned, SpansKind};
 use std::alloc::{AllocError, Global};
 use std::fmt;
 use std::marker::Model;
 
-/// An error, as it is reported: what it says, the word of its kind, where it is, and the note on it, if there is one.
+/// An error, as it is reported: what it says, the word of its kind, where it is, the note on it, if there is one,
+/// and whether its spans are names of symbols.
 #[derive(Debug, Drop)]
 pub(crate) struct ReportedError {
     text: String,
@@ -22,6 +23,7 @@ pub(crate) struct ReportedError {
     spans: Vec<Span>,
     spanskind: SpansKind,
     hint: Option<String>,
+    has_symbols: bool,
 }
 
 impl Model for ReportedError {
@@ -37,6 +39,7 @@ impl Model for ReportedError {
       spans = x.spans.items;
       spanskind = x.spanskind;
       hint = option_map (λ words. string_bytes words) x.hint;
+      has_symbols = x.has_symbols;
     } };
 }
 
@@ -60,6 +63,7 @@ impl ReportedError {
             spans: error.spans().to_vec(alloc)?,
             spanskind: error.spanskind(),
             hint,
+            has_symbols: has_symbols(error.kind()),
         })
     }
 
@@ -82,6 +86,7 @@ impl ReportedError {
             spans: error.spans(alloc)?,
             spanskind: error.spanskind(),
             hint,
+            has_symbols: is_about_symbol(error.kind),
         })
     }
 
@@ -150,8 +155,16 @@ impl Diagnosed for ReportedError {
             text,
             hint: self.hint(),
             spans: self.spans.as_slice(),
+            has_symbols: self.has_symbols,
         }
     }
+}
+
+/// Whether the span of an error of this kind in a Bison file is the name of a symbol that the file doesn't have.
+fn is_about_symbol(kind: ErrorKind) -> bool
+    ensures { result ≡ has_symbols_of kind }
+{
+    matches!(kind, ErrorKind::UnknownSymbol | ErrorKind::InvalidStart)
 }
 
 /// The errors as people read them, each with its note after it.

@@ -1,5 +1,5 @@
 -- Files that can't be read as text, and what is said of them: on a line as other errors have, and for programs as of other errors.
-use Rattle.std.specs.Prelude.{ℕ, ◌/◌, ◌%◌, true, List, [], ◌∷◌, ◌++◌, None, codes, length, slice_index, take}
+use Rattle.std.specs.Prelude.{ℕ, ◌/◌, ◌%◌, true, false, List, [], ◌∷◌, ◌++◌, None, codes, length, slice_index, take}
 use Rattle.std.specs.Fmt.{decimal, digit_glyph}
 use Rattle.cfgjson.specs.Annotations.{annotation}
 use Rattle.cfgjson.specs.Objects.{ShownDiagnostic, json_line}
@@ -56,6 +56,7 @@ shown_fault fault = record {
   text = fault.message;
   hint = None;
   spans = record { start = length fault.text; end = length fault.text } ∷ [];
+  has_symbols = false;
 }
 
 -- what a format has of it among the lines for texts

@@ -110,6 +110,7 @@ impl<'a> Options<'a> {
                 levels: Levels::new(),
                 format: Format::Text,
                 columns: ColumnUnit::Characters,
+                shows_states: false,
             },
             stdin_name: "-",
             denies: false,
@@ -185,6 +186,7 @@ impl<'a> Options<'a> {
             "--" => return Ok(Step::Goes(Expected::File)),
             "--deny-warnings" => self.denies = true,
             "--quiet" => self.is_quiet = true,
+            "--states" => self.lint.shows_states = true,
             option if is_option(option) => return Ok(self.take_option(option)),
             file => self.files.push(file)?,
         }

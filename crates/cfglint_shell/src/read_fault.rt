@@ -1,6 +1,6 @@
 //! Files that can't be read as text.
 
-ghost use Rattle.std.specs.Prelude.{◌≡◌, ◌++◌, None, true, IfOk, IsUtf8, OnOk, length, string_bytes};
+ghost use Rattle.std.specs.Prelude.{◌≡◌, ◌++◌, None, true, false, IfOk, IsUtf8, OnOk, length, string_bytes};
 ghost use Rattle.std.specs.Str.{IsValidUpTo};
 ghost use Rattle.cfgjson.specs.Annotations.{annotation};
 ghost use Rattle.cfgjson.specs.Objects.{json_line};
@@ -148,6 +148,7 @@ fn error_at<'a>(kind: &'a str, text: &'a str, spans: &'a [Span]) -> Diagnostic<'
       text = text.now;
       hint = None;
       spans = spans.now;
+      has_symbols = false;
     } }
 {
     Diagnostic {
@@ -156,6 +157,7 @@ fn error_at<'a>(kind: &'a str, text: &'a str, spans: &'a [Span]) -> Diagnostic<'
         text,
         hint: None,
         spans,
+        has_symbols: false,
     }
 }
 

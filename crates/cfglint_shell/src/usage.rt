@@ -39,6 +39,8 @@ usage: cfglint [OPTION..] [--] FILE..
                      Only text has a summary.
   --columns UNIT     What a column of text counts from 1: bytes, characters, the default, or display: columns of a
                      terminal, of which wide characters take two, and tabs those up to the next multiple of 8.
+  --states           Writes the states of the parser after the findings, for reading a conflict by hand. Only text has
+                     them.
   --allow FINDING    Findings of this kind aren't reported.
   --warn FINDING     Findings of this kind are warnings.
   --deny FINDING     Findings of this kind are errors.
@@ -257,7 +259,7 @@ fn push_rest(text: &mut String, names: &[&str]) -> Result<(), AllocError>
 }
 
 /// The options.
-const OPTIONS: [&str; 12] = [
+const OPTIONS: [&str; 13] = [
     "--kind",
     "--default-kind",
     "--format",
@@ -266,6 +268,7 @@ const OPTIONS: [&str; 12] = [
     "--warn",
     "--deny",
     "--deny-warnings",
+    "--states",
     "--quiet",
     "--stdin-name",
     "--help",

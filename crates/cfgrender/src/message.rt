@@ -8,10 +8,10 @@ use cfgbase::Spanned;
 use std::alloc::{AllocError, Global};
 
 /// Renders an error or a warning in a text of this name: the line and the column where its first span starts, what it
-/// says, and that line of the text with carets under the span. The spans of duplicates follow, each in the same form. A
-/// span that doesn't start at a character boundary of the text is rendered without a line of it. In the name, in what the
-/// error says and in the line, control characters other than tabs and format characters are replaced by their escapes,
-/// as [`Visible`](crate::Visible) does.
+/// says, and that line of the text with carets under the span. The spans of duplicates follow, each in the same form.
+/// A span that doesn't start at a character boundary of the text is rendered without a line of it. In the name, in
+/// what the error says and in the line, control characters other than tabs and format characters are replaced by
+/// their escapes, as [`Visible`](crate::Visible) does.
 ///
 /// # Errors
 ///

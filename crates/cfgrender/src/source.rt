@@ -66,7 +66,8 @@ impl<'a> Source<'a> {
     ) -> Result<(), AllocError>
         ensures { OnOk result ((message : List ℕ) × IfSome (E.output error.now) (λ printed. message ≡ printed)
             × (string_bytes out.new ≡ string_bytes out.old
-            ++ rendered_in self.now.unit self.now.name.now self.now.text message (E.spans error.now) (E.spanskind error.now))) }
+            ++ rendered_in self.now.unit self.now.name.now self.now.text message
+            (E.spans error.now) (E.spanskind error.now))) }
     {
         let message = error.to_string(alloc)?;
         self.push_rendered(out, &message, error.spans(), error.spanskind())

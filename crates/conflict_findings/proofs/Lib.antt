@@ -1,1 +1,3 @@
 pub mod Within
+pub mod Sides
+pub mod Ranges

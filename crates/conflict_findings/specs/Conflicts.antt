@@ -1,17 +1,19 @@
 -- The findings about conflicts.
-use Rattle.std.specs.Prelude.{◌≡◌, ◌||◌, ℕ, ◌-◌, ◌^◌, Bool, not, List, [], ◌∷◌, ◌++◌, All, if◌then◌else◌, codes, count_by, is_some, length, map, min, nat_lt, sum}
+use Rattle.std.specs.Prelude.{◌≡◌, ◌||◌, ℕ, zero, suc, ◌-◌, ◌^◌, Bool, not, List, [], ◌∷◌, ◌++◌, Option, None, Some, All, Contains, if◌then◌else◌, codes, count_by, is_some, length, map, min, nat_lt, sum}
 use Rattle.std.specs.List.{filter}
 use Rattle.cfgrammar.specs.Associativity.{Associativity}
 use Rattle.cfgrammar.specs.Numbered.{Numbered, core}
 use Rattle.cfgrammar.specs.Syntax.{Settings}
 use Rattle.text_findings.specs.Finding.{ShownFinding}
-use Rattle.lr_states.specs.Automaton.{AreGotos}
+use Rattle.lr_states.specs.Automaton.{AreGotos, Automaton}
 use Rattle.lr_states.specs.Viable.{AreStates, IsUsed}
 use Rattle.lr_conflicts.specs.declared.Conflict.{Conflict}
 use Rattle.lr_conflicts.specs.declared.clashes.Clash.{Clash}
 use Rattle.lr_conflicts.specs.Conflicts.{AreConflicts, ConflictTables}
-use Rattle.lr_conflicts.specs.Clashes.{AreClashes}
-use Rattle.conflict_findings.specs.Shown.{clash_finding, unmet}
+use Rattle.lr_conflicts.specs.Clashes.{AreClashes, IsIn}
+use Rattle.conflict_examples.specs.Examples.{IsExample}
+use Rattle.conflict_examples.specs.declared.Example.{Example}
+use Rattle.conflict_findings.specs.Shown.{clash_finding, example_text, unmet}
 
 -- the same but for the token
 pub record IsLike (a b : Clash) : Type 0 where
@@ -24,12 +26,23 @@ abbrev pub BeginsOther : Clash → List Clash → Type 0
 BeginsOther a [] = Unit {0}
 BeginsOther a (b ∷ rest) = IsLike a b → ⊥
 
--- one finding for clashes in a row that are the same but for the token
-pub data AreGrouped (g : Numbered) : List Clash → List ShownFinding → Type 0 where
-  none : AreGrouped g [] []
-  group : (first : Clash) (same rest : List Clash) → All (IsLike first) same → BeginsOther first rest → {findings : List ShownFinding}
-      → AreGrouped g rest findings
-      → AreGrouped g (first ∷ (same ++ rest)) (clash_finding g first (map (λ clash. clash.token) (first ∷ same)) ∷ findings)
+-- how many findings have an example, since each takes a search
+abbrev pub most_examples : ℕ
+most_examples = 20
+
+module _ (g : Numbered) (x : Automaton) (conflicts : List Conflict) where
+  -- an example of the clash in one of the conflicts; no note where no example is left to give
+  abbrev pub IsNote : ℕ → Clash → Option (List ℕ) → Type 0
+  IsNote zero clash note = note ≡ None
+  IsNote (suc left) clash note = (conflict : Conflict) × Contains conflicts conflict × IsIn g x conflict clash
+      × (example : Example) × IsExample g x conflict clash example × (note ≡ Some (example_text g example))
+
+  -- one finding for clashes in a row that are the same but for the token; the first findings, so many, have an example
+  pub data AreGrouped : ℕ → List Clash → List ShownFinding → Type 0 where
+    none : {left : ℕ} → AreGrouped left [] []
+    group : {left : ℕ} (first : Clash) (same rest : List Clash) → All (IsLike first) same → BeginsOther first rest
+        → (note : Option (List ℕ)) → IsNote left first note → {findings : List ShownFinding} → AreGrouped (left - 1) rest findings
+        → AreGrouped left (first ∷ (same ++ rest)) (clash_finding g first (map (λ clash. clash.token) (first ∷ same)) note ∷ findings)
 
 -- how many there are, as Bison counts them, as far as the program counts
 abbrev pub shift_reduce_count : List Conflict → ℕ
@@ -56,5 +69,5 @@ pub record AreConflictFindings (g : Numbered) (associativities : List Associativ
   pub clashes : List Clash
   pub are_clashes : AreClashes g x.lookaheads.automaton x.conflicts clashes
   pub grouped : List ShownFinding
-  pub are_grouped : AreGrouped g (filter (is_listed settings (all_unmet settings x.conflicts)) clashes) grouped
+  pub are_grouped : AreGrouped g x.lookaheads.automaton x.conflicts most_examples (filter (is_listed settings (all_unmet settings x.conflicts)) clashes) grouped
   pub is : reported ≡ all_unmet settings x.conflicts ++ grouped

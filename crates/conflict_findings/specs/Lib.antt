@@ -1,3 +1,4 @@
 pub mod Shown
 pub mod Conflicts
+pub mod States
 pub mod Inner

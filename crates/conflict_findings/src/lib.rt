@@ -1,8 +1,12 @@
-//! Findings about conflicts: where a grammar isn't LALR(1), and expectations of conflicts that aren't met.
+//! Findings about conflicts: where a grammar isn't LALR(1), and expectations of conflicts that aren't met. And the
+//! states of a grammar's parser as text, for reading a conflict by hand.
 #![tactic(auto)]
 
+mod examples;
 mod expectations;
 mod grouped;
+mod states;
+mod symbols;
 mod texts;
 
 ghost use Rattle.std.specs.Prelude.{◌≡◌, ◌++◌, OnOk};
@@ -15,13 +19,15 @@ use cfgrammar::bison::Associativity;
 use cfgrammar::yacc::YaccGrammar;
 use cfgrammar::yacc::ast::GrammarAST;
 use lr_conflicts::Conflicts;
+pub use states::states_text;
 use std::alloc::{AllocError, Global};
 use text_findings::Finding;
 
-/// Adds the findings about conflicts: first the expectations of the file that aren't met, and then a finding for each two
-/// productions that are in conflict, with all tokens at which they are. `ast` is the tree of the file, and `grammar` its
-/// numbers. `associativities` says how the operators of each level of precedences associate, as a `BisonFile` does; of a
-/// level that isn't in the list, the tokens themselves say it.
+/// Adds the findings about conflicts: first the expectations of the file that aren't met, and then a finding for each
+/// two productions that are in conflict, with all tokens at which they are. The first 20 of these have an example as
+/// their note. `ast` is the tree of the file, and `grammar` its numbers. `associativities` says how the operators of
+/// each level of precedences associate, as a `BisonFile` does; of a level that isn't in the list, the tokens
+/// themselves say it.
 ///
 /// # Errors
 ///
@@ -39,6 +45,5 @@ pub fn push_conflicts(
 {
     let conflicts = Conflicts::of(alloc, grammar, associativities)?;
     let listing = push_unmet(alloc, all, ast, &conflicts)?;
-    let clashes = conflicts.clashes(alloc, grammar)?;
-    push_grouped(alloc, all, grammar, &clashes, listing)
+    push_grouped(alloc, all, grammar, &conflicts, listing)
 }

@@ -1,27 +1,23 @@
 //! The texts of findings about conflicts.
 
-ghost use Rattle.std.specs.Prelude.{◌≡◌, ◌++◌, ◌∷◌, ◌<◌, ◌≤◌, All, Contains, IfOk, OnOk, length, map, string_bytes};
-ghost use Rattle.std.specs.List.{flat_map};
-ghost use Rattle.cfgrammar.specs.Accessors.{IsSymbolWithin, sym_name};
-ghost use Rattle.cfgrammar.specs.Numbered.{core};
+ghost use Rattle.std.specs.Prelude.{◌≡◌, ◌++◌, ◌∷◌, All, Contains, IfOk, None, OnOk, map, string_bytes};
+ghost use Rattle.cfgrammar.specs.Accessors.{IsSymbolWithin};
 ghost use Rattle.cfgrammar.specs.NumberedSymbols.{sym_of};
-ghost use Rattle.cfgrammar.specs.Openings.{nth_production};
 ghost use Rattle.conflict_findings.specs.Inner.Within.{IsWithin};
-ghost use Rattle.conflict_findings.specs.Shown.{after_text, clash_finding, clash_kind, clash_spans, clash_title, item_text};
-ghost use Rattle.conflict_findings.specs.Shown.{other_text, production_text, read_symbols, symbols_text, token_text, tokens_text};
+ghost use Rattle.conflict_findings.specs.Shown.{after_text, clash_finding, clash_kind, clash_spans, clash_title};
+ghost use Rattle.conflict_findings.specs.Shown.{other_text, read_symbols, tokens_text};
 ghost use Rattle.lr_conflicts.specs.declared.clashes.Clash.{Clash};
-ghost use Rattle.text_findings.specs.Named.{rule_name};
 
+use crate::symbols::{write_item, write_production, write_symbols, write_token};
 use cfgrammar::storage::to_storage;
 use cfgrammar::yacc::YaccGrammar;
-use cfgrammar::{PIdx, RIdx, Span, Symbol, TIdx};
+use cfgrammar::{PIdx, Span, Symbol};
 use lr_conflicts::Clash;
-use lr_states::Item;
-use lr_states::tables::{rule_of, symbols_of};
+use lr_states::tables::symbols_of;
 use std::alloc::{AllocError, Global};
 use text_findings::{Finding, FindingKind};
 
-/// The finding that these clash, which are the same but for the token.
+/// The finding that these clash, which are the same but for the token, without a note.
 pub(crate) fn clash_finding(
     alloc: Global,
     grammar: &YaccGrammar<u32>,
@@ -31,7 +27,7 @@ pub(crate) fn clash_finding(
     requires first { IsWithin grammar.now first }
     requires same { (clash : Clash) → Contains same.now clash → IsWithin grammar.now clash }
     ensures { IfOk result (λ finding. finding
-        ≡ clash_finding grammar.now first (map (λ clash. clash.token) (first ∷ same.now))) }
+        ≡ clash_finding grammar.now first (map (λ clash. clash.token) (first ∷ same.now)) None) }
 {
     let mut text = String::from_str(alloc, title_of(first))?;
     write_tokens(&mut text, grammar, first, same)?;
@@ -114,23 +110,6 @@ fn write_tokens(
     Ok(())
 }
 
-/// Writes a token's name in quotes; the end token has none.
-fn write_token(
-    text: &mut String,
-    grammar: &YaccGrammar<u32>,
-    token: usize,
-) -> Result<(), AllocError>
-    requires { token < length grammar.now.tokens }
-    ensures { OnOk result (string_bytes text.new ≡ string_bytes text.old ++ token_text grammar.now token) }
-{
-    grammar.invariant_holds();
-    let token = TIdx(to_storage(token));
-    if token == grammar.eof_token_idx() {
-        return text.push_str("the end of the text");
-    }
-    write!(text, "'{}'", grammar.token_name(token).unwrap_or(""))
-}
-
 /// Writes what was read, if anything was.
 fn write_after(
     text: &mut String,
@@ -167,66 +146,4 @@ fn write_other(
     }
     text.push_str("go on with  ")?;
     write_item(text, grammar, clash.other)
-}
-
-/// Writes a production: its rule and its symbols.
-fn write_production(
-    text: &mut String,
-    grammar: &YaccGrammar<u32>,
-    production: usize,
-) -> Result<(), AllocError>
-    requires { production < length grammar.now.productions }
-    ensures { OnOk result (string_bytes text.new ≡ string_bytes text.old ++ production_text grammar.now production) }
-{
-    write!(text, "{}:", owner_name(grammar, production))?;
-    write_symbols(text, grammar, symbols_of(grammar, production))
-}
-
-/// Writes a production with a dot before what isn't read.
-fn write_item(text: &mut String, grammar: &YaccGrammar<u32>, item: Item) -> Result<(), AllocError>
-    requires within { item.production < length grammar.now.productions }
-    requires read { item.read ≤ length (nth_production (core grammar.now) item.production).symbols }
-    ensures { OnOk result (string_bytes text.new ≡ string_bytes text.old ++ item_text grammar.now item) }
-{
-    let (read, rest) = symbols_of(grammar, item.production).split_at(item.read);
-    write!(text, "{}:", owner_name(grammar, item.production))?;
-    write_symbols(text, grammar, read)?;
-    text.push_str(" .")?;
-    write_symbols(text, grammar, rest)
-}
-
-/// The name of a production's rule.
-fn owner_name(grammar: &YaccGrammar<u32>, production: usize) -> &str
-    requires { production < length grammar.now.productions }
-    ensures { result.now ≡ rule_name grammar.now (nth_production (core grammar.now) production).rule }
-{
-    grammar.invariant_holds();
-    grammar.rule_name_str(RIdx(to_storage(rule_of(grammar, production))))
-}
-
-/// Writes the names of symbols, each after a blank.
-fn write_symbols(
-    text: &mut String,
-    grammar: &YaccGrammar<u32>,
-    symbols: &[Symbol<u32>],
-) -> Result<(), AllocError>
-    requires { All (IsSymbolWithin (λ s. s) grammar.now) symbols.now }
-    ensures { OnOk result (string_bytes text.new
-        ≡ string_bytes text.old ++ symbols_text grammar.now (map (sym_of (λ s. s)) symbols.now)) }
-{
-    for symbol in symbols {
-        write!(text, " {}", symbol_name(grammar, *symbol))?;
-    }
-    Ok(())
-}
-
-/// The name of a rule or a token.
-fn symbol_name(grammar: &YaccGrammar<u32>, symbol: Symbol<u32>) -> &str
-    requires { IsSymbolWithin (λ s. s) grammar.now symbol }
-    ensures { result.now ≡ sym_name grammar.now (sym_of (λ s. s) symbol) }
-{
-    match symbol {
-        Symbol::Rule(rule) => grammar.rule_name_str(rule),
-        Symbol::Token(token) => grammar.token_name(token).unwrap_or(""),
-    }
 }

@@ -20,7 +20,7 @@ is_implicitly_empty text production =
 -- the finding about it, if that is true
 abbrev pub implicitly_empty : List ℕ → Production → Option ShownFinding
 implicitly_empty text production = if is_implicitly_empty text production
-    then Some (record { kind = ImplicitEmpty; spans = production.span ∷ []; text = codes "Empty production without %empty" })
+    then Some (record { kind = ImplicitEmpty; spans = production.span ∷ []; text = codes "Empty production without %empty"; hint = None })
     else None
 
 -- the name of the rule of the n-th production

@@ -19,6 +19,7 @@ escaped_token word = record {
   kind = EscapedToken;
   spans = word.span ∷ [];
   text = codes "Token '" ++ (word.name ++ codes "' begins with a backslash: a quoted text has no escapes");
+  hint = None;
 }
 
 -- the finding about a token, if its name is such a name

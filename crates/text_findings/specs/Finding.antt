@@ -1,5 +1,5 @@
 -- A finding as plain data, as callers see a `Finding`.
-use Rattle.std.specs.Prelude.{ℕ, List, slice_get}
+use Rattle.std.specs.Prelude.{ℕ, List, Option, slice_get}
 use Rattle.std.specs.Option.{option_map_or}
 use Rattle.cfgrammar.specs.Span.{Span}
 use Rattle.cfgrammar.specs.SpansKind.{SpansKind}
@@ -7,11 +7,12 @@ use Rattle.cfgrammar.specs.SpansKind.TheVariants.{DuplicationError, Error}
 use Rattle.finding_kinds.specs.declared.finding_kind.FindingKind.{FindingKind}
 use Rattle.finding_kinds.specs.declared.finding_kind.FindingKind.TheVariants.{CyclicRule, NoSentence, ReduceReduce, RepeatedProduction, ShadowedRule, ShiftReduce, StartWithoutSentence}
 
--- the kind of finding, its spans and its text
+-- the kind of finding, its spans, its text, and the note on it, if there is one
 pub record ShownFinding : Type 0 where
   pub kind : FindingKind
   pub spans : List Span
   pub text : List ℕ
+  pub hint : Option (List ℕ)
 
 -- which spans are shown: all (`DuplicationError`) for the kinds whose findings may be about several places, else the first (`Error`)
 abbrev pub spanskind_of : FindingKind → SpansKind

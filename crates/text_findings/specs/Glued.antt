@@ -34,6 +34,7 @@ glued_finding word keyword = record {
   kind = GluedKeyword;
   spans = word.span ∷ [];
   text = codes "'" ++ (keyword ++ (word.name ++ (codes "' is read as '" ++ (keyword ++ (codes " " ++ (word.name ++ codes "'"))))));
+  hint = None;
 }
 
 -- whether the text has a quote at this offset

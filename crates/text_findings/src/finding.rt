@@ -1,6 +1,6 @@
 //! Findings about a grammar, and where they are.
 
-ghost use Rattle.std.specs.Prelude.{◌≡◌, [], ◌∷◌, IfOk, Some, string_bytes};
+ghost use Rattle.std.specs.Prelude.{◌≡◌, [], ◌∷◌, IfOk, None, Some, option_map, string_bytes};
 ghost use Rattle.text_findings.specs.Finding.{offset_of};
 
 use cfgrammar::{Span, Spanned, SpansKind};
@@ -15,23 +15,39 @@ pub struct Finding {
     kind: FindingKind,
     spans: Vec<Span>,
     text: String,
+    hint: Option<String>,
 }
 
 impl Model for Finding {
-    ghost use Rattle.std.specs.Prelude.{string_bytes};
+    ghost use Rattle.std.specs.Prelude.{option_map, string_bytes};
     ghost use Rattle.text_findings.specs.Finding.{ShownFinding};
 
     ghost Value = { ShownFinding };
 
-    ghost view = { λ x. record { kind = x.kind; spans = x.spans.items; text = string_bytes x.text } };
+    ghost view = { λ x. record {
+      kind = x.kind;
+      spans = x.spans.items;
+      text = string_bytes x.text;
+      hint = option_map string_bytes x.hint;
+    } };
 }
 
 impl Finding {
-    /// A finding of this kind, with its spans and its text.
+    /// A finding of this kind, with its spans and its text, and without a note.
     pub fn new(kind: FindingKind, spans: Vec<Span>, text: String) -> Finding
-        ensures { result ≡ record { kind = kind; spans = spans.items; text = string_bytes text } }
+        ensures { result ≡ record {
+          kind = kind;
+          spans = spans.items;
+          text = string_bytes text;
+          hint = None;
+        } }
     {
-        Finding { kind, spans, text }
+        Finding {
+            kind,
+            spans,
+            text,
+            hint: None,
+        }
     }
 
     /// A finding at one span.
@@ -41,11 +57,16 @@ impl Finding {
         span: Span,
         text: String,
     ) -> Result<Finding, AllocError>
-        ensures { IfOk result (λ x. x ≡ record { kind = kind; spans = span ∷ []; text = string_bytes text }) }
+        ensures { IfOk result (λ x. x ≡ record {
+          kind = kind;
+          spans = span ∷ [];
+          text = string_bytes text;
+          hint = None;
+        }) }
     {
         let mut spans = Vec::new(alloc);
         spans.push(span)?;
-        Ok(Finding { kind, spans, text })
+        Ok(Finding::new(kind, spans, text))
     }
 
     /// A finding at two spans, in this order.
@@ -60,12 +81,20 @@ impl Finding {
           kind = kind;
           spans = span ∷ (other ∷ []);
           text = string_bytes text;
+          hint = None;
         }) }
     {
         let mut spans = Vec::new(alloc);
         spans.push(span)?;
         spans.push(other)?;
-        Ok(Finding { kind, spans, text })
+        Ok(Finding::new(kind, spans, text))
+    }
+
+    /// The same finding with this note on it, if there is one.
+    pub fn with_hint(self, hint: Option<String>) -> Finding
+        ensures { result ≡ record self { hint = option_map string_bytes hint } }
+    {
+        Finding { hint, ..self }
     }
 
     /// Its offset in bytes: the start of its first span.
@@ -90,6 +119,16 @@ impl Finding {
         ensures { result.now ≡ self.now.text }
     {
         &self.text
+    }
+
+    /// The note on the finding, if there is one.
+    pub fn hint(&self) -> Option<&str>
+        ensures { option_map (λ hint. hint.now) result ≡ self.now.hint }
+    {
+        match &self.hint {
+            Some(hint) => Some(hint.as_str()),
+            None => None,
+        }
     }
 }
 

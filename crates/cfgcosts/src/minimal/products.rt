@@ -132,8 +132,8 @@ pub(crate) fn made_by_sequence<S: Storage>(
     table: &SentenceTable<S>,
     symbols: &[Symbol<S>],
 ) -> Result<Vec<Vec<TIdx<S>>>, AllocError>
-    ensures { IfOk result (λ words.
-        words_of S.number words ≡ sequence_words (sentences_in S.number table.now) (map (sym_of S.number) symbols.now)) }
+    ensures { IfOk result (λ words. words_of S.number words
+        ≡ sequence_words (sentences_in S.number table.now) (map (sym_of S.number) symbols.now)) }
 {
     let mut words = Vec::new(alloc);
     words.push(Vec::new(alloc))?;

@@ -1,4 +1,4 @@
-use Rattle.std.proofs.Common.{◌≡◌, ◌≢◌, ℕ, cond, List, [], ◌∷◌, ◌++◌, Option, Some, codes, ap, sym, ◌∙◌}
+use Rattle.std.proofs.Common.{◌≡◌, ◌≢◌, ℕ, cond, List, [], ◌∷◌, ◌++◌, Option, None, Some, codes, ap, sym, ◌∙◌}
 use Rattle.std.specs.Fmt.{decimal}
 use Rattle.std.proofs.lemmas.Bool.{ne_eqb}
 use Rattle.cfgrammar.specs.Span.{Span}
@@ -8,7 +8,7 @@ use Rattle.conflict_findings.specs.Shown.{unmet}
 use Rattle.conflict_findings.proofs.expectations.push_number.Goals as goal
 
 abbrev unmet_at : Span → List ℕ → ShownFinding
-unmet_at span text = record { kind = UnmetExpect; spans = span ∷ []; text = text }
+unmet_at span text = record { kind = UnmetExpect; spans = span ∷ []; text = text; hint = None }
 
 is_unmet : (title : List ℕ) (found : ℕ) (expected : Option (ℕ × Span)) (number : ℕ) (span : Span) → expected ≡ Some (number, span) → number ≢ found
     → unmet title found expected ≡ unmet_at span (title ++ (decimal found ++ (codes " found, " ++ (decimal number ++ codes " expected")))) ∷ []

@@ -1,4 +1,4 @@
-use Rattle.std.proofs.Common.{[], ◌∷◌, Some, String, Global, codes, string_bytes, sym, ap, subst, ◌∙◌}
+use Rattle.std.proofs.Common.{[], ◌∷◌, None, Some, String, Global, codes, string_bytes, sym, ap, subst, ◌∙◌}
 use Rattle.cfgrammar.specs.AstRule.{Rule}
 use Rattle.cfgrammar.specs.SyntaxView.{rule_entry}
 use Rattle.cfgrammar.specs.TreeView.{syntax}
@@ -32,6 +32,6 @@ returns c =
         shadowed = subst (λ name. IsShadowed s name token) c.deref.ensures c.in-Some-shadowing.ensures;
       },
       c.in_ok-at_both.ensures
-          ∙ ap (λ text. record { kind = ShadowedRule; spans = c.in-Some.rule.now.name.1 ∷ (token ∷ []); text = text })
+          ∙ ap (λ text. record { kind = ShadowedRule; spans = c.in-Some.rule.now.name.1 ∷ (token ∷ []); text = text; hint = None })
           (c.in_ok-text.ensures.ok ∙ after_quoted (string_bytes entry.0) (codes "Rule ") (codes " is never used: its name is that of a token")),
     )

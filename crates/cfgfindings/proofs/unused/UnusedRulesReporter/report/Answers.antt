@@ -1,4 +1,4 @@
-use Rattle.std.proofs.Common.{◌≡◌, ◌<◌, ℕ, Bool, true, false, List, [], ◌∷◌, Some, MatchBool, String, Global, get_or, length, slice_get, sym, ap, subst, ◌∙◌, arith}
+use Rattle.std.proofs.Common.{◌≡◌, ◌<◌, ℕ, Bool, true, false, List, [], ◌∷◌, None, Some, MatchBool, String, Global, get_or, length, slice_get, sym, ap, subst, ◌∙◌, arith}
 use Rattle.std.proofs.lemmas.List.{get_or_read}
 use Rattle.cfgrammar.specs.Span.{Span}
 use Rattle.cfgrammar.specs.AstRule.{Rule as AstRule}
@@ -57,5 +57,5 @@ returns c =
         own = subst (λ name. (token : Span) → IsShadowed s name token → ⊥) c.deref.ensures
             (from_none _ (IsShadowed s c.deref.result.now) c.shadowing.result (sym c.is_some.ensures ∙ c.if-is_some.false) c.shadowing.ensures);
       },
-      c.in_ok-at.ensures ∙ ap (λ text. record { kind = UnusedRule; spans = c.in-Some.rule.now.name.1 ∷ []; text = text }) c.in_ok-text.ensures.ok,
+      c.in_ok-at.ensures ∙ ap (λ text. record { kind = UnusedRule; spans = c.in-Some.rule.now.name.1 ∷ []; text = text; hint = None }) c.in_ok-text.ensures.ok,
     )

@@ -72,5 +72,5 @@ returns c =
             (λ within. get_or_read bits (c.len.result + n) c.index-is_unused.result.now within c.index-is_unused.ensures false) true c.if-not-is_unused.false name token;
         free = marked_as s.tokens (IsRequested s) marks marked n name token _ c.get.ensures _ false c.unwrap_or.ensures c.if-unwrap_or.false;
       },
-      c.in_ok-at.ensures ∙ ap (λ text. record { kind = UnusedToken; spans = span ∷ []; text = text }) c.in_ok-text.ensures.ok,
+      c.in_ok-at.ensures ∙ ap (λ text. record { kind = UnusedToken; spans = span ∷ []; text = text; hint = None }) c.in_ok-text.ensures.ok,
     )

@@ -1,7 +1,7 @@
 use Rattle.std.proofs.Common.{◌≡◌, ◌++◌, map, take, string_bytes}
 use Rattle.cfgrammar.specs.NumberedSymbols.{sym_of}
 use Rattle.conflict_findings.specs.Shown.{symbols_text}
-use Rattle.conflict_findings.proofs.texts.write_symbols.Given as goal
+use Rattle.conflict_findings.proofs.symbols.write_symbols.Given as goal
 
 -- the symbols so far are written
 abbrev pub invariant-loop-symbol : goal.invariant-loop-symbol

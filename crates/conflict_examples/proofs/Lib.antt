@@ -1,0 +1,14 @@
+pub mod Runs
+pub mod Shown
+pub mod Entered
+pub mod Found
+pub mod Compared
+pub mod Entering
+pub mod Showing
+pub mod Explored
+pub mod Along
+pub mod Places
+pub mod Derived
+pub mod Sides
+pub mod Assembled
+pub mod InConflicts

@@ -1,0 +1,77 @@
+use Rattle.std.proofs.Common.{◌≡◌, ◌⊎◌, inl, inr, ◌++◌, [], List, IsTrue, ap, false, map, subst, sym, true, ◌∙◌}
+use Rattle.std.proofs.lemmas.List.{map-append}
+use Rattle.std.proofs.lemmas.Result.{IfOk-weaker}
+use Rattle.cfgrammar.specs.Grammar.{Sym, Rule}
+use Rattle.cfgrammar.specs.NumberedSymbols.{sym_of}
+use Rattle.lr_states.proofs.Closed.{next_symbol}
+use Rattle.conflict_examples.specs.declared.nodes.Node.{Node}
+use Rattle.conflict_examples.specs.Examples.{prefix_of, rest_of}
+use Rattle.conflict_examples.specs.Inner.Searches.{EntersBy, IsByShown, IsNullable, OpensBy, grammar_of, used_of}
+use Rattle.conflict_examples.specs.Inner.Tables.{step_of}
+use Rattle.conflict_examples.specs.Inner.Ways.{IsOpen, back_of, ends, enters, shows}
+use Rattle.conflict_examples.proofs.Found.{finds_then}
+use Rattle.conflict_examples.proofs.Showing.{f}
+use Rattle.conflict_examples.proofs.Shown.{next_shown, open_derives}
+use Rattle.conflict_examples.proofs.ways.Ways.open.Goals as goal
+
+pub show-requires-clause-opened : goal.show-requires-clause-opened
+show-requires-clause-opened c =
+    let w = c.args.self.now in
+    let g = grammar_of w in
+    let at = c.args.at in
+    let side = c.args.side.now in (
+      next_symbol g c.requires.ready.grammar at.item (Rule c.args.rule) c.requires.next,
+      subst (λ l. IsOpen g (used_of w) (step_of w.road) w.token at.place c.args.rule (prefix_of side) (l ++ rest_of side)) (sym c.back-back.ensures.symbols)
+          (next_shown g (used_of w) (step_of w.road) w.token at.place at.item c.args.rule (prefix_of side) (rest_of side) c.requires.next c.requires.shown.0),
+    )
+
+pub enter-requires-clause-opened : goal.enter-requires-clause-opened
+enter-requires-clause-opened c =
+    let w = c.args.self.now in
+    let g = grammar_of w in
+    let at = c.args.at in
+    let side = c.args.side.now in
+    let entered = c.in_ok-entered.entered in
+    let prefix : prefix_of entered ≡ prefix_of side = ap (map f) c.in_ok-entered.ensures.prefix in
+    let rest : rest_of entered ≡ back_of g (used_of w) (step_of w.road) w.token at.item ++ rest_of side =
+    ap (map f) c.in_ok-entered.ensures.rest ∙ map-append f c.back-back.result.now side.rest.items ∙ ap (λ l. l ++ rest_of side) c.back-back.ensures.symbols in
+    let O : List Sym → List Sym → Type 0 = IsOpen g (used_of w) (step_of w.road) w.token at.place c.args.rule in (
+      next_symbol g c.requires.ready.grammar at.item (Rule c.args.rule) c.requires.next,
+      subst (λ l. O l (rest_of entered)) (sym prefix) (subst (O (prefix_of side)) (sym rest)
+          (next_shown g (used_of w) (step_of w.road) w.token at.place at.item c.args.rule (prefix_of side) (rest_of side) c.requires.next c.requires.shown.0)),
+    )
+
+pub enter_last-requires-clause-opened : goal.enter_last-requires-clause-opened
+enter_last-requires-clause-opened c =
+    let w = c.args.self.now in
+    let g = grammar_of w in
+    let at = c.args.at in
+    let side = c.args.side.now in
+    let back = back_of g (used_of w) (step_of w.road) w.token at.item in
+    λ on. (
+      next_symbol g c.requires.ready.grammar at.item (Rule c.args.rule) c.requires.next,
+      open_derives g (used_of w) (step_of w.road) w.token at.place c.args.rule (prefix_of side) back [] (rest_of side)
+          (subst (IsNullable w) c.back-back.ensures.symbols (c.in_ok-nullable.ensures.nullable.0 on))
+          (next_shown g (used_of w) (step_of w.road) w.token at.place at.item c.args.rule (prefix_of side) (rest_of side) c.requires.next c.requires.shown.0),
+    )
+
+pub returns : goal.returns
+returns c =
+    let w = c.args.self.now in
+    let g = grammar_of w in
+    let at = c.args.at in
+    let list : List Sym = map (sym_of (λ s. s)) c.back-back.result.now in
+    let is : list ≡ back_of g (used_of w) (step_of w.road) w.token at.item = c.back-back.ensures.symbols in
+    let shown : Node → Type 0 = IsByShown w at.place c.args.rule list in
+    let last : Node → Type 0 = λ n. IsTrue at.followed × IsTrue c.in_ok-nullable.nullable × EntersBy w at.place c.args.rule true n in
+    IfOk-weaker c.enter_last.result _ _
+    (λ _ v. finds_then g (used_of w) (step_of w.road) w.token (EntersBy w at.place c.args.rule false) (λ n. shown n ⊎ last n)
+    (OpensBy w at.place at.item at.followed c.args.rule) _ _ _
+    (λ n h. elim h [
+      | enters e ↦ inl e
+      | shows b ↦ inr (inl (subst (λ l. IsByShown w at.place c.args.rule l n) (sym is) b))
+      | ends follows d e ↦ inr (inr (follows, c.in_ok-nullable.ensures.nullable.1 (subst (IsNullable w) (sym is) d), e))
+    ])
+    c.in_ok-enter.ensures
+    (finds_then g (used_of w) (step_of w.road) w.token shown last (λ n. shown n ⊎ last n) _ _ _ (λ n h. h) c.in_ok-nullable.ensures.found v))
+    c.enter_last.ensures

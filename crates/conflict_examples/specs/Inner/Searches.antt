@@ -1,0 +1,74 @@
+-- What a search finds, by what it goes by.
+use Rattle.std.specs.Prelude.{◌<◌, ℕ, Bool, List, [], Option, length}
+use Rattle.cfgrammar.specs.Grammar.{Grammar, Sym}
+use Rattle.cfgrammar.specs.Numbered.{core}
+use Rattle.cfgrammar.specs.Derivation.{Derives}
+use Rattle.cfgrammar.specs.Openings.{nth_production}
+use Rattle.lr_states.specs.Viable.{IsUsed}
+use Rattle.lr_states.specs.declared.Item.{Item}
+use Rattle.lr_lookaheads.specs.Lookaheads.{HasUsed}
+use Rattle.conflict_examples.specs.declared.Side.{Side}
+use Rattle.conflict_examples.specs.declared.nodes.ItemAt.{ItemAt}
+use Rattle.conflict_examples.specs.declared.nodes.Node.{Node}
+use Rattle.conflict_examples.specs.declared.ways.Ways.{Ways}
+use Rattle.conflict_examples.specs.Inner.Tables.{AreReady, step_of}
+use Rattle.conflict_examples.specs.Inner.Ways as ways
+
+abbrev pub grammar_of : Ways → Grammar
+grammar_of w = core w.grammar.now
+
+abbrev pub used_of : Ways → ℕ → Type 0
+used_of w = IsUsed (grammar_of w)
+
+abbrev pub IsReady : Ways → Type 0
+IsReady w = AreReady (grammar_of w) w.firsts.now w.used.now
+
+abbrev pub Shows : Ways → Node → Side → Type 0
+Shows w = ways.Shown (grammar_of w) (used_of w) (step_of w.road) w.token
+
+abbrev pub IsOpenIn : Ways → ℕ → ℕ → List Sym → List Sym → Type 0
+IsOpenIn w q rule prefix after = (rule < length w.grammar.now.rules) × ways.IsOpen (grammar_of w) (used_of w) (step_of w.road) w.token q rule prefix after
+
+abbrev pub FindsAll : Ways → (Node → Type 0) → List (Node × Side) → List (Node × Side) → Type 0
+FindsAll w = ways.Finds (grammar_of w) (used_of w) (step_of w.road) w.token
+
+-- what the nodes that are found have in common
+module _ (w : Ways) where
+  abbrev pub EntersBy : ℕ → ℕ → Bool → Node → Type 0
+  EntersBy = ways.Enters (grammar_of w) (used_of w) (step_of w.road) w.token
+
+  abbrev pub IsByNext : ℕ → ℕ → Option Sym → Node → Type 0
+  IsByNext q rule x n = ways.ByNext (grammar_of w) (used_of w) (step_of w.road) w.token q rule n x
+
+  abbrev pub IsByShown : ℕ → ℕ → List Sym → Node → Type 0
+  IsByShown = ways.ByShown (grammar_of w) (used_of w) (step_of w.road) w.token
+
+  abbrev pub IsReadBy : ℕ → Item → Bool → Sym → Node → Type 0
+  IsReadBy = ways.Reads (grammar_of w) (used_of w) (step_of w.road) w.token
+
+  abbrev pub OpensBy : ℕ → Item → Bool → ℕ → Node → Type 0
+  OpensBy = ways.Opens (grammar_of w) (used_of w) (step_of w.road) w.token
+
+  abbrev pub UnfoldsBy : ℕ → ℕ → ℕ → Node → Type 0
+  UnfoldsBy = ways.Unfolds (grammar_of w) (used_of w) (step_of w.road) w.token
+
+  abbrev pub UnfoldsWith : ℕ → ℕ → ℕ → Node → Type 0
+  UnfoldsWith q rule p n = used_of w p × IsByShown q rule (nth_production (grammar_of w) p).symbols n
+
+  abbrev pub LeadsBy : Node → Node → Type 0
+  LeadsBy = ways.Leads (grammar_of w) (used_of w) (step_of w.road) w.token
+
+  abbrev pub BeginsBy : Node → Type 0
+  BeginsBy = ways.Begins (grammar_of w) (used_of w) (step_of w.road) w.token
+
+  abbrev pub IsReachedBy : Node → Type 0
+  IsReachedBy = ways.IsReached (grammar_of w) (used_of w) (step_of w.road) w.token
+
+  abbrev pub AreWith : Node → List (Node × Side) → Type 0
+  AreWith = ways.IsSearched (grammar_of w) (used_of w) (step_of w.road) w.token
+
+  abbrev pub FindsItem : ItemAt → Option Side → Type 0
+  FindsItem = ways.IsFound (grammar_of w) (used_of w) (step_of w.road) w.token
+
+  abbrev pub IsNullable : List Sym → Type 0
+  IsNullable list = Derives (HasUsed (grammar_of w) (used_of w)) list []
