@@ -68,6 +68,10 @@ and the others are warnings. If a finding is given to several of these options, 
   shift-reduce            a production that may be reduced where the next token may also be shifted
   reduce-reduce           a production that may be reduced where an earlier one may be too
   unmet-expect            an %expect or %expect-rr with another number of conflicts than there are: an error
+  undefined-precedence    a production whose %prec names a token without a precedence
+  missing-empty           an empty production without %empty, which others have
+  swallowed-rule          a rule whose type goes on to the type of the next one
+  unknown-key             a key of a section that nothing looks for
 
 --kind=KIND is --kind KIND, and so on.
 
@@ -82,7 +86,7 @@ SAME = {'yacc': 'bison'}
 FINDINGS = ('unused-rule', 'unused-token', 'shadowed-rule', 'start-without-sentence', 'no-sentence', 'unusable-rule',
             'unusable-production', 'useless-symbol', 'cyclic-rule', 'repeated-production', 'unused-precedence',
             'repeated-token', 'overridden-precedence', 'glued-keyword', 'needless-expect-unused', 'escaped-token', 'implicit-empty',
-            'shift-reduce', 'reduce-reduce', 'unmet-expect')
+            'shift-reduce', 'reduce-reduce', 'unmet-expect', 'undefined-precedence', 'missing-empty', 'swallowed-rule', 'unknown-key')
 RULES = (*FINDINGS,
          'illegal-integer', 'illegal-name', 'illegal-string', 'incomplete-rule', 'incomplete-comment',
          'incomplete-action', 'missing-colon', 'missing-right-arrow', 'mismatched-brace', 'non-empty-production',

@@ -75,6 +75,10 @@ and the others are warnings. If a finding is given to several of these options, 
   shift-reduce            a production that may be reduced where the next token may also be shifted
   reduce-reduce           a production that may be reduced where an earlier one may be too
   unmet-expect            an %expect or %expect-rr with another number of conflicts than there are: an error
+  undefined-precedence    a production whose %prec names a token without a precedence
+  missing-empty           an empty production without %empty, which others have
+  swallowed-rule          a rule whose type goes on to the type of the next one
+  unknown-key             a key of a section that nothing looks for
 
 --kind=KIND is --kind KIND, and so on.
 
@@ -305,7 +309,7 @@ const FORMATS: [&str; 4] = ["text", "json", "github", "sarif"];
 const UNITS: [&str; 3] = ["bytes", "characters", "display"];
 
 /// The values of `--allow`, `--warn` and `--deny`.
-const FINDINGS: [&str; 21] = [
+const FINDINGS: [&str; 25] = [
     "unused-rule",
     "unused-token",
     "shadowed-rule",
@@ -326,5 +330,9 @@ const FINDINGS: [&str; 21] = [
     "shift-reduce",
     "reduce-reduce",
     "unmet-expect",
+    "undefined-precedence",
+    "missing-empty",
+    "swallowed-rule",
+    "unknown-key",
     "all",
 ];

@@ -3,7 +3,7 @@ use Rattle.std.specs.Prelude.{ℕ, ◌==◌, List, [], ◌∷◌, Option, if◌t
 use Rattle.std.specs.List.{find}
 use Rattle.std.specs.Str.{bytes_eq}
 use Rattle.finding_kinds.specs.declared.finding_kind.FindingKind.{FindingKind}
-use Rattle.finding_kinds.specs.declared.finding_kind.FindingKind.TheVariants.{UnusedRule, UnusedToken, ShadowedRule, StartWithoutSentence, NoSentence, UnusableRule, UnusableProduction, UselessSymbol, CyclicRule, RepeatedProduction, UnusedPrecedence, RepeatedToken, OverriddenPrecedence, GluedKeyword, NeedlessExpectUnused, EscapedToken, ImplicitEmpty, ShiftReduce, ReduceReduce, UnmetExpect}
+use Rattle.finding_kinds.specs.declared.finding_kind.FindingKind.TheVariants.{UnusedRule, UnusedToken, ShadowedRule, StartWithoutSentence, NoSentence, UnusableRule, UnusableProduction, UselessSymbol, CyclicRule, RepeatedProduction, UnusedPrecedence, RepeatedToken, OverriddenPrecedence, GluedKeyword, NeedlessExpectUnused, EscapedToken, ImplicitEmpty, ShiftReduce, ReduceReduce, UnmetExpect, UndefinedPrecedence, MissingEmpty, SwallowedRule, UnknownKey}
 use Rattle.finding_kinds.specs.declared.levels.Level.{Level}
 use Rattle.finding_kinds.specs.declared.levels.Level.TheVariants.{Allow, Warn, Deny}
 use Rattle.finding_kinds.specs.declared.levels.Levels.{Levels}
@@ -30,12 +30,17 @@ word_of ImplicitEmpty = codes "implicit-empty"
 word_of ShiftReduce = codes "shift-reduce"
 word_of ReduceReduce = codes "reduce-reduce"
 word_of UnmetExpect = codes "unmet-expect"
+word_of UndefinedPrecedence = codes "undefined-precedence"
+word_of MissingEmpty = codes "missing-empty"
+word_of SwallowedRule = codes "swallowed-rule"
+word_of UnknownKey = codes "unknown-key"
 
 -- the kinds, in order
 abbrev pub kinds : List FindingKind
 kinds = UnusedRule ∷ UnusedToken ∷ ShadowedRule ∷ StartWithoutSentence ∷ NoSentence ∷ UnusableRule ∷ UnusableProduction
     ∷ UselessSymbol ∷ CyclicRule ∷ RepeatedProduction ∷ UnusedPrecedence ∷ RepeatedToken ∷ OverriddenPrecedence
-    ∷ GluedKeyword ∷ NeedlessExpectUnused ∷ EscapedToken ∷ ImplicitEmpty ∷ ShiftReduce ∷ ReduceReduce ∷ UnmetExpect ∷ []
+    ∷ GluedKeyword ∷ NeedlessExpectUnused ∷ EscapedToken ∷ ImplicitEmpty ∷ ShiftReduce ∷ ReduceReduce ∷ UnmetExpect
+    ∷ UndefinedPrecedence ∷ MissingEmpty ∷ SwallowedRule ∷ UnknownKey ∷ []
 
 -- the kind that a word names
 abbrev pub finding_named : List ℕ → Option FindingKind
@@ -63,6 +68,10 @@ number ImplicitEmpty = 16
 number ShiftReduce = 17
 number ReduceReduce = 18
 number UnmetExpect = 19
+number UndefinedPrecedence = 20
+number MissingEmpty = 21
+number SwallowedRule = 22
+number UnknownKey = 23
 
 -- A start rule without a sentence and an expectation that isn't met are errors, and every other finding is a warning, except for two groups
 -- that aren't reported: those that only follow from a rule without a sentence, and those about a style that many files have.

@@ -48,10 +48,18 @@ pub enum FindingKind {
     ReduceReduce,
     /// An `%expect` or `%expect-rr` has another number than there are conflicts.
     UnmetExpect,
+    /// The production's `%prec` names a token that is given no precedence. In files of most kinds that is an error.
+    UndefinedPrecedence,
+    /// The production has no symbols, and no `%empty` says so, as it does in another production.
+    MissingEmpty,
+    /// The text of the rule's type goes on to the next rule's: a `;` is in it, and a `->` after that.
+    SwallowedRule,
+    /// The section of a file has the key, which nothing that reads grammars looks for.
+    UnknownKey,
 }
 
 /// The kinds, in order.
-pub(crate) const KINDS: [FindingKind; 20] = [
+pub(crate) const KINDS: [FindingKind; 24] = [
     FindingKind::UnusedRule,
     FindingKind::UnusedToken,
     FindingKind::ShadowedRule,
@@ -72,6 +80,10 @@ pub(crate) const KINDS: [FindingKind; 20] = [
     FindingKind::ShiftReduce,
     FindingKind::ReduceReduce,
     FindingKind::UnmetExpect,
+    FindingKind::UndefinedPrecedence,
+    FindingKind::MissingEmpty,
+    FindingKind::SwallowedRule,
+    FindingKind::UnknownKey,
 ];
 
 impl FindingKind {
@@ -107,6 +119,10 @@ impl FindingKind {
             FindingKind::ShiftReduce => "shift-reduce",
             FindingKind::ReduceReduce => "reduce-reduce",
             FindingKind::UnmetExpect => "unmet-expect",
+            FindingKind::UndefinedPrecedence => "undefined-precedence",
+            FindingKind::MissingEmpty => "missing-empty",
+            FindingKind::SwallowedRule => "swallowed-rule",
+            FindingKind::UnknownKey => "unknown-key",
         }
     }
 

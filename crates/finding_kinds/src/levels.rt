@@ -19,7 +19,7 @@ pub enum Level {
 /// The level of each kind of finding.
 #[derive(Clone, Copy, Debug)]
 pub struct Levels {
-    by_kind: [Level; 20],
+    by_kind: [Level; 24],
 }
 
 impl Levels {
@@ -45,7 +45,7 @@ impl Levels {
         ensures { result ≡ all_levels level }
     {
         Levels {
-            by_kind: [level; 20],
+            by_kind: [level; 24],
         }
     }
 
