@@ -18,7 +18,7 @@ use cfgrammar::yacc::YaccGrammar;
 use cfgrammar::yacc::ast::GrammarAST;
 use conflict_findings::push_conflicts;
 use std::alloc::{AllocError, Global};
-use text_findings::{Finding, push_escaped, push_glued, push_implicitly_empty};
+use text_findings::{Finding, push_escaped, push_file_findings, push_glued, push_implicitly_empty};
 
 /// The findings about a grammar without errors, by offset; those at the same offset are in the order of
 /// [`FindingKind`](crate::FindingKind). `ast` is the tree of the text, and `grammar` its numbers. Where the two say
@@ -53,6 +53,7 @@ pub fn findings(
     push_escaped(alloc, &mut all, ast)?;
     push_implicitly_empty(alloc, &mut all, text, ast)?;
     push_conflicts(alloc, &mut all, ast, grammar, associativities)?;
+    push_file_findings(alloc, &mut all, text, ast)?;
     all.sort_by_key(|finding| finding.offset())?;
     Ok(all)
 }

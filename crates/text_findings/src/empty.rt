@@ -1,12 +1,12 @@
-//! Productions without symbols that don't say so.
+//! Productions without symbols that don't say so, in any file, and in one where others do.
 
-ghost use Rattle.std.specs.Prelude.{◌≡◌, ◌++◌, length, option_map, IfOk, OnOk};
-ghost use Rattle.std.specs.List.{starts_with};
+ghost use Rattle.std.specs.Prelude.{◌≡◌, ◌++◌, length, map, option_map, IfOk, OnOk};
+ghost use Rattle.std.specs.List.{list_any, starts_with};
 ghost use Rattle.cfgrammar.specs.TreeView.{syntax};
 ghost use Rattle.cfgrammar.specs.SyntaxView.{production_view};
 ghost use Rattle.text_findings.specs.Reports.{ReportsBelow};
-ghost use Rattle.text_findings.specs.Empty.{ReportsImplicitlyEmpty, begins_at, implicitly_empty, is_action_name};
-ghost use Rattle.text_findings.specs.Empty.{is_implicitly_empty, is_of_action, rule_name_at};
+ghost use Rattle.text_findings.specs.Empty.{ReportsImplicitlyEmpty, ReportsMissingEmpty, begins_at, implicitly_empty};
+ghost use Rattle.text_findings.specs.Empty.{is_action_name, is_implicitly_empty, is_of_action, rule_name_at, says_empty};
 
 use crate::finding::{Finding, FindingKind};
 use crate::reporter::{Reporter, push_reported};
@@ -23,7 +23,34 @@ pub fn push_implicitly_empty(
     ensures { OnOk result ((reported : _) × ReportsBelow (ReportsImplicitlyEmpty text.now (syntax ast.now))
         (length (syntax ast.now).productions) reported × (all.new.items ≡ all.old.items ++ reported)) }
 {
-    let reporter = ImplicitlyEmpty { text, ast };
+    let reporter = ImplicitlyEmpty {
+        text,
+        ast,
+        kind: FindingKind::ImplicitEmpty,
+        words: "Empty production without %empty",
+    };
+    push_reported(alloc, all, &reporter, ast.prods().len())
+}
+
+/// Adds the productions without symbols that don't say so to the findings, if another production says so.
+pub(crate) fn push_missing_empty(
+    alloc: Global,
+    all: &mut Vec<Finding>,
+    text: &str,
+    ast: &GrammarAST,
+) -> Result<(), AllocError>
+    ensures { OnOk result ((reported : _) × ReportsBelow (ReportsMissingEmpty text.now (syntax ast.now))
+        (length (syntax ast.now).productions) reported × (all.new.items ≡ all.old.items ++ reported)) }
+{
+    let reporter = MissingEmpty {
+        is_said: is_said(text, ast.prods()),
+        empty: ImplicitlyEmpty {
+            text,
+            ast,
+            kind: FindingKind::MissingEmpty,
+            words: "Empty production without %empty, which another one has",
+        },
+    };
     push_reported(alloc, all, &reporter, ast.prods().len())
 }
 
@@ -32,26 +59,88 @@ pub fn push_implicitly_empty(
 struct ImplicitlyEmpty<'a> {
     text: &'a str,
     ast: &'a GrammarAST,
+    kind: FindingKind,
+    words: &'a str,
 }
 
 impl Reporter for ImplicitlyEmpty<'_> {
-    ghost use Rattle.std.specs.Prelude.{length};
+    ghost use Rattle.std.specs.Prelude.{◌≡◌, length};
     ghost use Rattle.cfgrammar.specs.TreeView.{syntax};
-    ghost use Rattle.text_findings.specs.Empty.{ReportsImplicitlyEmpty};
+    ghost use Rattle.text_findings.specs.Empty.{empty_finding};
 
     ghost count = { λ x. length (syntax x.ast.now).productions };
 
-    ghost reports = { λ x. ReportsImplicitlyEmpty x.text.now (syntax x.ast.now) };
+    ghost reports = { λ x n found. found ≡ empty_finding x.kind x.words.now x.text.now (syntax x.ast.now) n };
 
     fn report(&self, alloc: Global, number: usize) -> Result<Option<Finding>, AllocError> {
         if is_of_action(self.ast, number) {
             return Ok(None);
         }
         match self.ast.prods().get(number) {
-            Some(production) => implicitly_empty(alloc, self.text, production),
+            Some(production) => self.implicitly_empty(alloc, production),
             None => Ok(None),
         }
     }
+}
+
+impl ImplicitlyEmpty<'_> {
+    /// The finding that a production has no symbols and doesn't say so, if that is true.
+    fn implicitly_empty(
+        &self,
+        alloc: Global,
+        production: &Production,
+    ) -> Result<Option<Finding>, AllocError>
+        ensures { IfOk result (λ found. found
+            ≡ implicitly_empty self.now.kind self.now.words.now self.now.text.now (production_view production.now)) }
+    {
+        if !is_implicitly_empty(self.text, production) {
+            return Ok(None);
+        }
+        let words = String::from_str(alloc, self.words)?;
+        Ok(Some(Finding::at(alloc, self.kind, production.prod_span, words)?))
+    }
+}
+
+/// Reports productions without symbols that don't say so, if others do.
+#[derive(Drop)]
+struct MissingEmpty<'a> {
+    /// Whether others do.
+    is_said: bool,
+    empty: ImplicitlyEmpty<'a>,
+}
+
+impl Reporter for MissingEmpty<'_> {
+    ghost use Rattle.std.specs.Prelude.{◌≡◌, length, None, if◌then◌else◌};
+    ghost use Rattle.cfgrammar.specs.TreeView.{syntax};
+    ghost use Rattle.text_findings.specs.Empty.{empty_finding};
+
+    ghost count = { λ x. length (syntax x.empty.ast.now).productions };
+
+    ghost reports = { λ x n found. found ≡ (if x.is_said
+        then empty_finding x.empty.kind x.empty.words.now x.empty.text.now (syntax x.empty.ast.now) n else None) };
+
+    fn report(&self, alloc: Global, number: usize) -> Result<Option<Finding>, AllocError> {
+        if !self.is_said {
+            return Ok(None);
+        }
+        self.empty.report(alloc, number)
+    }
+}
+
+/// Whether a production without symbols says that it has none.
+fn is_said(text: &str, productions: &[Production]) -> bool
+    ensures { result ≡ list_any (says_empty text.now) (map production_view productions.now) }
+{
+    productions
+        .iter()
+        .any(|production| says_empty(text, production))
+}
+
+/// Whether a production has no symbols, and its text begins with `%empty`.
+fn says_empty(text: &str, production: &Production) -> bool
+    ensures { result ≡ says_empty text.now (production_view production.now) }
+{
+    production.symbols.is_empty() && begins_at(text, production.prod_span.start(), "%empty")
 }
 
 /// Whether the production with this number is that of an action inside of another one.
@@ -82,22 +171,6 @@ fn is_action_name(name: &str) -> bool
     ensures { result ≡ is_action_name name.now }
 {
     name.as_bytes().starts_with(b"$@")
-}
-
-/// The finding that a production has no symbols and doesn't say so, if that is true.
-fn implicitly_empty(
-    alloc: Global,
-    text: &str,
-    production: &Production,
-) -> Result<Option<Finding>, AllocError>
-    ensures { IfOk result (λ found. found ≡ implicitly_empty text.now (production_view production.now)) }
-{
-    if !is_implicitly_empty(text, production) {
-        return Ok(None);
-    }
-    let span = production.prod_span;
-    let said = String::from_str(alloc, "Empty production without %empty")?;
-    Ok(Some(Finding::at(alloc, FindingKind::ImplicitEmpty, span, said)?))
 }
 
 /// Whether a production has no symbols, and its text begins neither with `%empty` nor with `%prec`.

@@ -3,13 +3,16 @@
 
 mod empty;
 mod escapes;
+mod file;
 pub mod finding;
 mod glued;
+mod precedences;
 pub mod reporter;
 mod words;
 
 pub use empty::push_implicitly_empty;
 pub use escapes::push_escaped;
+pub use file::push_file_findings;
 pub use finding::{Finding, FindingKind};
 pub use glued::push_glued;
 pub use reporter::{Reporter, push_reported};
