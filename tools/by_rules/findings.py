@@ -26,7 +26,8 @@ def findings_of(t, tree, grammar, is_printed):
     any if none is."""
     found = (unused(tree) + shadowed(tree) + unproductive(tree, grammar) + useless(grammar) + cycles(grammar, is_printed) + repeats(grammar)
              + idle(tree) + declared_again(tree) + overridden(tree) + glued(t, tree) + needless(tree, grammar) + escapes(tree)
-             + implicitly_empty(t, tree) + [Finding(*it) for it in conflict_findings(tree)])
+             + implicitly_empty(t, tree) + [Finding(*it) for it in conflict_findings(tree)] + undefined_precedences(tree)
+             + missing_empty(t, tree))
     return sorted(found, key=lambda finding: finding.spans[0][0])
 
 
@@ -199,7 +200,26 @@ def escapes(tree):
 
 def implicitly_empty(t, tree):
     """Productions without symbols that begin neither with `%empty` nor with `%prec`, but for actions inside of others."""
+    return [Finding('ImplicitEmpty', [span], 'Empty production without %empty') for span in silently_empty(t, tree)]
+
+
+def silently_empty(t, tree):
+    """The spans of these productions."""
     actions = {index for name, rule in tree.rules.items() if name.startswith('$@') for index in rule.productions}
     empty = [p for index, p in enumerate(tree.productions) if not p.symbols and index not in actions]
-    return [Finding('ImplicitEmpty', [p.span], 'Empty production without %empty') for p in empty
-            if not t.startswith((b'%empty', b'%prec'), p.span[0])]
+    return [p.span for p in empty if not t.startswith((b'%empty', b'%prec'), p.span[0])]
+
+
+def missing_empty(t, tree):
+    """The same productions, if another one without symbols begins with `%empty`."""
+    if not any(not p.symbols and t.startswith(b'%empty', p.span[0]) for p in tree.productions):
+        return []
+    text = 'Empty production without %empty, which another one has'
+    return [Finding('MissingEmpty', [span], text) for span in silently_empty(t, tree)]
+
+
+def undefined_precedences(tree):
+    """Productions whose `%prec` names a token without a precedence: a Bison file may have some."""
+    text = "Undefined precedence: no %%left, %%right, %%nonassoc or %%precedence names token '%s'"
+    return [Finding('UndefinedPrecedence', [p.span], text % p.precedence) for p in tree.productions
+            if p.precedence is not None and p.precedence not in tree.precedences]
