@@ -3,7 +3,7 @@
 ghost use Rattle.std.specs.Prelude.{◌≡◌, ◌++◌, ◌<◌, All, IfOk, OnOk, Some, length, map, nat_le, slice_get};
 ghost use Rattle.std.specs.Prelude.{string_bytes};
 ghost use Rattle.std.specs.List.{filter, flat_map};
-ghost use Rattle.cfgrammar.specs.Accessors.{IsSymbolWithin, sym_name};
+ghost use Rattle.cfgrammar.specs.Accessors.{IsSymbolWithin};
 ghost use Rattle.cfgrammar.specs.CyclicGroups.{IsGroup};
 ghost use Rattle.cfgrammar.specs.Numbered.{core};
 ghost use Rattle.cfgrammar.specs.NumberedSymbols.{sym_of};
@@ -22,7 +22,7 @@ use cfgrammar::yacc::cycles::{
 use cfgrammar::{PIdx, RIdx, Span, Symbol};
 use std::alloc::{AllocError, Global};
 use std::marker::Model;
-use text_findings::{Finding, FindingKind, Reporter, push_reported};
+use text_findings::{Finding, FindingKind, Reporter, push_reported, symbol_name};
 
 /// Adds the groups of cyclic rules to the findings, each with a shortest path of steps from its first rule of the file
 /// to itself.
@@ -223,15 +223,4 @@ fn write_nullable(
         write!(text, " [{}]", symbol_name(grammar, *symbol))?;
     }
     Ok(())
-}
-
-/// The name of a rule or a token.
-fn symbol_name<'a>(grammar: &'a YaccGrammar<u32>, symbol: Symbol<u32>) -> &'a str
-    requires { IsSymbolWithin (λ s. s) grammar.now symbol }
-    ensures { result.now ≡ sym_name grammar.now (sym_of (λ s. s) symbol) }
-{
-    match symbol {
-        Symbol::Rule(rule) => grammar.rule_name_str(rule),
-        Symbol::Token(token) => grammar.token_name(token).unwrap(),
-    }
 }

@@ -1,7 +1,7 @@
 //! Symbols, productions and items as findings and states show them: names with escapes for what could control a terminal.
 
 ghost use Rattle.std.specs.Prelude.{◌≡◌, ◌++◌, ◌<◌, ◌≤◌, All, OnOk, codes, length, map, string_bytes};
-ghost use Rattle.cfgrammar.specs.Accessors.{IsSymbolWithin, sym_name};
+ghost use Rattle.cfgrammar.specs.Accessors.{IsSymbolWithin};
 ghost use Rattle.cfgrammar.specs.Numbered.{core};
 ghost use Rattle.cfgrammar.specs.NumberedSymbols.{sym_of};
 ghost use Rattle.cfgrammar.specs.Openings.{nth_production};
@@ -14,6 +14,7 @@ use cfgrammar::{RIdx, Symbol, TIdx, Visible};
 use lr_states::Item;
 use lr_states::tables::{rule_of, symbols_of};
 use std::alloc::AllocError;
+use text_findings::symbol_name;
 
 /// Writes a token's name in quotes; the end token has none.
 pub(crate) fn write_token(
@@ -102,15 +103,4 @@ pub(crate) fn write_symbols(
         write!(text, " {}", Visible(symbol_name(grammar, *symbol)))?;
     }
     Ok(())
-}
-
-/// The name of a rule or a token.
-fn symbol_name(grammar: &YaccGrammar<u32>, symbol: Symbol<u32>) -> &str
-    requires { IsSymbolWithin (λ s. s) grammar.now symbol }
-    ensures { result.now ≡ sym_name grammar.now (sym_of (λ s. s) symbol) }
-{
-    match symbol {
-        Symbol::Rule(rule) => grammar.rule_name_str(rule),
-        Symbol::Token(token) => grammar.token_name(token).unwrap_or(""),
-    }
 }
