@@ -3,7 +3,6 @@
 ghost use Rattle.std.specs.Prelude.{◌≡◌, ◌++◌, IfOk, OnOk, not};
 ghost use Rattle.std.specs.List.{filter, filter_map};
 ghost use Rattle.std.specs.Option.{option_map, option_to_list};
-ghost use Rattle.cfgrammar.specs.Building.{has_entry};
 ghost use Rattle.cfgrammar.specs.Errors.{GrammarError, kind_view};
 ghost use Rattle.cfgrammar.specs.EveryError.{every_error};
 ghost use Rattle.cfgrammar.specs.SyntaxView.{production_view};
@@ -14,6 +13,7 @@ ghost use Rattle.cfglint.specs.ShownErrors.{precedence_error, shown_errors, stop
 use cfgrammar::yacc::ast::{GrammarAST, Production, every_error};
 use cfgrammar::yacc::{YaccGrammarError, YaccGrammarErrorKind};
 use std::alloc::{AllocError, Global};
+use text_findings::has_precedence;
 
 /// The errors that are shown of a text that was read as this tree, unless it names no kind, and has these errors: those
 /// that aren't of validation, and then every check of validation that fails. Where an error stopped the reading these
@@ -98,13 +98,6 @@ fn push_precedence_error(
     let kind = YaccGrammarErrorKind::NoPrecForToken(name.clone()?);
     failed.push(YaccGrammarError::new(kind, spans))?;
     Ok(())
-}
-
-/// Whether the token with this name has a precedence.
-fn has_precedence(ast: &GrammarAST, name: &str) -> bool
-    ensures { result ≡ has_entry name.now (syntax ast.now).tables.precedences }
-{
-    ast.precs().contains_key(name)
 }
 
 /// Whether an error of this kind is that of a `%prec`.

@@ -1,4 +1,6 @@
+pub mod File
 pub mod Finding
+pub mod Precedences
 pub mod Reports
 pub mod Words
 pub mod Glued

@@ -131,9 +131,11 @@ impl Reporter for MissingEmpty<'_> {
 fn is_said(text: &str, productions: &[Production]) -> bool
     ensures { result ≡ list_any (says_empty text.now) (map production_view productions.now) }
 {
-    productions
-        .iter()
-        .any(|production| says_empty(text, production))
+    let mut is_said = false;
+    for production in productions {
+        is_said |= says_empty(text, production);
+    }
+    is_said
 }
 
 /// Whether a production has no symbols, and its text begins with `%empty`.

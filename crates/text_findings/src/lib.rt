@@ -17,5 +17,6 @@ pub use file::push_file_findings;
 pub use finding::{Finding, FindingKind};
 pub use glued::push_glued;
 pub use named::symbol_name;
+pub use precedences::has_precedence;
 pub use reporter::{Reporter, push_reported};
 pub use words::Words;

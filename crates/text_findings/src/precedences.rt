@@ -1,6 +1,7 @@
 //! Productions whose `%prec` names a token without a precedence.
 
 ghost use Rattle.std.specs.Prelude.{◌≡◌, ◌++◌, length, IfOk, OnOk};
+ghost use Rattle.cfgrammar.specs.Building.{has_entry};
 ghost use Rattle.cfgrammar.specs.TreeView.{syntax};
 ghost use Rattle.cfgrammar.specs.SyntaxView.{production_view};
 ghost use Rattle.text_findings.specs.Precedences.{ReportsUndefinedPrecedence, undefined_precedence};
@@ -58,7 +59,7 @@ fn undefined_precedence(
     let Some(name) = &production.precedence else {
         return Ok(None);
     };
-    if ast.precs().contains_key(name) {
+    if has_precedence(ast, name) {
         return Ok(None);
     }
     let text = format!(in alloc;
@@ -66,4 +67,11 @@ fn undefined_precedence(
     )?;
     let span = production.prod_span;
     Ok(Some(Finding::at(alloc, FindingKind::UndefinedPrecedence, span, text)?))
+}
+
+/// Whether the token with this name has a precedence.
+pub fn has_precedence(ast: &GrammarAST, name: &str) -> bool
+    ensures { result ≡ has_entry name.now (syntax ast.now).tables.precedences }
+{
+    ast.precs().contains_key(name)
 }

@@ -3,7 +3,7 @@ use Rattle.cfgrammar.proofs.Tests.{list_any-map}
 use Rattle.std.proofs.lemmas.Map.Made.{is_some-lookup}
 use Rattle.cfgrammar.specs.Building.{has_entry}
 use Rattle.cfgrammar.specs.SyntaxView.{precedence_entry}
-use Rattle.cfglint.proofs.shown.has_precedence.Goals as goal
+use Rattle.text_findings.proofs.precedences.has_precedence.Goals as goal
 
 pub returns : goal.returns
 returns c =
