@@ -23,6 +23,8 @@ use Rattle.cfgfindings.specs.Useless.{IsUseless}
 use Rattle.text_findings.specs.Glued.{ReportsGlued}
 use Rattle.text_findings.specs.Escapes.{ReportsEscaped}
 use Rattle.text_findings.specs.Empty.{ReportsImplicitlyEmpty}
+use Rattle.text_findings.specs.Keys.{unknown_keys}
+use Rattle.text_findings.specs.Swallowed.{ReportsSwallowed}
 pub use Rattle.text_findings.specs.Reports.{ReportsBelow, none, reported, left}
 use Rattle.conflict_findings.specs.Conflicts.{AreConflictFindings}
 use Rattle.cfgfindings.specs.Needless.{ReportsUsedSymbol}
@@ -218,8 +220,8 @@ module _ (s : Syntax) where
 abbrev pub ReportsNeedless : Syntax → Numbered → ℕ → Option ShownFinding → Type 0
 ReportsNeedless s g = ReportsUsedSymbol s.expect_unused g
 
--- the findings for rules and tokens of the syntax, then those for rules, productions, precedences and declarations, and at last those for
--- conflicts, one list after the other
+-- the findings for rules and tokens of the syntax, then those for rules, productions, precedences and declarations, then those for conflicts,
+-- and at last those for types of rules and for keys of the section, one list after the other
 pub record AreReportedInTurn (text : List ℕ) (s : Syntax) (g : Numbered) (associativities : List Associativity) (reported : List ShownFinding) : Type 0 where
   pub unused_rules : List ShownFinding
   pub unused_tokens : List ShownFinding
@@ -239,6 +241,7 @@ pub record AreReportedInTurn (text : List ℕ) (s : Syntax) (g : Numbered) (asso
   pub escapes : List ShownFinding
   pub empty : List ShownFinding
   pub conflicts : List ShownFinding
+  pub swallowed : List ShownFinding
   pub are_unused_rules : ReportsBelow (ReportsUnusedRule s) (length s.rules) unused_rules
   pub are_unused_tokens : ReportsBelow (ReportsUnusedToken s) (length s.tokens) unused_tokens
   pub are_shadowed : ReportsBelow (ReportsShadowedRule s) (length s.rules) shadowed
@@ -257,10 +260,12 @@ pub record AreReportedInTurn (text : List ℕ) (s : Syntax) (g : Numbered) (asso
   pub are_escapes : ReportsBelow (ReportsEscaped s) (length s.tokens) escapes
   pub are_empty : ReportsBelow (ReportsImplicitlyEmpty text s) (length s.productions) empty
   pub are_conflicts : AreConflictFindings g associativities s.settings conflicts
+  pub are_swallowed : ReportsBelow (ReportsSwallowed s) (length s.rules) swallowed
   pub is : reported ≡ unused_rules ++ (unused_tokens ++ (shadowed
       ++ (unproductive_rules ++ (unusable_rules ++ (unusable_productions ++ (useless_rules ++ (useless_tokens ++ (cycles ++ (repeats
       ++ (precedences ++ ((map repeated_token s.repeated_tokens ++ map overridden_precedence s.overridden_precedences)
-      ++ (glued_tokens ++ (glued_precedences ++ (glued_repeated_tokens ++ (needless ++ (escapes ++ (empty ++ conflicts)))))))))))))))))
+      ++ (glued_tokens ++ (glued_precedences ++ (glued_repeated_tokens ++ (needless ++ (escapes ++ (empty ++ (conflicts
+      ++ (swallowed ++ unknown_keys text)))))))))))))))))))
 
 -- the same findings sorted by offset; those at the same offset stay in their order
 pub record AreByOffset (reported all : List ShownFinding) : Type 0 where

@@ -18,7 +18,9 @@ use cfgrammar::yacc::YaccGrammar;
 use cfgrammar::yacc::ast::GrammarAST;
 use conflict_findings::push_conflicts;
 use std::alloc::{AllocError, Global};
-use text_findings::{Finding, push_escaped, push_glued, push_implicitly_empty};
+use text_findings::{
+    Finding, push_escaped, push_glued, push_implicitly_empty, push_swallowed, push_unknown_keys,
+};
 
 /// The findings about a grammar without errors, by offset; those at the same offset are in the order of
 /// [`FindingKind`](crate::FindingKind). `ast` is the tree of the text, and `grammar` its numbers. Where the two say
@@ -53,6 +55,8 @@ pub fn findings(
     push_escaped(alloc, &mut all, ast)?;
     push_implicitly_empty(alloc, &mut all, text, ast)?;
     push_conflicts(alloc, &mut all, ast, grammar, associativities)?;
+    push_swallowed(alloc, &mut all, ast)?;
+    push_unknown_keys(alloc, &mut all, text)?;
     all.sort_by_key(|finding| finding.offset())?;
     Ok(all)
 }
