@@ -4,6 +4,7 @@ use Rattle.std.proofs.lemmas.Fn.{always_returns_same}
 use Rattle.cfgrammar.specs.Numbered.{Numbered}
 use Rattle.cfgfindings.specs.Findings.{ReportsBelow, ReportsNeedless, ReportsNoSentence, ReportsUnusable, ReportsUnusableRule, ReportsUselessRule, ReportsUselessToken}
 use Rattle.cfgfindings.specs.Shown.{ShownFinding, offset_of, overridden_precedence, repeated_token}
+use Rattle.text_findings.specs.Keys.{unknown_keys}
 use Rattle.cfgrammar.specs.TreeView.{syntax}
 use Rattle.cfgfindings.proofs.found.findings.Goals as goal
 
@@ -23,6 +24,12 @@ joined_last a7 a8 a9 a10 a11 a12 a13 d t p r n e m o e8 e9 e10 e11 e12 e13 =
     e13 ∙ ap (λ z. z ++ o) (e12 ∙ ap (λ z. z ++ m) (e11 ∙ ap (λ z. z ++ e) (e10 ∙ ap (λ z. z ++ n) (e9 ∙ ap (λ z. z ++ (t ++ (p ++ r))) e8)))) in
     all ∙ simp append_assoc
 
+-- the lists for conflicts, for types of rules and for keys of the section
+joined_end : (a12 a13 a14 a15 o s k : List ShownFinding) → a13 ≡ a12 ++ o → a14 ≡ a13 ++ s → a15 ≡ a14 ++ k → a15 ≡ a12 ++ (o ++ (s ++ k))
+joined_end a12 a13 a14 a15 o s k e13 e14 e15 =
+    let all : a15 ≡ ((a12 ++ o) ++ s) ++ k = e15 ∙ ap (λ z. z ++ k) (e14 ∙ ap (λ z. z ++ s) e13) in
+    all ∙ simp append_assoc
+
 pub returns : goal.returns
 returns c =
     let (rules, tokens, shadowed, are_rules, are_tokens, are_shadowed, unused_is) = c.in_ok-push_unused.ensures in
@@ -37,16 +44,20 @@ returns c =
     let (escapes, are_escapes, escapes_is) = c.in_ok-push_escaped.ensures in
     let (empty, are_empty, empty_is) = c.in_ok-push_implicitly_empty.ensures in
     let (conflicts, are_conflicts, conflicts_is) = c.in_ok-push_conflicts.ensures in
+    let (swallowed, are_swallowed, swallowed_is) = c.in_ok-push_swallowed.ensures in
+    let keys = unknown_keys c.args.text.now in
+    let end_is = joined_end c.push_implicitly_empty.new.all.items c.push_conflicts.new.all.items c.push_swallowed.new.all.items
+    c.push_unknown_keys.new.all.items conflicts swallowed keys conflicts_is swallowed_is c.in_ok-push_unknown_keys.ensures in
     let seen : c.in_ok-unproductive.unproductive ≡ c.args.grammar.now = c.in_ok-unproductive.ensures in
     let declared = map repeated_token (syntax c.args.ast.now).repeated_tokens ++ map overridden_precedence (syntax c.args.ast.now).overridden_precedences in
-    let last = declared ++ (glued_tokens ++ (glued_precedences ++ (glued_repeated ++ (needless ++ (escapes ++ (empty ++ conflicts)))))) in
-    let before = c.push_conflicts.new.all.items in
+    let last = declared ++ (glued_tokens ++ (glued_precedences ++ (glued_repeated ++ (needless ++ (escapes ++ (empty ++ (conflicts ++ (swallowed ++ keys)))))))) in
+    let before = c.push_unknown_keys.new.all.items in
     let after = c.sort_by_key.new.self.items in
     let reported : List ShownFinding = rules ++ (tokens ++ (shadowed
     ++ (unproductive_rules ++ (unusable_rules ++ (unusable_productions ++ (useless_rules ++ (useless_tokens ++ (cycles ++ (repeats ++ (precedences ++ last)))))))))) in
     let last_is = joined_last c.push_precedences.new.all.items c.push_declarations.new.all.items c.push_glued.new.all.items c.push_needless.new.all.items
-    c.push_escaped.new.all.items c.push_implicitly_empty.new.all.items before declared glued_tokens glued_precedences glued_repeated needless escapes empty conflicts
-    c.in_ok-push_declarations.ensures glued_is needless_is escapes_is empty_is conflicts_is in
+    c.push_escaped.new.all.items c.push_implicitly_empty.new.all.items before declared glued_tokens glued_precedences glued_repeated needless escapes empty (conflicts ++ (swallowed ++ keys))
+    c.in_ok-push_declarations.ensures glued_is needless_is escapes_is empty_is end_is in
     let is : before ≡ reported = joined c.new-all.result.items c.push_unused.new.all.items c.push_unproductive.new.all.items c.push_unusable.new.all.items
     c.push_useless.new.all.items c.push_cycles.new.all.items c.push_repeats.new.all.items c.push_precedences.new.all.items before
     rules tokens shadowed unproductive_rules unusable_rules unusable_productions useless_rules useless_tokens cycles repeats precedences last
@@ -74,6 +85,7 @@ returns c =
         escapes = escapes;
         empty = empty;
         conflicts = conflicts;
+        swallowed = swallowed;
         are_unused_rules = are_rules;
         are_unused_tokens = are_tokens;
         are_shadowed = are_shadowed;
@@ -92,6 +104,7 @@ returns c =
         are_escapes = are_escapes;
         are_empty = are_empty;
         are_conflicts = are_conflicts;
+        are_swallowed = are_swallowed;
         is = refl;
       };
       by_offset = record {
