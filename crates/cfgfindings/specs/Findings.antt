@@ -23,7 +23,7 @@ use Rattle.cfgfindings.specs.Useless.{IsUseless}
 use Rattle.text_findings.specs.Glued.{ReportsGlued}
 use Rattle.text_findings.specs.Escapes.{ReportsEscaped}
 use Rattle.text_findings.specs.Empty.{ReportsImplicitlyEmpty}
-use Rattle.text_findings.specs.Keys.{unknown_keys}
+use Rattle.text_findings.specs.Keys.{ReportsUnknownKey, entries_of}
 use Rattle.text_findings.specs.Swallowed.{ReportsSwallowed}
 pub use Rattle.text_findings.specs.Reports.{ReportsBelow, none, reported, left}
 use Rattle.conflict_findings.specs.Conflicts.{AreConflictFindings}
@@ -242,6 +242,7 @@ pub record AreReportedInTurn (text : List ℕ) (s : Syntax) (g : Numbered) (asso
   pub empty : List ShownFinding
   pub conflicts : List ShownFinding
   pub swallowed : List ShownFinding
+  pub unknown_keys : List ShownFinding
   pub are_unused_rules : ReportsBelow (ReportsUnusedRule s) (length s.rules) unused_rules
   pub are_unused_tokens : ReportsBelow (ReportsUnusedToken s) (length s.tokens) unused_tokens
   pub are_shadowed : ReportsBelow (ReportsShadowedRule s) (length s.rules) shadowed
@@ -261,11 +262,12 @@ pub record AreReportedInTurn (text : List ℕ) (s : Syntax) (g : Numbered) (asso
   pub are_empty : ReportsBelow (ReportsImplicitlyEmpty text s) (length s.productions) empty
   pub are_conflicts : AreConflictFindings g associativities s.settings conflicts
   pub are_swallowed : ReportsBelow (ReportsSwallowed s) (length s.rules) swallowed
+  pub are_unknown_keys : ReportsBelow (ReportsUnknownKey (entries_of text)) (length (entries_of text)) unknown_keys
   pub is : reported ≡ unused_rules ++ (unused_tokens ++ (shadowed
       ++ (unproductive_rules ++ (unusable_rules ++ (unusable_productions ++ (useless_rules ++ (useless_tokens ++ (cycles ++ (repeats
       ++ (precedences ++ ((map repeated_token s.repeated_tokens ++ map overridden_precedence s.overridden_precedences)
       ++ (glued_tokens ++ (glued_precedences ++ (glued_repeated_tokens ++ (needless ++ (escapes ++ (empty ++ (conflicts
-      ++ (swallowed ++ unknown_keys text)))))))))))))))))))
+      ++ (swallowed ++ unknown_keys)))))))))))))))))))
 
 -- the same findings sorted by offset; those at the same offset stay in their order
 pub record AreByOffset (reported all : List ShownFinding) : Type 0 where

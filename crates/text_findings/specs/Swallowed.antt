@@ -8,7 +8,6 @@ use Rattle.cfgrammar.specs.Span.{Span}
 use Rattle.cfgrammar.specs.Syntax.{Rule, Syntax}
 use Rattle.finding_kinds.specs.declared.finding_kind.FindingKind.TheVariants.{SwallowedRule}
 use Rattle.text_findings.specs.Finding.{ShownFinding}
-use Rattle.text_findings.specs.Named.{quoted}
 
 abbrev pub is_semicolon : ℕ → Bool
 is_semicolon byte = byte == 59
@@ -30,7 +29,7 @@ abbrev pub swallowed_rule : List ℕ → Span → ShownFinding
 swallowed_rule name span = record {
   kind = SwallowedRule;
   spans = span ∷ [];
-  text = codes "The type of rule " ++ (quoted name ++ codes " goes on over a ';' and a '->': a ':' may be missing after the type");
+  text = codes "The type of rule '" ++ (name ++ codes "' goes on over a ';' and a '->': a ':' may be missing after the type");
   hint = None;
 }
 

@@ -1,6 +1,6 @@
 //! Rules whose type goes on to the type of the next rule, since no `:` ends it.
 
-ghost use Rattle.std.specs.Prelude.{◌≡◌, ◌++◌, drop, length, map, option_map, string_bytes, IfOk, OnOk};
+ghost use Rattle.std.specs.Prelude.{◌≡◌, ◌++◌, false, length, map, option_map, slice_get, IfOk, OnOk};
 ghost use Rattle.std.specs.List.{list_any, slice_split};
 ghost use Rattle.std.specs.Option.{option_map_or};
 ghost use Rattle.cfgrammar.specs.TreeView.{syntax};
@@ -41,11 +41,22 @@ impl Reporter for SwallowedRules<'_> {
     ghost reports = { λ x. ReportsSwallowed (syntax x.0.now) };
 
     fn report(&self, alloc: Global, number: usize) -> Result<Option<Finding>, AllocError> {
-        match self.0.rules().get_index(number) {
+        match rule_at(self.0, number) {
             Some((name, rule)) => swallowed(alloc, name, rule),
             None => Ok(None),
         }
     }
+}
+
+/// The rule with this number, and its name.
+fn rule_at(ast: &GrammarAST, number: usize) -> Option<(&str, &Rule)>
+    ensures { option_map (λ rule. (rule.0.now, rule_view rule.1.now)) result
+        ≡ slice_get (syntax ast.now).rules number }
+{
+    let Some((name, rule)) = ast.rules().get_index(number) else {
+        return None;
+    };
+    Some((name.as_str(), rule))
 }
 
 /// The finding that the type of the rule with this name goes on to the type of the next rule, if it does.

@@ -4,7 +4,6 @@ use Rattle.std.proofs.lemmas.Fn.{always_returns_same}
 use Rattle.cfgrammar.specs.Numbered.{Numbered}
 use Rattle.cfgfindings.specs.Findings.{ReportsBelow, ReportsNeedless, ReportsNoSentence, ReportsUnusable, ReportsUnusableRule, ReportsUselessRule, ReportsUselessToken}
 use Rattle.cfgfindings.specs.Shown.{ShownFinding, offset_of, overridden_precedence, repeated_token}
-use Rattle.text_findings.specs.Keys.{unknown_keys}
 use Rattle.cfgrammar.specs.TreeView.{syntax}
 use Rattle.cfgfindings.proofs.found.findings.Goals as goal
 
@@ -45,9 +44,9 @@ returns c =
     let (empty, are_empty, empty_is) = c.in_ok-push_implicitly_empty.ensures in
     let (conflicts, are_conflicts, conflicts_is) = c.in_ok-push_conflicts.ensures in
     let (swallowed, are_swallowed, swallowed_is) = c.in_ok-push_swallowed.ensures in
-    let keys = unknown_keys c.args.text.now in
+    let (keys, are_keys, keys_is) = c.in_ok-push_unknown_keys.ensures in
     let end_is = joined_end c.push_implicitly_empty.new.all.items c.push_conflicts.new.all.items c.push_swallowed.new.all.items
-    c.push_unknown_keys.new.all.items conflicts swallowed keys conflicts_is swallowed_is c.in_ok-push_unknown_keys.ensures in
+    c.push_unknown_keys.new.all.items conflicts swallowed keys conflicts_is swallowed_is keys_is in
     let seen : c.in_ok-unproductive.unproductive ≡ c.args.grammar.now = c.in_ok-unproductive.ensures in
     let declared = map repeated_token (syntax c.args.ast.now).repeated_tokens ++ map overridden_precedence (syntax c.args.ast.now).overridden_precedences in
     let last = declared ++ (glued_tokens ++ (glued_precedences ++ (glued_repeated ++ (needless ++ (escapes ++ (empty ++ (conflicts ++ (swallowed ++ keys)))))))) in
@@ -86,6 +85,7 @@ returns c =
         empty = empty;
         conflicts = conflicts;
         swallowed = swallowed;
+        unknown_keys = keys;
         are_unused_rules = are_rules;
         are_unused_tokens = are_tokens;
         are_shadowed = are_shadowed;
@@ -105,6 +105,7 @@ returns c =
         are_empty = are_empty;
         are_conflicts = are_conflicts;
         are_swallowed = are_swallowed;
+        are_unknown_keys = are_keys;
         is = refl;
       };
       by_offset = record {
