@@ -1,5 +1,7 @@
--- Rules whose type goes on to the next rule's: in a file of the kind Grmtools a rule is `Name -> Type: ..`, and without the `:` the type goes
--- on to the next `:` of the text, over the rule's productions and the head of the next rule.
+-- Rules whose type goes on to that of the next rule.
+--
+-- In a file of the kind Grmtools a rule is `Name -> Type: ..`. Without the `:` after it the type goes on to the next `:` of the text, over the
+-- rule's productions and the next rule's head.
 use Rattle.std.specs.Prelude.{◌≡◌, ℕ, Bool, false, ◌==◌, List, [], ◌∷◌, ◌++◌, codes, not, drop, slice_get, Option, None, Some, if◌then◌else◌}
 use Rattle.std.specs.List.{list_any, slice_split}
 use Rattle.std.specs.Option.{option_and_then, option_map_or}
