@@ -20,7 +20,8 @@ def place(t, span):
 # the errors and the findings whose spans are names of symbols
 WITH_SYMBOLS = ('unused-rule', 'unused-token', 'shadowed-rule', 'start-without-sentence', 'no-sentence', 'unusable-rule', 'useless-symbol',
                 'cyclic-rule', 'unused-precedence', 'repeated-token', 'overridden-precedence', 'glued-keyword', 'needless-expect-unused',
-                'escaped-token', 'invalid-start-rule', 'unknown-rule', 'unknown-token', 'unknown-epp', 'undeclared-symbol')
+                'escaped-token', 'swallowed-rule', 'invalid-start-rule', 'unknown-rule', 'unknown-token', 'unknown-epp',
+                'undeclared-symbol')
 
 
 def symbol(t, span):

@@ -1,7 +1,11 @@
 """The issues of a file without errors: "Findings"."""
+import re
+
 from .conflict_findings import conflict_findings
 from .costs import Costs
 from .cycles import Cycles
+from .near import nearest
+from .section import section
 from .unused import TEXTS, unused_of
 
 
@@ -19,6 +23,8 @@ class Finding:
 
 # the keywords of lists of names
 KEYWORDS = (b'%token', b'%left', b'%right', b'%nonassoc', b'%avoid_insert', b'%implicit_tokens')
+# the keys of a section that programs look for
+KEYS = ('yacckind', 'recoverer', 'test_files')
 
 
 def findings_of(t, tree, grammar, is_printed):
@@ -27,7 +33,7 @@ def findings_of(t, tree, grammar, is_printed):
     found = (unused(tree) + shadowed(tree) + unproductive(tree, grammar) + useless(grammar) + cycles(grammar, is_printed) + repeats(grammar)
              + idle(tree) + declared_again(tree) + overridden(tree) + glued(t, tree) + needless(tree, grammar) + escapes(tree)
              + implicitly_empty(t, tree) + [Finding(*it) for it in conflict_findings(tree)] + undefined_precedences(tree)
-             + missing_empty(t, tree))
+             + missing_empty(t, tree) + swallowed(tree) + unknown_keys(t))
     return sorted(found, key=lambda finding: finding.spans[0][0])
 
 
@@ -223,3 +229,18 @@ def undefined_precedences(tree):
     text = "Undefined precedence: no %%left, %%right, %%nonassoc or %%precedence names token '%s'"
     return [Finding('UndefinedPrecedence', [p.span], text % p.precedence) for p in tree.productions
             if p.precedence is not None and p.precedence not in tree.precedences]
+
+
+def swallowed(tree):
+    """Rules in whose type a `->` follows a `;`, without a `]` between."""
+    text = "The type of rule '%s' goes on over a ';' and a '->': a ':' may be missing after the type"
+    return [Finding('SwallowedRule', [rule.span], text % n) for n, rule in tree.rules.items()
+            if rule.action_type is not None and re.search(r';[^\]]*->', rule.action_type)]
+
+
+def unknown_keys(t):
+    """Keys of the section that no program looks for."""
+    values, errors, _ = section(t, False)
+    return [Finding('UnknownKey', [span], "Unknown key '%s' in the section" % key,
+                    nearest(key, KEYS) or "the keys are 'yacckind', 'recoverer' and 'test_files'")
+            for key, (span, _) in values.items() if key not in KEYS and not errors]

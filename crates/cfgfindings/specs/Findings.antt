@@ -220,7 +220,7 @@ abbrev pub ReportsNeedless : Syntax → Numbered → ℕ → Option ShownFinding
 ReportsNeedless s g = ReportsUsedSymbol s.expect_unused g
 
 -- the findings for rules and tokens of the syntax, then those for rules, productions, precedences and declarations, those for conflicts, and
--- at last those about what the file doesn't say, one list after the other
+-- at last those about what the file seems to lack, one list after the other
 pub record AreReportedInTurn (text : List ℕ) (s : Syntax) (g : Numbered) (associativities : List Associativity) (reported : List ShownFinding) : Type 0 where
   pub unused_rules : List ShownFinding
   pub unused_tokens : List ShownFinding

@@ -6,7 +6,7 @@ use Rattle.cfgrammar.specs.ColumnUnit.{ColumnUnit}
 use Rattle.cfgrammar.specs.Render.{note_line, rendered_in}
 use Rattle.cfgjson.specs.Objects.{ShownDiagnostic}
 use Rattle.finding_kinds.specs.declared.finding_kind.FindingKind.{FindingKind}
-use Rattle.finding_kinds.specs.declared.finding_kind.FindingKind.TheVariants.{CyclicRule, EscapedToken, GluedKeyword, NeedlessExpectUnused, NoSentence, OverriddenPrecedence, RepeatedToken, ShadowedRule, StartWithoutSentence, UnusableRule, UnusedPrecedence, UnusedRule, UnusedToken, UselessSymbol}
+use Rattle.finding_kinds.specs.declared.finding_kind.FindingKind.TheVariants.{CyclicRule, EscapedToken, GluedKeyword, NeedlessExpectUnused, NoSentence, OverriddenPrecedence, RepeatedToken, ShadowedRule, StartWithoutSentence, SwallowedRule, UnusableRule, UnusedPrecedence, UnusedRule, UnusedToken, UselessSymbol}
 use Rattle.finding_kinds.specs.declared.levels.Level.{Level}
 use Rattle.finding_kinds.specs.declared.levels.Level.TheVariants.{Allow, Warn, Deny}
 use Rattle.finding_kinds.specs.declared.levels.Levels.{Levels}
@@ -47,7 +47,7 @@ finding_lines unit name text all = flat_map (λ (reported : Reported).
     rendered_in unit name text (finding_message reported) reported.finding.spans (spanskind_of reported.finding.kind)
     ++ note_of unit name text reported.finding) all
 
--- whether the spans of findings of a kind are names of symbols; the spans of the others are productions or numbers
+-- whether the spans of findings of a kind are names of symbols; the spans of the others are productions, numbers or keys
 abbrev pub has_symbols_of : FindingKind → Bool
 has_symbols_of UnusedRule = true
 has_symbols_of UnusedToken = true
@@ -63,6 +63,7 @@ has_symbols_of OverriddenPrecedence = true
 has_symbols_of GluedKeyword = true
 has_symbols_of NeedlessExpectUnused = true
 has_symbols_of EscapedToken = true
+has_symbols_of SwallowedRule = true
 has_symbols_of _ = false
 
 -- a finding, as programs read it

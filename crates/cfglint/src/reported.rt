@@ -99,6 +99,7 @@ fn has_symbols(kind: FindingKind) -> bool
             | FindingKind::GluedKeyword
             | FindingKind::NeedlessExpectUnused
             | FindingKind::EscapedToken
+            | FindingKind::SwallowedRule
     )
 }
 

@@ -7,3 +7,5 @@ pub mod Glued
 pub mod Escapes
 pub mod Empty
 pub mod Named
+pub mod Swallowed
+pub mod Keys

@@ -1,4 +1,4 @@
-//! Findings about what a file says and what it doesn't.
+//! Findings about what a file seems to lack.
 
 ghost use Rattle.std.specs.Prelude.{◌≡◌, ◌++◌, OnOk};
 ghost use Rattle.cfgrammar.specs.TreeView.{syntax};
@@ -6,11 +6,14 @@ ghost use Rattle.text_findings.specs.File.{AreFileFindings};
 
 use crate::empty::push_missing_empty;
 use crate::finding::Finding;
+use crate::keys::push_unknown_keys;
 use crate::precedences::push_undefined_precedences;
+use crate::swallowed::push_swallowed;
 use cfgrammar::yacc::ast::GrammarAST;
 use std::alloc::{AllocError, Global};
 
-/// Adds what a file doesn't say to the findings: precedences of tokens that a `%prec` names, and `%empty`.
+/// Adds what a file seems to lack to the findings: precedences of tokens that a `%prec` names, `%empty`, the `:` after a
+/// rule's type, and what makes a key of its section known.
 ///
 /// # Errors
 ///
@@ -25,5 +28,7 @@ pub fn push_file_findings(
         × (all.new.items ≡ all.old.items ++ found)) }
 {
     push_undefined_precedences(alloc, all, ast)?;
-    push_missing_empty(alloc, all, text, ast)
+    push_missing_empty(alloc, all, text, ast)?;
+    push_swallowed(alloc, all, ast)?;
+    push_unknown_keys(alloc, all, text)
 }

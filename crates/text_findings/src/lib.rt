@@ -1,4 +1,4 @@
-//! Findings, how they are reported number by number, and those about the words of a text.
+//! Findings, how they are reported number by number, and those that the text or the tree alone decides.
 #![tactic(auto)]
 
 mod empty;
@@ -6,9 +6,11 @@ mod escapes;
 mod file;
 pub mod finding;
 mod glued;
+mod keys;
 mod named;
 mod precedences;
 pub mod reporter;
+mod swallowed;
 mod words;
 
 pub use empty::push_implicitly_empty;

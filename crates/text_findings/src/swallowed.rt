@@ -1,0 +1,125 @@
+//! Rules whose type goes on to the type of the next rule, since no `:` ends it.
+
+ghost use Rattle.std.specs.Prelude.{◌≡◌, ◌++◌, false, length, map, option_map, slice_get, IfOk, OnOk};
+ghost use Rattle.std.specs.List.{list_any, slice_split};
+ghost use Rattle.std.specs.Option.{option_map_or};
+ghost use Rattle.cfgrammar.specs.TreeView.{syntax};
+ghost use Rattle.cfgrammar.specs.SyntaxView.{rule_view};
+ghost use Rattle.text_findings.specs.Reports.{ReportsBelow};
+ghost use Rattle.text_findings.specs.Swallowed.{ReportsSwallowed, goes_on, has_open_arrow, is_closing_bracket};
+ghost use Rattle.text_findings.specs.Swallowed.{is_semicolon, swallowed};
+
+use crate::finding::{Finding, FindingKind};
+use crate::reporter::{Reporter, push_reported};
+use cfgrammar::yacc::ast::{GrammarAST, Rule};
+use constructs::split_at_first;
+use std::alloc::{AllocError, Global};
+
+/// Adds the rules whose type goes on to the type of the next rule to the findings.
+pub(crate) fn push_swallowed(
+    alloc: Global,
+    all: &mut Vec<Finding>,
+    ast: &GrammarAST,
+) -> Result<(), AllocError>
+    ensures { OnOk result ((reported : _) × ReportsBelow (ReportsSwallowed (syntax ast.now))
+        (length (syntax ast.now).rules) reported × (all.new.items ≡ all.old.items ++ reported)) }
+{
+    push_reported(alloc, all, &SwallowedRules(ast), ast.rules().len())
+}
+
+/// Reports rules whose type goes on to the type of the next rule.
+#[derive(Drop)]
+struct SwallowedRules<'a>(&'a GrammarAST);
+
+impl Reporter for SwallowedRules<'_> {
+    ghost use Rattle.std.specs.Prelude.{length};
+    ghost use Rattle.cfgrammar.specs.TreeView.{syntax};
+    ghost use Rattle.text_findings.specs.Swallowed.{ReportsSwallowed};
+
+    ghost count = { λ x. length (syntax x.0.now).rules };
+
+    ghost reports = { λ x. ReportsSwallowed (syntax x.0.now) };
+
+    fn report(&self, alloc: Global, number: usize) -> Result<Option<Finding>, AllocError> {
+        match rule_at(self.0, number) {
+            Some((name, rule)) => swallowed(alloc, name, rule),
+            None => Ok(None),
+        }
+    }
+}
+
+/// The rule with this number, and its name.
+fn rule_at(ast: &GrammarAST, number: usize) -> Option<(&str, &Rule)>
+    ensures { option_map (λ rule. (rule.0.now, rule_view rule.1.now)) result
+        ≡ slice_get (syntax ast.now).rules number }
+{
+    let Some((name, rule)) = ast.rules().get_index(number) else {
+        return None;
+    };
+    Some((name.as_str(), rule))
+}
+
+/// The finding that the type of the rule with this name goes on to the type of the next rule, if it does.
+fn swallowed(alloc: Global, name: &str, rule: &Rule) -> Result<Option<Finding>, AllocError>
+    ensures { IfOk result (λ found. found ≡ swallowed (name.now, rule_view rule.now)) }
+{
+    if !type_goes_on(alloc, rule)? {
+        return Ok(None);
+    }
+    let text = format!(in alloc;
+        "The type of rule '{name}' goes on over a ';' and a '->': a ':' may be missing after the type"
+    )?;
+    Ok(Some(Finding::at(alloc, FindingKind::SwallowedRule, rule.name.1, text)?))
+}
+
+/// Whether the rule has a type, and that goes on to the type of the next rule.
+fn type_goes_on(alloc: Global, rule: &Rule) -> Result<bool, AllocError>
+    ensures { IfOk result (λ found. found ≡ option_map_or goes_on (rule_view rule.now).action_type false) }
+{
+    match &rule.actiont {
+        Some(actiont) => goes_on(alloc, actiont),
+        None => Ok(false),
+    }
+}
+
+/// Whether a `->` comes after a `;` of the type, without a `]` or another `;` between the two.
+fn goes_on(alloc: Global, actiont: &str) -> Result<bool, AllocError>
+    ensures { IfOk result (λ found. found ≡ goes_on actiont.now) }
+{
+    let pieces = pieces(alloc, actiont)?;
+    match pieces.as_slice() {
+        [_, others @ ..] => Ok(have_open_arrow(others)),
+        [] => Ok(false),
+    }
+}
+
+/// The pieces of a text between its `;`s.
+fn pieces<'a>(alloc: Global, text: &'a str) -> Result<Vec<&'a str>, AllocError>
+    ensures { IfOk result (λ pieces. map (λ piece. piece.now) pieces.items ≡ slice_split is_semicolon text.now) }
+{
+    text.split(';').collect(alloc)
+}
+
+/// Whether one of the pieces has a `->`, and no `]` before the first one.
+fn have_open_arrow(pieces: &[&str]) -> bool
+    ensures { result ≡ list_any (λ piece. has_open_arrow piece.now) pieces.now }
+{
+    pieces.iter().any(|piece| has_open_arrow(piece))
+}
+
+/// Whether the text has a `->`, and no `]` before the first one.
+fn has_open_arrow(text: &str) -> bool
+    ensures { result ≡ has_open_arrow text.now }
+{
+    match split_at_first(text, "->") {
+        Some((before, _)) => !has_closing_bracket(before),
+        None => false,
+    }
+}
+
+/// Whether the text has a `]`.
+fn has_closing_bracket(text: &str) -> bool
+    ensures { result ≡ list_any is_closing_bracket text.now }
+{
+    text.as_bytes().iter().any(|byte| *byte == b']')
+}
