@@ -28,7 +28,7 @@ pub(crate) fn print<R: Files + AllocGlobal>(out: &mut Page, rt: &R, row: &Row<'_
         readers: Cell::new(0),
     };
     let status = match row.tries {
-        "lint-program" => cfglint::run_over(&desk).status(),
+        "lint-program" => cfglint::run_over(&desk, false).status(),
         _ => cfgtool::run_over(&desk).status(),
     };
     if desk.is_selected(row, status) {
