@@ -32,6 +32,8 @@ usage: cfglint [OPTION..] [--] FILE..
                      Only text has a summary.
   --columns UNIT     What a column of text counts from 1: bytes, characters, the default, or display: columns of a
                      terminal, of which wide characters take two, and tabs those up to the next multiple of 8.
+  --color WHEN       Colours severities in text: always, never, or auto, the default: if standard output is a terminal,
+                     and the variable NO_COLOR is unset or empty.
   --states           Writes the states of the parser after the findings, for reading a conflict by hand. Only text has
                      them.
   --allow FINDING    Findings of this kind aren't reported.
@@ -78,8 +80,8 @@ and the others are warnings. If a finding is given to several of these options, 
 status: 0 without errors or denied warnings; 1 with either; 2 if the arguments are wrong, a file can't be read or
 the output can't be written; 3 if there is no memory left
 '''
-OPTIONS = ('--kind', '--default-kind', '--format', '--columns', '--allow', '--warn', '--deny', '--deny-warnings', '--states',
-           '--quiet', '--stdin-name', '--help', '--version')
+OPTIONS = ('--kind', '--default-kind', '--format', '--columns', '--color', '--allow', '--warn', '--deny', '--deny-warnings',
+           '--states', '--quiet', '--stdin-name', '--help', '--version')
 KINDS = ('original-noaction', 'original-useraction', 'original-genericparsetree', 'grmtools', 'eco', 'bison', 'yacc',
          'section')
 SAME = {'yacc': 'bison'}
@@ -111,6 +113,8 @@ NO_PRECEDENCE = 'no %left, %right or %nonassoc names it'
 WRITERS = {'json': as_json.line_of, 'github': as_annotation.line_of, 'sarif': as_sarif.line_of}
 FORMATS = ('text', *WRITERS)
 UNITS = ('bytes', 'characters', 'display')
+COLOR_CHOICES = ('auto', 'always', 'never')
+COLORS = {'error': 31, 'warning': 35}                # as ANSI's escape sequences number them
 GREATEST = 4294967295
 NO_MEMORY = object()                               # in place of the bytes of a file
 
@@ -133,7 +137,7 @@ class Options:
         self.kind, self.default_kind = None, None
         self.denies, self.is_quiet, self.stdin_name, self.files = False, False, '-', []
         self.levels = dict.fromkeys(FINDINGS, 'warning') | dict.fromkeys(ALLOWED) | dict.fromkeys(DENIED, 'error')
-        self.format, self.columns, self.shows_states = 'text', 'characters', False
+        self.format, self.columns, self.colors, self.shows_states = 'text', 'characters', False, False
 
     def set(self, option, value):
         if option == '--stdin-name':
@@ -146,6 +150,9 @@ class Options:
             self.format = named(value, 'format', FORMATS)
         elif option == '--columns':
             self.columns = named(value, 'unit', UNITS)
+        elif option == '--color':
+            choice = named(value, 'color choice', COLOR_CHOICES)
+            self.colors = choice == 'always' or choice == 'auto' and self.colors
         else:
             word = named(value, 'finding', (*FINDINGS, 'all'))
             self.levels.update(dict.fromkeys(FINDINGS if word == 'all' else [word], LEVELS[option]))
@@ -185,7 +192,7 @@ def options_of(arguments):
             options.shows_states = True
         elif argument == '--quiet':
             options.is_quiet = True
-        elif option in ('--kind', '--default-kind', '--format', '--columns', *LEVELS, '--stdin-name'):
+        elif option in ('--kind', '--default-kind', '--format', '--columns', '--color', *LEVELS, '--stdin-name'):
             if not equals and not left:
                 raise Wrong("option '%s' needs a value" % option)
             options.set(option, value if equals else left.pop(0))
@@ -236,7 +243,7 @@ class Tally:
             self.add_written(options, name, t, 'error', error_word(error), error.display(), error.spans, words)
         else:
             message = ': '.join(['error', error.display(), *([] if words is None else [words])])
-            self.add_lines(rendered(name, t, '%s [%s]' % (message, error_word(error)), error.spans, error.spans_kind(), options.columns))
+            self.add_message(options, name, t, '%s [%s]' % (message, error_word(error)), error)
             self.add_note(options, name, t, words, error.spans[0][0])
 
     def add_unread(self, options, name, before, word, says):
@@ -253,9 +260,13 @@ class Tally:
         if level and options.format in WRITERS:
             self.add_written(options, name, t, level, word, finding.text, finding.spans, finding.note)
         elif level:
-            text = '%s: %s [%s]' % (level, finding.text, word)
-            self.add_lines(rendered(name, t, text, finding.spans, finding.spans_kind(), options.columns))
+            self.add_message(options, name, t, '%s: %s [%s]' % (level, finding.text, word), finding)
             self.add_note(options, name, t, finding.note, finding.spans[0][0])
+
+    def add_message(self, options, name, t, message, of):
+        """Adds a message, which begins with its severity, at the spans of an error or a finding."""
+        first, *others = rendered(name, t, message, of.spans, of.spans_kind(), options.columns)
+        self.add_lines([coloured(first, message) if options.colors else first, *others])
 
     def add_note(self, options, name, t, words, offset):
         self.add_lines([] if words is None else [note(name, t, words, offset, options.columns)])
@@ -283,6 +294,12 @@ class Tally:
         if self.faults:
             return 2
         return 1 if self.errors or denies and self.warnings else 0
+
+
+def coloured(line, message):
+    """The line of a message, which ends with it, with its severity in bold and in its colour."""
+    place, severity = line[:-len(visible(message))], message.partition(':')[0]
+    return '%s\x1b[1;%dm%s:\x1b[0m%s' % (place, COLORS[severity], severity, line[len(place) + len(severity) + 1:])
 
 
 def is_allowed(t, word, offset):

@@ -1,3 +1,4 @@
 pub mod OneOf
 pub mod Outcomes
 pub mod Reporting
+pub mod ColoredLines

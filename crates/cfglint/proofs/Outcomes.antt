@@ -20,8 +20,8 @@ module _ (options : LintOptions) (name text : List ℕ) where
   Makes = IsMadeOf (IsRefusedOutcome options name text) (IsFoundOutcome options name text)
 
   abbrev MakesReport : Found → Printed → Type 0
-  MakesReport = IsMadeOf (ReportsErrors options.format options.columns name text)
-      (λ s g. ReportsFindings options.format options.columns name text options.shows_states options.levels s g [])
+  MakesReport = IsMadeOf (ReportsErrors options.format options.columns options.colors name text)
+      (λ s g. ReportsFindings options.format options.columns options.colors name text options.shows_states options.levels s g [])
 
   -- it is the same whatever kind its report says
   pub outcome_as : (outcome : Outcome) (kind : Option FileKind) (found : Found) → Makes found outcome

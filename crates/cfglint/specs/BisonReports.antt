@@ -29,19 +29,19 @@ module _ (options : LintOptions) (name text : List ℕ) where
   -- the errors of a file, each with its note
   abbrev pub ReportsBisonErrors : ParsedFile → Printed → Type 0
   ReportsBisonErrors file reported =
-      AreErrorLines options.format options.columns name text (noted_bison_errors text (names_of file.syntax) file.errors) reported.lines
+      AreErrorLines options.format options.columns options.colors name text (noted_bison_errors text (names_of file.syntax) file.errors) reported.lines
       × (reported.errors ≡ length file.errors) × (reported.warnings ≡ 0)
 
   -- that a grammar is too large, as for the other kinds
   abbrev pub ReportsTooLarge : Printed → Type 0
-  ReportsTooLarge = ReportsNoted options.format options.columns name text (noted_as too_large_error None ∷ [])
+  ReportsTooLarge = ReportsNoted options.format options.columns options.colors name text (noted_as too_large_error None ∷ [])
 
   -- what is reported of a file: its errors if it has any, or that its grammar is too large, and otherwise its findings
   pub data ReportsBison (file : ParsedFile) (reported : Printed) : Type 0 where
     refused : (file.errors ≡ [] → ⊥) → ReportsBisonErrors file reported → ReportsBison file reported
     too_large : file.errors ≡ [] → (Fits greatest (bison_numbers file) → ⊥) → ReportsTooLarge reported → ReportsBison file reported
     found : file.errors ≡ [] → Fits greatest (bison_numbers file)
-        → ReportsFindings options.format options.columns name text options.shows_states (levels_of options.levels) file.syntax (bison_numbers file) file.levels reported
+        → ReportsFindings options.format options.columns options.colors name text options.shows_states (levels_of options.levels) file.syntax (bison_numbers file) file.levels reported
         → ReportsBison file reported
 
   -- the same of what the text says, and as what it was read

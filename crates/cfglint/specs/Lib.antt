@@ -3,6 +3,7 @@ pub mod Suggestions
 pub mod ShownErrors
 pub mod Signs
 pub mod BisonNotes
+pub mod Severities
 pub mod ReportedErrors
 pub mod Allowed
 pub mod ReportedFindings

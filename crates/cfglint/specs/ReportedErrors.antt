@@ -6,11 +6,12 @@ use Rattle.cfgrammar.specs.ColumnUnit.{ColumnUnit}
 use Rattle.cfgrammar.specs.Errors.{GrammarError, spanskind_of}
 use Rattle.cfgrammar.specs.ErrorTexts.{error_text}
 use Rattle.cfgrammar.specs.Hints.{hint_text}
-use Rattle.cfgrammar.specs.Render.{note_line, rendered_in}
+use Rattle.cfgrammar.specs.Render.{note_line}
 use Rattle.cfgrammar.specs.Span.{Span}
 use Rattle.cfgrammar.specs.SpansKind.{SpansKind}
 use Rattle.cfgjson.specs.Objects.{ShownDiagnostic}
 use Rattle.cfglint.specs.ErrorWords.{error_word, has_symbols_of}
+use Rattle.cfglint.specs.Severities.{printed}
 use Rattle.cfglint.specs.Suggestions.{Names, most_suggestions, no_names, suggestion}
 
 -- an error as it is reported: what it says, the word of its kind, where it is, which of these spans are shown, the note on it, if there is one, and
@@ -29,7 +30,7 @@ said_note None rest = rest
 said_note (Some words) rest = codes ": " ++ (words ++ rest)
 
 abbrev pub error_message : NotedError → List ℕ
-error_message shown = codes "error: " ++ (shown.text ++ said_note shown.hint (codes " [" ++ (shown.word ++ codes "]")))
+error_message shown = shown.text ++ said_note shown.hint (codes " [" ++ (shown.word ++ codes "]"))
 
 -- the offset of an error, in bytes: the start of its first span
 abbrev pub error_offset : NotedError → ℕ
@@ -39,10 +40,10 @@ error_offset shown = option_map_or (λ (span : Span). span.start) (slice_get sho
 abbrev pub hint_line : ColumnUnit → List ℕ → List ℕ → NotedError → List ℕ
 hint_line unit name text shown = option_map_or (λ words. note_line unit name text words (error_offset shown)) shown.hint []
 
--- the lines for errors in a text with this name, with columns in this unit
-abbrev pub error_lines : ColumnUnit → List ℕ → List ℕ → List NotedError → List ℕ
-error_lines unit name text all = flat_map (λ (shown : NotedError).
-    rendered_in unit name text (error_message shown) shown.spans shown.spanskind ++ hint_line unit name text shown) all
+-- the lines for errors in a text with this name, with columns in this unit, and with colours or not
+abbrev pub error_lines : ColumnUnit → Bool → List ℕ → List ℕ → List NotedError → List ℕ
+error_lines unit colors name text all = flat_map (λ (shown : NotedError).
+    printed unit colors name text true (error_message shown) shown.spans shown.spanskind ++ hint_line unit name text shown) all
 
 -- an error, as programs read it
 abbrev pub shown_error : NotedError → ShownDiagnostic

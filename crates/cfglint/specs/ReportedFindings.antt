@@ -3,7 +3,7 @@ use Rattle.std.specs.Prelude.{ℕ, Bool, true, false, if◌then◌else◌, List,
 use Rattle.std.specs.List.{flat_map}
 use Rattle.std.specs.Option.{option_map_or}
 use Rattle.cfgrammar.specs.ColumnUnit.{ColumnUnit}
-use Rattle.cfgrammar.specs.Render.{note_line, rendered_in}
+use Rattle.cfgrammar.specs.Render.{note_line}
 use Rattle.cfgjson.specs.Objects.{ShownDiagnostic}
 use Rattle.finding_kinds.specs.declared.finding_kind.FindingKind.{FindingKind}
 use Rattle.finding_kinds.specs.declared.finding_kind.FindingKind.TheVariants.{CyclicRule, EscapedToken, GluedKeyword, NeedlessExpectUnused, NoSentence, OverriddenPrecedence, RepeatedToken, ShadowedRule, StartWithoutSentence, SwallowedRule, UnusableRule, UnusedPrecedence, UnusedRule, UnusedToken, UselessSymbol}
@@ -13,6 +13,7 @@ use Rattle.finding_kinds.specs.declared.levels.Levels.{Levels}
 use Rattle.finding_kinds.specs.FindingKinds.{level_of, word_of}
 use Rattle.cfgfindings.specs.Shown.{ShownFinding, offset_of, spanskind_of}
 use Rattle.cfglint.specs.Allowed.{is_allowed}
+use Rattle.cfglint.specs.Severities.{printed}
 
 -- a finding that is reported, as an error or as a warning
 pub record Reported : Type 0 where
@@ -32,19 +33,18 @@ level_in text levels finding = if is_allowed text finding then Allow else level_
 abbrev pub reported_by : List ℕ → Levels → List ShownFinding → List Reported
 reported_by text levels findings = flat_map (λ (finding : ShownFinding). reported_at (level_in text levels finding) finding) findings
 
--- the message of a finding: with its severity, and the word of its kind
+-- the message of a finding, with the word of its kind
 abbrev pub finding_message : Reported → List ℕ
-finding_message reported = (if reported.is_error then codes "error" else codes "warning")
-    ++ (codes ": " ++ (reported.finding.text ++ (codes " [" ++ (word_of reported.finding.kind ++ codes "]"))))
+finding_message reported = reported.finding.text ++ (codes " [" ++ (word_of reported.finding.kind ++ codes "]"))
 
 -- the line of the note on a finding, if there is one
 abbrev pub note_of : ColumnUnit → List ℕ → List ℕ → ShownFinding → List ℕ
 note_of unit name text finding = option_map_or (λ words. note_line unit name text words (offset_of finding)) finding.hint []
 
--- the lines for findings about a text with this name, with columns in this unit
-abbrev pub finding_lines : ColumnUnit → List ℕ → List ℕ → List Reported → List ℕ
-finding_lines unit name text all = flat_map (λ (reported : Reported).
-    rendered_in unit name text (finding_message reported) reported.finding.spans (spanskind_of reported.finding.kind)
+-- the lines for findings about a text with this name, with columns in this unit, and with colours or not
+abbrev pub finding_lines : ColumnUnit → Bool → List ℕ → List ℕ → List Reported → List ℕ
+finding_lines unit colors name text all = flat_map (λ (reported : Reported).
+    printed unit colors name text reported.is_error (finding_message reported) reported.finding.spans (spanskind_of reported.finding.kind)
     ++ note_of unit name text reported.finding) all
 
 -- whether the spans of findings of a kind are names of symbols; the spans of the others are productions, numbers or keys

@@ -35,16 +35,16 @@ abbrev pub ShowsStates : Bool → Numbered → List Associativity → List ℕ �
 ShowsStates true g associativities lines = IsStatesText g associativities lines
 ShowsStates false g associativities lines = lines ≡ []
 
--- what is reported, in this format and with columns in this unit, for a text in a file with this name
-module _ (format : Format) (unit : ColumnUnit) (name text : List ℕ) where
+-- what is reported, in this format, with columns in this unit and with colours or not, for a text in a file with this name
+module _ (format : Format) (unit : ColumnUnit) (colors : Bool) (name text : List ℕ) where
   -- the lines for errors and for findings in the format
   abbrev pub AreErrorLines : List NotedError → List ℕ → Type 0
-  AreErrorLines all lines = InFormat format (lines ≡ error_lines unit name text all)
+  AreErrorLines all lines = InFormat format (lines ≡ error_lines unit colors name text all)
       (AreJsonLines (map (λ error. diagnostic_object name text (shown_error error)) all) lines)
       (lines ≡ annotations name text (map shown_error all)) (lines ≡ result_lines name text (map shown_error all))
 
   abbrev pub AreFindingLines : List Reported → List ℕ → Type 0
-  AreFindingLines all lines = InFormat format (lines ≡ finding_lines unit name text all)
+  AreFindingLines all lines = InFormat format (lines ≡ finding_lines unit colors name text all)
       (AreJsonLines (map (λ finding. diagnostic_object name text (shown_finding finding)) all) lines)
       (lines ≡ annotations name text (map shown_finding all)) (lines ≡ result_lines name text (map shown_finding all))
 

@@ -16,18 +16,18 @@ module _ (options : LintOptions) (name text : List ℕ) where
   -- its errors if it has any, and otherwise its findings; and the kind that it was read as
   abbrev pub ReportsYacc : KindArg → Printed → Type 0
   ReportsYacc kind reported = (found : Found) × IsFound kind text found
-      × IsMadeOf (ReportsErrors options.format options.columns name text)
-      (λ s g. ReportsFindings options.format options.columns name text options.shows_states options.levels s g []) found reported
+      × IsMadeOf (ReportsErrors options.format options.columns options.colors name text)
+      (λ s g. ReportsFindings options.format options.columns options.colors name text options.shows_states options.levels s g []) found reported
       × (reported.kind ≡ option_map Yacc (kind_read found))
 
   -- what the code makes of errors and of a grammar: the same, and whether the text is refused
   abbrev pub IsRefusedOutcome : Option Syntax → List GrammarError → Outcome → Type 0
   IsRefusedOutcome syntax all outcome =
-      ReportsErrors options.format options.columns name text syntax all outcome.report × (outcome.is_refused ≡ true)
+      ReportsErrors options.format options.columns options.colors name text syntax all outcome.report × (outcome.is_refused ≡ true)
 
   abbrev pub IsFoundOutcome : Syntax → Numbered → Outcome → Type 0
   IsFoundOutcome s g outcome =
-      ReportsFindings options.format options.columns name text options.shows_states options.levels s g [] outcome.report × (outcome.is_refused ≡ false)
+      ReportsFindings options.format options.columns options.colors name text options.shows_states options.levels s g [] outcome.report × (outcome.is_refused ≡ false)
 
   abbrev pub IsOutcome : KindArg → Outcome → Type 0
   IsOutcome kind outcome = (found : Found) × IsFound kind text found × IsMadeOf IsRefusedOutcome IsFoundOutcome found outcome

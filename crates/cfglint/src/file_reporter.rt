@@ -36,8 +36,8 @@ impl FileReporter<'_> {
         text: &str,
         errors: &[ReportedError],
     ) -> Result<Report, AllocError>
-        ensures { IfOk result (ReportsNoted self.now.options.format self.now.options.columns self.now.name.now text.now
-            errors.now) }
+        ensures { IfOk result (ReportsNoted self.now.options.format self.now.options.columns self.now.options.colors
+            self.now.name.now text.now errors.now) }
     {
         Ok(Report {
             lines: self.error_lines(alloc, text, errors)?,
@@ -61,9 +61,9 @@ impl FileReporter<'_> {
         grammar: &YaccGrammar<u32>,
         associativities: &[Associativity],
     ) -> Result<Report, AllocError>
-        ensures { IfOk result (ReportsFindings self.now.options.format self.now.options.columns self.now.name.now
-            text.now self.now.options.shows_states self.now.options.levels (syntax ast.now) grammar.now
-            associativities.now) }
+        ensures { IfOk result (ReportsFindings self.now.options.format self.now.options.columns self.now.options.colors
+            self.now.name.now text.now self.now.options.shows_states self.now.options.levels (syntax ast.now)
+            grammar.now associativities.now) }
     {
         let all = findings(alloc, text, ast, grammar, associativities)?;
         let reported = reported_findings(alloc, text, &all, &self.options.levels)?;
@@ -86,11 +86,17 @@ impl FileReporter<'_> {
         text: &str,
         errors: &[ReportedError],
     ) -> Result<String, AllocError>
-        ensures { IfOk result (λ lines. AreErrorLines self.now.options.format self.now.options.columns self.now.name.now
-            text.now errors.now (string_bytes lines)) }
+        ensures { IfOk result (λ lines. AreErrorLines self.now.options.format self.now.options.columns
+            self.now.options.colors self.now.name.now text.now errors.now (string_bytes lines)) }
     {
-        match self.options.format {
-            Format::Text => error_lines(alloc, self.options.columns, self.name, text, errors),
+        let LintOptions {
+            format,
+            columns,
+            colors,
+            ..
+        } = self.options;
+        match format {
+            Format::Text => error_lines(alloc, columns, colors, self.name, text, errors),
             Format::Json => json_lines(alloc, self.name, text, errors),
             Format::Github => annotation_lines(alloc, self.name, text, errors),
             Format::Sarif => result_lines(alloc, self.name, text, errors),
@@ -105,10 +111,16 @@ impl FileReporter<'_> {
         all: &[ReportedFinding<'_>],
     ) -> Result<String, AllocError>
         ensures { IfOk result (λ lines. AreFindingLines self.now.options.format self.now.options.columns
-            self.now.name.now text.now all.now (string_bytes lines)) }
+            self.now.options.colors self.now.name.now text.now all.now (string_bytes lines)) }
     {
-        match self.options.format {
-            Format::Text => finding_lines(alloc, self.options.columns, self.name, text, all),
+        let LintOptions {
+            format,
+            columns,
+            colors,
+            ..
+        } = self.options;
+        match format {
+            Format::Text => finding_lines(alloc, columns, colors, self.name, text, all),
             Format::Json => json_lines(alloc, self.name, text, all),
             Format::Github => annotation_lines(alloc, self.name, text, all),
             Format::Sarif => result_lines(alloc, self.name, text, all),

@@ -6,9 +6,10 @@ ghost use Rattle.cfglint.specs.Allowed.{AreOf};
 ghost use Rattle.cfglint.specs.ReportedFindings.{finding_lines, has_symbols_of, level_in, reported_by};
 
 use crate::allowed::Allowances;
+use crate::messages::Message;
 use cfgfindings::{Finding, FindingKind};
 use cfgjson::{Diagnosed, Diagnostic};
-use cfgrammar::{ColumnUnit, Source, Span, Spanned, SpansKind};
+use cfgrammar::{ColumnUnit, Source, Spanned};
 use finding_kinds::{Level, Levels};
 use std::alloc::{AllocError, Global};
 use std::fmt;
@@ -36,25 +37,8 @@ impl fmt::Display for ReportedFinding<'_> {
     ghost output = { λ x. Some (finding_message x) };
 
     fn fmt<W: fmt::Write>(&self, f: &mut fmt::Formatter<W>) -> fmt::Result {
-        let severity = if self.is_error { "error" } else { "warning" };
         let word = self.finding.kind().word();
-        write!(f, "{severity}: {} [{word}]", self.finding)
-    }
-}
-
-impl Spanned for ReportedFinding<'_> {
-    ghost use Rattle.cfgfindings.specs.Shown.{spanskind_of};
-
-    ghost spans = { λ x. x.finding.spans };
-
-    ghost spanskind = { λ x. spanskind_of x.finding.kind };
-
-    fn spans(&self) -> &[Span] {
-        self.finding.spans()
-    }
-
-    fn spanskind(&self) -> SpansKind {
-        self.finding.spanskind()
+        write!(f, "{} [{word}]", self.finding)
     }
 }
 
@@ -141,16 +125,17 @@ fn level_of(text: &str, allowances: &Allowances<'_>, levels: &Levels, finding: &
 pub(crate) fn finding_lines(
     alloc: Global,
     unit: ColumnUnit,
+    colors: bool,
     name: &str,
     text: &str,
     findings: &[ReportedFinding<'_>],
 ) -> Result<String, AllocError>
-    ensures { IfOk result (λ lines. string_bytes lines ≡ finding_lines unit name.now text.now findings.now) }
+    ensures { IfOk result (λ lines. string_bytes lines ≡ finding_lines unit colors name.now text.now findings.now) }
 {
     let source = Source::with_columns(alloc, name, text, unit)?;
     let mut lines = String::new(alloc);
     for finding in findings {
-        push_finding(alloc, &mut lines, &source, finding)?;
+        push_finding(alloc, &mut lines, &source, colors, finding)?;
     }
     Ok(lines)
 }
@@ -160,12 +145,20 @@ fn push_finding(
     alloc: Global,
     lines: &mut String,
     source: &Source<'_>,
+    colors: bool,
     reported: &ReportedFinding<'_>,
 ) -> Result<(), AllocError>
     ensures { OnOk result (string_bytes lines.new ≡ string_bytes lines.old
-        ++ finding_lines source.now.unit source.now.name.now source.now.text (reported.now ∷ [])) }
+        ++ finding_lines source.now.unit colors source.now.name.now source.now.text (reported.now ∷ [])) }
 {
-    source.push(alloc, lines, reported)?;
+    let text = reported.to_string(alloc)?;
+    let message = Message {
+        is_error: reported.is_error,
+        text: &text,
+        spans: reported.finding.spans(),
+        spanskind: reported.finding.spanskind(),
+    };
+    message.push(alloc, lines, source, colors)?;
     match reported.finding.hint() {
         Some(hint) => source.push_note(lines, hint, reported.finding.offset()),
         None => Ok(()),

@@ -6,6 +6,7 @@ ghost use Rattle.cfglint.specs.BisonNotes.{bison_noted_as, has_symbols_of};
 ghost use Rattle.cfglint.specs.ReportedErrors.{error_lines, error_offset, noted_as};
 
 use crate::error_words::{error_word, has_symbols};
+use crate::messages::Message;
 use cfgjson::{Diagnosed, Diagnostic};
 use cfgrammar::bison::{Error, ErrorKind};
 use cfgrammar::yacc::YaccGrammarError;
@@ -119,23 +120,9 @@ impl fmt::Display for ReportedError {
 
     fn fmt<W: fmt::Write>(&self, f: &mut fmt::Formatter<W>) -> fmt::Result {
         match &self.hint {
-            Some(hint) => write!(f, "error: {}: {hint} [{}]", self.text, self.word),
-            None => write!(f, "error: {} [{}]", self.text, self.word),
+            Some(hint) => write!(f, "{}: {hint} [{}]", self.text, self.word),
+            None => write!(f, "{} [{}]", self.text, self.word),
         }
-    }
-}
-
-impl Spanned for ReportedError {
-    ghost spans = { λ x. x.spans };
-
-    ghost spanskind = { λ x. x.spanskind };
-
-    fn spans(&self) -> &[Span] {
-        self.spans.as_slice()
-    }
-
-    fn spanskind(&self) -> SpansKind {
-        self.spanskind
     }
 }
 
@@ -171,16 +158,17 @@ fn is_about_symbol(kind: ErrorKind) -> bool
 pub(crate) fn error_lines(
     alloc: Global,
     unit: ColumnUnit,
+    colors: bool,
     name: &str,
     text: &str,
     errors: &[ReportedError],
 ) -> Result<String, AllocError>
-    ensures { IfOk result (λ lines. string_bytes lines ≡ error_lines unit name.now text.now errors.now) }
+    ensures { IfOk result (λ lines. string_bytes lines ≡ error_lines unit colors name.now text.now errors.now) }
 {
     let source = Source::with_columns(alloc, name, text, unit)?;
     let mut lines = String::new(alloc);
     for error in errors {
-        push_error(alloc, &mut lines, &source, error)?;
+        push_error(alloc, &mut lines, &source, colors, error)?;
     }
     Ok(lines)
 }
@@ -190,12 +178,20 @@ fn push_error(
     alloc: Global,
     lines: &mut String,
     source: &Source<'_>,
+    colors: bool,
     error: &ReportedError,
 ) -> Result<(), AllocError>
-    ensures { OnOk result (string_bytes lines.new
-        ≡ string_bytes lines.old ++ error_lines source.now.unit source.now.name.now source.now.text (error.now ∷ [])) }
+    ensures { OnOk result (string_bytes lines.new ≡ string_bytes lines.old
+        ++ error_lines source.now.unit colors source.now.name.now source.now.text (error.now ∷ [])) }
 {
-    source.push(alloc, lines, error)?;
+    let text = error.to_string(alloc)?;
+    let message = Message {
+        is_error: true,
+        text: &text,
+        spans: error.spans.as_slice(),
+        spanskind: error.spanskind,
+    };
+    message.push(alloc, lines, source, colors)?;
     match error.hint() {
         Some(hint) => source.push_note(lines, hint, error.offset()),
         None => Ok(()),

@@ -2,7 +2,8 @@
 #![tactic(auto)]
 
 use cfglint::{Ended, run_over};
+use std::io::IsTerminal;
 
 fn main(rt: HostRuntime) -> Ended {
-    run_over(&rt)
+    run_over(&rt, rt.stdout().is_terminal())
 }

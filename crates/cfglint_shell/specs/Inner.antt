@@ -13,7 +13,7 @@ use Rattle.cfglint_shell.specs.declared.arguments.Options as options_code
 use Rattle.cfglint_shell.specs.declared.usage.UsageError as error_code
 use Rattle.cfglint_shell.specs.declared.usage.UsageError.TheVariants as error
 use Rattle.cfglint_shell.specs.Run.{Answer, Answered, Ending, NoMemory, Unwritten}
-use Rattle.cfglint_shell.specs.Requests.{Requested, Help, Lint, Version, Options, Wrong, Step, Goes, Stops, UsageError, UnknownOption, UnknownKind, UnknownDefaultKind, UnknownFormat, UnknownUnit, UnknownFinding, MissingValue, NoFile, StandardInputTwice}
+use Rattle.cfglint_shell.specs.Requests.{Requested, Help, Lint, Version, Options, Wrong, Step, Goes, Stops, UsageError, UnknownOption, UnknownKind, UnknownDefaultKind, UnknownFormat, UnknownUnit, UnknownColor, UnknownFinding, MissingValue, NoFile, StandardInputTwice}
 
 -- the code's options
 abbrev pub options_view : options_code.Options → Options
@@ -32,6 +32,7 @@ usage_error_view (error.UnknownKind kind) = UnknownKind kind.now
 usage_error_view (error.UnknownDefaultKind kind) = UnknownDefaultKind kind.now
 usage_error_view (error.UnknownFormat format) = UnknownFormat format.now
 usage_error_view (error.UnknownUnit unit) = UnknownUnit unit.now
+usage_error_view (error.UnknownColor color) = UnknownColor color.now
 usage_error_view (error.UnknownFinding finding) = UnknownFinding finding.now
 usage_error_view (error.MissingValue option) = MissingValue option
 usage_error_view error.NoFile = NoFile

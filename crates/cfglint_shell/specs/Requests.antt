@@ -12,10 +12,10 @@ use Rattle.finding_kinds.specs.declared.levels.Level.{Level}
 use Rattle.finding_kinds.specs.declared.levels.Level.TheVariants as level
 use Rattle.cfglint_shell.specs.declared.linter.LintOptions.{LintOptions}
 use Rattle.cfglint_shell.specs.declared.usage.ValueOption.{ValueOption}
-use Rattle.cfglint_shell.specs.declared.usage.ValueOption.TheVariants.{Kind, DefaultKind, Format, Columns, Allow, Warn, Deny, StdinName}
+use Rattle.cfglint_shell.specs.declared.usage.ValueOption.TheVariants.{Kind, DefaultKind, Format, Columns, Color, Allow, Warn, Deny, StdinName}
 use Rattle.cfglint_shell.specs.declared.format.Format.TheVariants.{Text}
 use Rattle.cfglint_shell.specs.FileKinds.{kind_requested, named_kind}
-use Rattle.cfglint_shell.specs.Formats.{format_named, is_text, unit_named}
+use Rattle.cfglint_shell.specs.Formats.{color_choice_named, colors_by, format_named, is_text, unit_named}
 use Rattle.finding_kinds.specs.FindingKinds.{all_levels, default_levels, finding_named, kinds, with_level, word_of}
 
 -- that these files are linted, in order; the name under which standard input is reported; whether warnings are denied, and whether the
@@ -30,7 +30,7 @@ pub record Options : Type 0 where
 -- before the first argument
 abbrev pub no_options : Options
 no_options = record {
-  lint = record { kind = None; default_kind = None; levels = default_levels; format = Text; columns = Characters; shows_states = false };
+  lint = record { kind = None; default_kind = None; levels = default_levels; format = Text; columns = Characters; colors = false; shows_states = false };
   stdin_name = codes "-";
   denies = false;
   is_quiet = false;
@@ -45,14 +45,15 @@ name_of options file = if bytes_eq file (codes "-") then options.stdin_name else
 abbrev pub has_summary : Options → Bool
 has_summary options = is_text options.lint.format && not options.is_quiet
 
--- what is wrong with arguments: there is no such option; this value of an option names no kind, none that can be the default, no format, no unit or
--- no kind of finding; an option's value is missing; no file is given; more than one of the files is standard input
+-- what is wrong with arguments: there is no such option; this value of an option names no kind, none that can be the default, no format, no unit,
+-- no time for colours or no kind of finding; an option's value is missing; no file is given; more than one of the files is standard input
 pub data UsageError : Type 0 where
   UnknownOption : List ℕ → UsageError
   UnknownKind : List ℕ → UsageError
   UnknownDefaultKind : List ℕ → UsageError
   UnknownFormat : List ℕ → UsageError
   UnknownUnit : List ℕ → UsageError
+  UnknownColor : List ℕ → UsageError
   UnknownFinding : List ℕ → UsageError
   MissingValue : ValueOption → UsageError
   NoFile : UsageError
@@ -76,6 +77,7 @@ option_named name =
     else if bytes_eq name (codes "--default-kind") then Some DefaultKind
     else if bytes_eq name (codes "--format") then Some Format
     else if bytes_eq name (codes "--columns") then Some Columns
+    else if bytes_eq name (codes "--color") then Some Color
     else if bytes_eq name (codes "--allow") then Some Allow
     else if bytes_eq name (codes "--warn") then Some Warn
     else if bytes_eq name (codes "--deny") then Some Deny
@@ -87,6 +89,7 @@ option_name Kind = codes "--kind"
 option_name DefaultKind = codes "--default-kind"
 option_name Format = codes "--format"
 option_name Columns = codes "--columns"
+option_name Color = codes "--color"
 option_name Allow = codes "--allow"
 option_name Warn = codes "--warn"
 option_name Deny = codes "--deny"
@@ -119,6 +122,9 @@ module _ (options : Options) where
   with_value Columns value = option_map_or
       (λ unit. Goes Argument (record options { lint = record options.lint { columns = unit } }))
       (unit_named value) (Stops (Wrong (UnknownUnit value)))
+  with_value Color value = option_map_or
+      (λ choice. Goes Argument (record options { lint = record options.lint { colors = colors_by choice options.lint.colors } }))
+      (color_choice_named value) (Stops (Wrong (UnknownColor value)))
   with_value Allow value = with_finding level.Allow value
   with_value Warn value = with_finding level.Warn value
   with_value Deny value = with_finding level.Deny value
@@ -198,9 +204,9 @@ files_requested (Lint options) = options.files
 abbrev pub usage : List ℕ
 usage = codes "usage: cfglint [OPTION..] [--] FILE..\n"
 
--- the words that name options, kinds, default kinds, formats and findings
+-- the words that name options, kinds, default kinds, formats, units, when there are colours, and findings
 abbrev pub option_names : List (List ℕ)
-option_names = codes "--kind" ∷ codes "--default-kind" ∷ codes "--format" ∷ codes "--columns" ∷ codes "--allow" ∷ codes "--warn" ∷ codes "--deny"
+option_names = codes "--kind" ∷ codes "--default-kind" ∷ codes "--format" ∷ codes "--columns" ∷ codes "--color" ∷ codes "--allow" ∷ codes "--warn" ∷ codes "--deny"
     ∷ codes "--deny-warnings" ∷ codes "--states" ∷ codes "--quiet" ∷ codes "--stdin-name" ∷ codes "--help" ∷ codes "--version" ∷ []
 
 abbrev pub default_kind_names : List (List ℕ)
@@ -215,6 +221,9 @@ format_names = codes "text" ∷ codes "json" ∷ codes "github" ∷ codes "sarif
 
 abbrev pub unit_names : List (List ℕ)
 unit_names = codes "bytes" ∷ codes "characters" ∷ codes "display" ∷ []
+
+abbrev pub color_choice_names : List (List ℕ)
+color_choice_names = codes "auto" ∷ codes "always" ∷ codes "never" ∷ []
 
 abbrev pub finding_names : List (List ℕ)
 finding_names = map word_of kinds ++ codes "all" ∷ []
@@ -241,6 +250,7 @@ usage_error_text (UnknownKind kind) = unknown_text (codes "kind") kind kind kind
 usage_error_text (UnknownDefaultKind kind) = unknown_text (codes "default kind") kind kind default_kind_names
 usage_error_text (UnknownFormat format) = unknown_text (codes "format") format format format_names
 usage_error_text (UnknownUnit unit) = unknown_text (codes "unit") unit unit unit_names
+usage_error_text (UnknownColor color) = unknown_text (codes "color choice") color color color_choice_names
 usage_error_text (UnknownFinding finding) = unknown_text (codes "finding") finding finding finding_names
 usage_error_text (MissingValue option) = codes "cfglint: option '" ++ (option_name option ++ codes "' needs a value\n")
 usage_error_text NoFile = codes "cfglint: no file is given\n"
@@ -250,4 +260,4 @@ abbrev pub version : List ℕ
 version = codes "cfglint 0.15.0\n"
 
 abbrev pub help : List ℕ
-help = codes "cfglint reports errors in Yacc grammar files, and warnings about their grammars.\n\nusage: cfglint [OPTION..] [--] FILE..\n\n  --kind KIND        bison or yacc, the same: as Bison reads files; original-noaction, original-useraction,\n                     original-genericparsetree, grmtools, eco; or section (the kind that the file's section names).\n                     Without it the section names the kind; a file that names none is read as the default kind.\n  --default-kind KIND\n                     The default kind, any but section. Without it a file that names no kind is read as\n                     original-noaction; if it then has errors, and something that only Bison's files have, such as %{\n                     or %union, it is read as bison.\n  --format FORMAT    text, the default; json: a line with a JSON object for each error and warning; github: a line\n                     with a workflow command for each, which GitHub shows at its place; or sarif: a log in SARIF 2.1.0.\n                     Only text has a summary.\n  --columns UNIT     What a column of text counts from 1: bytes, characters, the default, or display: columns of a\n                     terminal, of which wide characters take two, and tabs those up to the next multiple of 8.\n  --states           Writes the states of the parser after the findings, for reading a conflict by hand. Only text has\n                     them.\n  --allow FINDING    Findings of this kind aren't reported.\n  --warn FINDING     Findings of this kind are warnings.\n  --deny FINDING     Findings of this kind are errors.\n  --deny-warnings    Warnings end with status 1 too.\n  --quiet            Writes no summary.\n  --stdin-name NAME  Standard input is reported under this name.\n  -h, --help         Writes this.\n  --version          Writes the version.\n  --                 What follows are files.\n  FILE               A path, or - for standard input, which can be given once.\n\nFINDING is all, for each kind, or one of these. Without these options those that say so are errors or aren't reported,\nand the others are warnings. If a finding is given to several of these options, the last one wins.\n\n  unused-rule             a rule that can't be reached from the start rule\n  unused-token            a token that can't be reached from it, and that no %prec names\n  shadowed-rule           a rule that is never used, since its name is that of a token\n  start-without-sentence  a start rule from which no sentence can be derived: an error\n  no-sentence             another rule from which no sentence can be derived\n  unusable-rule           a rule without a sentence since others have none: not reported\n  unusable-production     a production with a rule that has no sentence: not reported\n  useless-symbol          a rule or token that only unusable productions reach: not reported\n  cyclic-rule             a rule that derives itself\n  repeated-production     a production with the symbols of an earlier one of its rule\n  unused-precedence       a precedence of a token that no production needs\n  repeated-token          a token that a %token list has a second time\n  overridden-precedence   a %prec that a later one of its production overrides\n  glued-keyword           a name that directly follows a keyword, as in %tokens X\n  needless-expect-unused  a symbol of an %expect-unused that is used\n  escaped-token           a token whose name begins with a backslash: not reported\n  implicit-empty          an empty production without %empty: not reported\n  shift-reduce            a production that may be reduced where the next token may also be shifted\n  reduce-reduce           a production that may be reduced where an earlier one may be too\n  unmet-expect            an %expect or %expect-rr with another number of conflicts than there are: an error\n  undefined-precedence    a production whose %prec names a token without a precedence\n  missing-empty           an empty production without %empty, which others have\n  swallowed-rule          a rule whose type goes on to the type of the next one\n  unknown-key             a key of a section that nothing looks for\n\n--kind=KIND is --kind KIND, and so on.\n\nstatus: 0 without errors or denied warnings; 1 with either; 2 if the arguments are wrong, a file can't be read or\nthe output can't be written; 3 if there is no memory left\n"
+help = codes "cfglint reports errors in Yacc grammar files, and warnings about their grammars.\n\nusage: cfglint [OPTION..] [--] FILE..\n\n  --kind KIND        bison or yacc, the same: as Bison reads files; original-noaction, original-useraction,\n                     original-genericparsetree, grmtools, eco; or section (the kind that the file's section names).\n                     Without it the section names the kind; a file that names none is read as the default kind.\n  --default-kind KIND\n                     The default kind, any but section. Without it a file that names no kind is read as\n                     original-noaction; if it then has errors, and something that only Bison's files have, such as %{\n                     or %union, it is read as bison.\n  --format FORMAT    text, the default; json: a line with a JSON object for each error and warning; github: a line\n                     with a workflow command for each, which GitHub shows at its place; or sarif: a log in SARIF 2.1.0.\n                     Only text has a summary.\n  --columns UNIT     What a column of text counts from 1: bytes, characters, the default, or display: columns of a\n                     terminal, of which wide characters take two, and tabs those up to the next multiple of 8.\n  --color WHEN       Colours severities in text: always, never, or auto, the default: if standard output is a terminal,\n                     and the variable NO_COLOR is unset or empty.\n  --states           Writes the states of the parser after the findings, for reading a conflict by hand. Only text has\n                     them.\n  --allow FINDING    Findings of this kind aren't reported.\n  --warn FINDING     Findings of this kind are warnings.\n  --deny FINDING     Findings of this kind are errors.\n  --deny-warnings    Warnings end with status 1 too.\n  --quiet            Writes no summary.\n  --stdin-name NAME  Standard input is reported under this name.\n  -h, --help         Writes this.\n  --version          Writes the version.\n  --                 What follows are files.\n  FILE               A path, or - for standard input, which can be given once.\n\nFINDING is all, for each kind, or one of these. Without these options those that say so are errors or aren't reported,\nand the others are warnings. If a finding is given to several of these options, the last one wins.\n\n  unused-rule             a rule that can't be reached from the start rule\n  unused-token            a token that can't be reached from it, and that no %prec names\n  shadowed-rule           a rule that is never used, since its name is that of a token\n  start-without-sentence  a start rule from which no sentence can be derived: an error\n  no-sentence             another rule from which no sentence can be derived\n  unusable-rule           a rule without a sentence since others have none: not reported\n  unusable-production     a production with a rule that has no sentence: not reported\n  useless-symbol          a rule or token that only unusable productions reach: not reported\n  cyclic-rule             a rule that derives itself\n  repeated-production     a production with the symbols of an earlier one of its rule\n  unused-precedence       a precedence of a token that no production needs\n  repeated-token          a token that a %token list has a second time\n  overridden-precedence   a %prec that a later one of its production overrides\n  glued-keyword           a name that directly follows a keyword, as in %tokens X\n  needless-expect-unused  a symbol of an %expect-unused that is used\n  escaped-token           a token whose name begins with a backslash: not reported\n  implicit-empty          an empty production without %empty: not reported\n  shift-reduce            a production that may be reduced where the next token may also be shifted\n  reduce-reduce           a production that may be reduced where an earlier one may be too\n  unmet-expect            an %expect or %expect-rr with another number of conflicts than there are: an error\n  undefined-precedence    a production whose %prec names a token without a precedence\n  missing-empty           an empty production without %empty, which others have\n  swallowed-rule          a rule whose type goes on to the type of the next one\n  unknown-key             a key of a section that nothing looks for\n\n--kind=KIND is --kind KIND, and so on.\n\nstatus: 0 without errors or denied warnings; 1 with either; 2 if the arguments are wrong, a file can't be read or\nthe output can't be written; 3 if there is no memory left\n"

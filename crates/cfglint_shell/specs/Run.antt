@@ -1,5 +1,7 @@
 -- How a run of the program ends, and what becomes of its source and its two outputs.
-use Rattle.std.specs.Prelude.{◌≡◌, ℕ, List, [], ◌++◌, Option, codes, if◌then◌else◌}
+use Rattle.std.specs.Prelude.{◌≡◌, ℕ, ◌==◌, Bool, true, false, List, [], ◌∷◌, ◌++◌, Option, Result, Ok, Err, codes, if◌then◌else◌}
+use Rattle.std.specs.declared.env.FillError.{FillError}
+use Rattle.std.specs.declared.env.FillError.TheVariants.{NotPresent, TooLong}
 use Rattle.std.specs.Io.KnownBytes.{Appends, Keeps}
 use Rattle.cfgsink.specs.Sinks.{AppendsPrefix}
 use Rattle.cfgsink.specs.declared.sink.WriteError.{WriteError}
@@ -72,6 +74,16 @@ written text = record { output = text; errors = []; status = 0 }
 -- the result of arguments that are wrong, as this line says
 abbrev pub refused : List ℕ → Answer
 refused line = record { output = []; errors = line ++ usage; status = 2 }
+
+-- the arguments that the program is run on, where colours are the default or not: what users say comes later, and counts
+abbrev pub with_colors : Bool → List (List ℕ) → List (List ℕ)
+with_colors colors arguments = if colors then codes "--color=always" ∷ arguments else arguments
+
+-- whether a variable is unset or empty, whose bytes the system copies like this; one that it can't copy is neither
+abbrev pub is_unset_or_empty : Result ℕ FillError → Bool
+is_unset_or_empty (Ok count) = count == 0
+is_unset_or_empty (Err NotPresent) = true
+is_unset_or_empty (Err TooLong) = false
 
 -- how a run ends that has no arguments, for this reason: arguments that are not text are wrong
 abbrev pub ending_without : ArgumentsFault → Ending

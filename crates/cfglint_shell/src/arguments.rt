@@ -11,6 +11,7 @@ ghost use Rattle.cfglint_shell.specs.Requests.{requested_files};
 ghost use Rattle.cfglint_shell.specs.Requests.{with_argument, with_expected, with_finding, with_option, with_value};
 ghost use Rattle.cfglint_shell.specs.Requests as requests;
 
+use crate::color_choice::ColorChoice;
 use crate::file_kind::KindRequest;
 use crate::format::Format;
 use crate::linter::LintOptions;
@@ -110,6 +111,7 @@ impl<'a> Options<'a> {
                 levels: Levels::new(),
                 format: Format::Text,
                 columns: ColumnUnit::Characters,
+                colors: false,
                 shows_states: false,
             },
             stdin_name: "-",
@@ -220,6 +222,7 @@ impl<'a> Options<'a> {
             ValueOption::DefaultKind => self.take_default_kind(value),
             ValueOption::Format => self.take_format(value),
             ValueOption::Columns => self.take_columns(value),
+            ValueOption::Color => self.take_color(value),
             ValueOption::Allow => self.take_level(value, Level::Allow),
             ValueOption::Warn => self.take_level(value, Level::Warn),
             ValueOption::Deny => self.take_level(value, Level::Deny),
@@ -275,6 +278,18 @@ impl<'a> Options<'a> {
             return Step::Stops(Stop::Wrong(UsageError::UnknownUnit(value)));
         };
         self.lint.columns = unit;
+        Step::Goes(Expected::Argument)
+    }
+
+    /// Takes when severities are coloured.
+    fn take_color(&mut self, value: &'a str) -> Step<'a>
+        ensures { step_view (options_view self.new) result
+            ≡ with_value (options_view self.old) value_option.Color value.now }
+    {
+        let Some(choice) = ColorChoice::of_word(value) else {
+            return Step::Stops(Stop::Wrong(UsageError::UnknownColor(value)));
+        };
+        self.lint.colors = choice.colors(self.lint.colors);
         Step::Goes(Expected::Argument)
     }
 

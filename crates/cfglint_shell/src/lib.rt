@@ -3,6 +3,7 @@
 
 mod answer;
 mod arguments;
+mod color_choice;
 mod file_kind;
 mod files;
 mod format;

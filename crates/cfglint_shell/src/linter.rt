@@ -22,6 +22,8 @@ pub struct LintOptions {
     pub format: Format,
     /// What the columns of the format `text` count.
     pub columns: ColumnUnit,
+    /// Whether severities are coloured. Only the format `text` has colours.
+    pub colors: bool,
     /// Whether the states of the parser are shown after the findings. Only the format `text` has them.
     pub shows_states: bool,
 }

@@ -39,6 +39,8 @@ usage: cfglint [OPTION..] [--] FILE..
                      Only text has a summary.
   --columns UNIT     What a column of text counts from 1: bytes, characters, the default, or display: columns of a
                      terminal, of which wide characters take two, and tabs those up to the next multiple of 8.
+  --color WHEN       Colours severities in text: always, never, or auto, the default: if standard output is a terminal,
+                     and the variable NO_COLOR is unset or empty.
   --states           Writes the states of the parser after the findings, for reading a conflict by hand. Only text has
                      them.
   --allow FINDING    Findings of this kind aren't reported.
@@ -93,6 +95,7 @@ pub(crate) enum ValueOption {
     DefaultKind,
     Format,
     Columns,
+    Color,
     Allow,
     Warn,
     Deny,
@@ -109,6 +112,7 @@ impl ValueOption {
             "--default-kind" => ValueOption::DefaultKind,
             "--format" => ValueOption::Format,
             "--columns" => ValueOption::Columns,
+            "--color" => ValueOption::Color,
             "--allow" => ValueOption::Allow,
             "--warn" => ValueOption::Warn,
             "--deny" => ValueOption::Deny,
@@ -127,6 +131,7 @@ impl ValueOption {
             ValueOption::DefaultKind => "--default-kind",
             ValueOption::Format => "--format",
             ValueOption::Columns => "--columns",
+            ValueOption::Color => "--color",
             ValueOption::Allow => "--allow",
             ValueOption::Warn => "--warn",
             ValueOption::Deny => "--deny",
@@ -148,6 +153,8 @@ pub(crate) enum UsageError<'a> {
     UnknownFormat(&'a str),
     /// This value of `--columns` names no unit.
     UnknownUnit(&'a str),
+    /// This value of `--color` doesn't say when severities are coloured.
+    UnknownColor(&'a str),
     /// This value of `--allow`, `--warn` or `--deny` names no kind of finding.
     UnknownFinding(&'a str),
     /// No value follows the option.
@@ -175,6 +182,9 @@ impl UsageError<'_> {
                 unknown(alloc, "format", format, format, &FORMATS)
             }
             UsageError::UnknownUnit(unit) => unknown(alloc, "unit", unit, unit, &UNITS),
+            UsageError::UnknownColor(color) => {
+                unknown(alloc, "color choice", color, color, &COLOR_CHOICES)
+            }
             UsageError::UnknownFinding(finding) => {
                 unknown(alloc, "finding", finding, finding, &FINDINGS)
             }
@@ -263,11 +273,12 @@ fn push_rest(text: &mut String, names: &[&str]) -> Result<(), AllocError>
 }
 
 /// The options.
-const OPTIONS: [&str; 13] = [
+const OPTIONS: [&str; 14] = [
     "--kind",
     "--default-kind",
     "--format",
     "--columns",
+    "--color",
     "--allow",
     "--warn",
     "--deny",
@@ -307,6 +318,9 @@ const FORMATS: [&str; 4] = ["text", "json", "github", "sarif"];
 
 /// The values of `--columns`.
 const UNITS: [&str; 3] = ["bytes", "characters", "display"];
+
+/// The values of `--color`.
+const COLOR_CHOICES: [&str; 3] = ["auto", "always", "never"];
 
 /// The values of `--allow`, `--warn` and `--deny`.
 const FINDINGS: [&str; 25] = [

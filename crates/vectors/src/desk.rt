@@ -21,6 +21,8 @@ pub(crate) struct Desk<'a, R> {
     pub(crate) rt: &'a R,
     pub(crate) words: &'a [Vec<u8>],
     pub(crate) input: Given<'a>,
+    /// The variable `NO_COLOR`, if it is set. No other is.
+    pub(crate) no_color: Option<&'a str>,
     pub(crate) output: RefCell<Narrow>,
     pub(crate) errors: RefCell<Narrow>,
     /// The names of the files that were requested, each after a space.
@@ -32,6 +34,17 @@ pub(crate) struct Desk<'a, R> {
 /// The error that a cell is in use, which doesn't occur here.
 fn in_use() -> io::Error {
     io::Error::from(io::ErrorKind::ResourceBusy)
+}
+
+/// Copies bytes to the start of a buffer.
+fn fill(buf: &mut [u8], bytes: &[u8]) -> Result<usize, FillError>
+    ensures { IfOk result (λ count. count ≤ length buf.new) }
+{
+    let Some(start) = buf.get_mut(..bytes.len()) else {
+        return Err(FillError::TooLong);
+    };
+    start.copy_from_slice(bytes);
+    Ok(bytes.len())
 }
 
 /// Writes some of the bytes to a writer in a cell.
@@ -100,15 +113,14 @@ impl<R> Env for Desk<'_, R> {
         let Some(word) = self.words.get(i) else {
             return Err(FillError::NotPresent);
         };
-        let Some(position) = buf.get_mut(..word.len()) else {
-            return Err(FillError::TooLong);
-        };
-        position.copy_from_slice(word);
-        Ok(word.len())
+        fill(buf, word)
     }
 
-    fn var(&self, _name: &str, _buf: &mut [u8]) -> Result<usize, FillError> {
-        Err(FillError::NotPresent)
+    fn var(&self, name: &str, buf: &mut [u8]) -> Result<usize, FillError> {
+        match self.no_color {
+            Some(value) if name == "NO_COLOR" => fill(buf, value.as_bytes()),
+            _ => Err(FillError::NotPresent),
+        }
     }
 
     fn var_at(&self, _i: usize, _buf: &mut [u8]) -> Result<usize, FillError> {

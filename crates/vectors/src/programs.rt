@@ -22,13 +22,15 @@ pub(crate) fn print<R: Files + AllocGlobal>(out: &mut Page, rt: &R, row: &Row<'_
         rt,
         words: words.as_slice(),
         input: input(row, text),
+        no_color: row.first("no-color"),
         output: RefCell::new(Narrow::of_row(out.alloc, row, "out")),
         errors: RefCell::new(Narrow::of_row(out.alloc, row, "err")),
         opened: RefCell::new(String::new(out.alloc)),
         readers: Cell::new(0),
     };
+    let is_terminal = row.first("terminal").is_some();
     let status = match row.tries {
-        "lint-program" => cfglint::run_over(&desk).status(),
+        "lint-program" => cfglint::run_over(&desk, is_terminal).status(),
         _ => cfgtool::run_over(&desk).status(),
     };
     if desk.is_selected(row, status) {

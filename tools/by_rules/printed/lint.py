@@ -41,6 +41,7 @@ class Run:
         self.rooms = {rest[0]: int(rest[1]) for keyword, rest in row.requests if keyword == 'room'}
         self.why = next((WHY[keyword] for keyword, rest in row.requests if keyword in WHY and rest[0] == 'out'), None)
         self.arguments = self.requests.get('words', '')
+        self.by_default = ['--color=always'] if 'terminal' in self.requests and not self.requests.get('no-color') else []
         self.opened, self.readers = '', 0
 
     def input(self, text):
@@ -53,7 +54,7 @@ class Run:
         if '\ufffd' in self.arguments:
             return '', 'cfglint: an argument is not UTF-8\n' + USAGE, 2
         fetch = self.fetch_file if self.row.type == 'lint-program' else self.fetch_next()
-        return ending(self.arguments.split(), fetch, room, why, lambda text: text in self.printed)
+        return ending(self.by_default + self.arguments.split(), fetch, room, why, lambda text: text in self.printed)
 
     def fetch_next(self):
         """The text of the row, then its names, whichever files are read; after them no file can be read."""

@@ -22,7 +22,7 @@ TEXT = ('text', 'then', 'times', 'file')
 SHOWN = ('all', 'brief', 'cuts', 'accessors', 'entries', 'kinds', 'digest', 'rendered', 'without-memory')
 REQUESTS = ('set', 'path', 'paths', 'names', 'start', 'cost', 'costs', 'sentences', 'least', 'choices', 'openings', 'opened',
             'refused', 'words', 'input', 'room', 'step', 'full', 'interrupts', 'no-space',
-            'over-quota', 'too-large', 'blocks', 'rooms', 'only', 'bytes')
+            'over-quota', 'too-large', 'blocks', 'terminal', 'no-color', 'rooms', 'only', 'bytes')
 KINDS = {
     'original-noaction': 'Original(NoAction)',
     'original-useraction': 'Original(UserAction)',

@@ -19,9 +19,9 @@ returns c =
     let noted : c.in_ok-reported.reported.items ≡ noted_bison_errors text names file.errors =
     c.in_ok-reported.ensures ∙ (λ i. noted_bison_errors text (names_are i) (c.errors.ensures i)) in
     let are : c.deref.result.now ≡ noted_bison_errors text names file.errors = c.deref.ensures.value ∙ noted in
-    IfOk-weaker c.report_errors.result (ReportsNoted options.format options.columns name text c.deref.result.now) (ReportsBisonErrors options name text file)
+    IfOk-weaker c.report_errors.result (ReportsNoted options.format options.columns options.colors name text c.deref.result.now) (ReportsBisonErrors options name text file)
     (λ reported made. (
-      subst (λ (all : List NotedError). AreErrorLines options.format options.columns name text all reported.lines) are made.0,
+      subst (λ (all : List NotedError). AreErrorLines options.format options.columns options.colors name text all reported.lines) are made.0,
       made.1 ∙ ap length are ∙ noted_bison_length text names file.errors,
       made.2,
     )) c.report_errors.ensures

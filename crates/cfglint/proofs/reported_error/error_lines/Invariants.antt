@@ -4,4 +4,4 @@ use Rattle.cfglint.proofs.reported_error.error_lines.Given as goal
 
 -- the lines for the errors so far
 abbrev pub invariant-loop-error : goal.invariant-loop-error
-invariant-loop-error l = string_bytes l.lines ≡ error_lines l.fn.unit l.name l.text (take l.error-index l.errors)
+invariant-loop-error l = string_bytes l.lines ≡ error_lines l.fn.unit l.fn.colors l.name l.text (take l.error-index l.errors)

@@ -12,7 +12,7 @@ returns c =
     let shown : List Reported = reported_by text c.args.self.now.options.levels all in
     let are : c.in_ok-reported.reported.items ≡ shown = c.in_ok-reported.ensures ∙ ap (reported_by text c.args.self.now.options.levels) c.deref.ensures.value in
     let found = c.in_ok-lines.lines in
-    let lines = subst (λ (all : List Reported). AreFindingLines c.args.self.now.options.format c.args.self.now.options.columns name text all (string_bytes found))
+    let lines = subst (λ (all : List Reported). AreFindingLines c.args.self.now.options.format c.args.self.now.options.columns c.args.self.now.options.colors name text all (string_bytes found))
     (c.deref-2.ensures.value ∙ are) c.in_ok-lines.ensures in
     let states = string_bytes c.in_ok-states.states in
     let joined = c.in_ok-push_str.ensures.bytes ∙ ap (λ l. string_bytes found ++ l) c.deref-3.ensures in

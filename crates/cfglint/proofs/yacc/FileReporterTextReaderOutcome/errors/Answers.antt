@@ -21,5 +21,5 @@ returns c =
     let noted : c.in_ok-reported.reported.items ≡ noted_errors text names shown = c.in_ok-reported.ensures ∙ (λ i. noted_errors text (names_are i) (shown_are i)) in
     let are : c.deref-2.result.now ≡ noted_errors text names shown = c.deref-2.ensures.value ∙ noted in
     let made = c.in_ok-report.ensures in
-    let lines = subst (λ (all : List NotedError). AreErrorLines options.format options.columns name text all c.in_ok-report.report.lines) are made.0 in
+    let lines = subst (λ (all : List NotedError). AreErrorLines options.format options.columns options.colors name text all c.in_ok-report.report.lines) are made.0 in
     ((lines, made.1 ∙ ap length are ∙ noted_length text names shown, made.2), refl)

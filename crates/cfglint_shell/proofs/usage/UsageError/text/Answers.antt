@@ -30,6 +30,11 @@ returns-in-UnknownUnit c =
     let said = ap (λ (error : UsageError). usage_error_text (usage_error_view error) ++ usage) c.in-UnknownUnit.is in
     rw said c.unknown-in-UnknownUnit.ensures
 
+pub returns-in-UnknownColor : goal.returns-in-UnknownColor
+returns-in-UnknownColor c =
+    let said = ap (λ (error : UsageError). usage_error_text (usage_error_view error) ++ usage) c.in-UnknownColor.is in
+    rw said c.unknown-in-UnknownColor.ensures
+
 pub returns-in-UnknownFinding : goal.returns-in-UnknownFinding
 returns-in-UnknownFinding c =
     let said = ap (λ (error : UsageError). usage_error_text (usage_error_view error) ++ usage) c.in-UnknownFinding.is in
