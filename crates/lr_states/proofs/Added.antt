@@ -1,11 +1,11 @@
 -- Lists that are added to others, one after another.
 use Rattle.std.proofs.Common.{◌≡◌, ◌==◌, ◌&&◌, Global, Vec, ◌⊎◌, inl, inr, ℕ, ◌+◌, ◌<◌, Bool, true, List, [], ◌∷◌, ◌++◌, get_or, if◌then◌else◌, Contains, Some, slice_get, length, map, refl, sym, ap, subst, ◌∙◌, arith, true≢false}
-use Rattle.std.specs.List.{IsDistinct, flat_map, list_any}
+use Rattle.std.specs.List.{IsDistinct, list_any}
 use Rattle.std.specs.Bool.{Decides}
 use Rattle.std.specs.Cmp.Lexicographic.{pointwise}
 use Rattle.std.proofs.lemmas.Bool.{cases_Bool, cases_eq, cases_lt}
 use Rattle.std.proofs.lemmas.Bool.Decides.{Decides-and, Decides-eqb, Decides-like}
-use Rattle.std.proofs.lemmas.List.{get_or-map, get_or_append_left, get_or_past, get_or_push, length-map, length_push, map_push}
+use Rattle.std.proofs.lemmas.List.{get_or-map, get_or_append_left, get_or_push, length-map, length_push, map_push}
 use Rattle.std.proofs.lemmas.List.Folds.{Any-from_list_any}
 use Rattle.std.proofs.lemmas.Map.Keys.{apart_from_distinct}
 use Rattle.std.proofs.lemmas.List.Elements.{Contains-append_left, Contains-push, Contains-push_cases}
@@ -15,9 +15,9 @@ use Rattle.cfgrammar.proofs.Contained.{contains_first, contains_later, contains_
 use Rattle.cfgrammar.proofs.Elements.{element_at}
 use Rattle.lr_states.specs.declared.Item.{Item}
 use Rattle.lr_states.specs.declared.kernels.Target.{Target}
-use Rattle.lr_states.specs.Inner.Kernels.{Adds, AreGoing, AreTargets, HasTargets, IsAmong, IsNumberOf, IsOne, IsSuccessor, IsTarget}
+use Rattle.lr_states.specs.Inner.Kernels.{Adds, AreGoing, AreTargets, IsAmong, IsOne, IsTarget}
 use Rattle.lr_states.specs.Automaton.{AreAscending}
-use Rattle.lr_states.specs.Inner.Closure.{step_of}
+use Rattle.lr_states.specs.Inner.Closure.{items_after}
 
 pub adds_none : (Found : List Item → Type 0) (lists : List (List Item)) → ((list : List Item) → Found list → ⊥) → Adds Found lists lists
 adds_none Found lists none = record {
@@ -50,22 +50,27 @@ adds_then Found Found' old mid new a b = record {
   ];
 }
 
--- one more list of a table
-pub among_none : (table : List (List Item)) (list : List Item) → IsAmong table 0 list → ⊥
-among_none table list h = let below = h.below in omega (arith, below)
+-- one more list, where there was none
+pub record IsExtended (lists lists' : ℕ → List Item) (n : ℕ) (list : List Item) : Type 0 where
+  pub none : lists n ≡ []
+  pub here : lists' n ≡ list
+  pub elsewhere : (node : ℕ) → (node ≡ n → ⊥) → lists' node ≡ lists node
 
-pub among_more : (table : List (List Item)) (n : ℕ) (old mid new : List (List Item)) → Adds (IsAmong table n) old mid → Adds (IsOne (get_or table n [])) mid new
-    → Adds (IsAmong table (n + 1)) old new
-among_more table n old mid new a b = adds_as (λ list. IsAmong table n list ⊎ IsOne (get_or table n []) list) (IsAmong table (n + 1)) old new
-    (λ list h. elim h [
-      | inl early ↦ record { node = early.node; below = let below = early.below in omega (arith, below); is = early.is; some = early.some }
-      | inr here ↦ record { node = n; below = omega arith; is = here.is; some = here.some }
+pub among_more : (lists lists' : ℕ → List Item) (n : ℕ) (list : List Item) → IsExtended lists lists' n list → (old mid new : List (List Item)) → Adds (IsAmong lists) old mid
+    → Adds (IsOne list) mid new → Adds (IsAmong lists') old new
+among_more lists lists' n list more old mid new a b = adds_as (λ other. IsAmong lists other ⊎ IsOne list other) (IsAmong lists') old new
+    (λ other h. elim h [
+      | inl early ↦
+          let some = early.some in
+          let apart : early.node ≡ n → ⊥ = λ same. omega (arith, some, ap (λ (l : List Item). length l) (early.is ∙ ap lists same ∙ more.none)) in
+          record { node = early.node; is = early.is ∙ sym (more.elsewhere early.node apart); some = some }
+      | inr here ↦ record { node = n; is = here.is ∙ sym more.here; some = here.some }
     ])
-    (λ list h. elim (cases_eq h.node n) [
-      | inl same ↦ inr (record { is = h.is ∙ ap (λ k. get_or table k []) same; some = h.some })
-      | inr apart ↦ inl (record { node = h.node; below = let below = h.below in omega (arith, below, apart); is = h.is; some = h.some })
+    (λ other h. elim (cases_eq h.node n) [
+      | inl same ↦ inr (record { is = h.is ∙ ap lists' same ∙ more.here; some = h.some })
+      | inr apart ↦ inl (record { node = h.node; is = h.is ∙ more.elsewhere h.node apart; some = h.some })
     ])
-    (adds_then (IsAmong table n) (IsOne (get_or table n [])) old mid new a b)
+    (adds_then (IsAmong lists) (IsOne list) old mid new a b)
 
 -- keys that show lists, and one more key, unless an equal one is there
 module _ {K : Type 0} (show : K → List Item) (same : K → K → Bool) (decides : (x y : K) → Decides (same x y) (show x ≡ show y)) (keys : List K) (key : K) where
@@ -115,24 +120,6 @@ items_Decide x y = Decides-like _
     (λ e. (ap (λ (z : Item). z.production) e, ap (λ (z : Item). z.read) e))
     (Decides-and _ _ (Decides-eqb x.production y.production) (Decides-eqb x.read y.read))
 
--- the lists of a table of steps are the successors
-pub successors_found : (g : Grammar) (items : List Item) (table : List (List Item)) → ((node : ℕ) → get_or table node [] ≡ flat_map (step_of g node) items) → (old new : List (List Item))
-    → Adds (IsAmong table (length table)) old new → Adds (IsSuccessor g items) old new
-successors_found g items table steps old new = adds_as (IsAmong table (length table)) (IsSuccessor g items) old new
-    (λ list h. record { node = h.node; is = h.is ∙ steps h.node; some = h.some })
-    (λ list h.
-    let is : list ≡ get_or table h.node [] = h.is ∙ sym (steps h.node) in
-    let some = h.some in
-    record {
-      node = h.node;
-      below = elim (cases_lt h.node (length table)) [
-        | inl within ↦ within
-        | inr past ↦ absurd (omega (arith, some, ap (λ (l : List Item). length l) (is ∙ get_or_past table h.node [] past)))
-      ];
-      is = is;
-      some = some;
-    })
-
 module _ {K : Type 0} (show : K → List Item) (same : K → K → Bool) (keys : List K) where
   -- the first key
   pub key_first : (key : K) → keys ≡ [] → (new : List K) → new ≡ (if list_any (same key) keys then keys else keys ++ key ∷ []) → map show new ≡ show key ∷ []
@@ -158,15 +145,11 @@ module _ {K : Type 0} (show : K → List Item) (same : K → K → Bool) (keys :
           ]
         ]
 
--- a key that was inserted has a number
-pub key_numbered : {K : Type 0} (show : K → List Item) (same : K → K → Bool) → ((x y : K) → Decides (same x y) (show x ≡ show y)) → (keys : List K) (key : K) (list : List Item)
-    → show key ≡ list → 0 < length list → (r : ℕ) → (k : K) × (slice_get keys r ≡ Some k) × (same key k ≡ true) → IsNumberOf (map show keys) list (Some r)
-key_numbered show same decides keys key list shows some r (k, read, equal) =
-    let within = slice_get_within keys r k read in (
-      subst (λ n. r < n) (sym (length-map keys show)) within,
-      get_or-map show keys r k [] within ∙ ap show (get_or_from_slice_get keys r k k read) ∙ sym ((decides key k).0 equal) ∙ shows,
-      some,
-    )
+-- the number of a key that was inserted
+pub key_numbered : {K : Type 0} (show : K → List Item) (same : K → K → Bool) → ((x y : K) → Decides (same x y) (show x ≡ show y)) → (keys : List K) (key : K) (r : ℕ)
+    → (k : K) × (slice_get keys r ≡ Some k) × (same key k ≡ true) → get_or (map show keys) r [] ≡ show key
+key_numbered show same decides keys key r (k, read, equal) =
+    get_or-map show keys r k [] (slice_get_within keys r k read) ∙ ap show (get_or_from_slice_get keys r k k read) ∙ sym ((decides key k).0 equal)
 
 -- targets stay what they are when more kernels are added
 target_kept : (lists : ℕ → List Item) (Found : List Item → Type 0) (old new : List (List Item)) → Adds Found old new → (t : Target) → IsTarget lists old t → IsTarget lists new t
@@ -187,63 +170,35 @@ ascending_push (first ∷ targets) target ascending below = (
   ascending_push targets target ascending.1 (λ other h. below other (contains_later first other targets h)),
 )
 
-module _ (lists : ℕ → List Item) where
-  pub targets_none : (kernels : List (List Item)) (targets : List Target) → targets ≡ [] → AreTargets lists 0 kernels targets
-  targets_none kernels targets none = record {
-    sound = λ t h. absurd (contains_none t (subst (λ l. Contains l t) none h));
-    all = λ node below some. absurd (omega (arith, below));
-    below = λ t h. absurd (contains_none t (subst (λ l. Contains l t) none h));
-    ascending = subst AreAscending (sym none) tt;
-  }
-
-  module _ (n : ℕ) (Found : List Item → Type 0) (old new : List (List Item)) (adds : Adds Found old new) (targets : List Target) (are : AreTargets lists n old targets) where
-    pub targets_skip : length (lists n) ≡ 0 → AreTargets lists (n + 1) new targets
-    targets_skip none = record {
-      sound = λ t h. target_kept lists Found old new adds t (are.sound t h);
-      all = λ node below some. elim (cases_eq node n) [
-        | inl same ↦ absurd (omega (arith, some, none, ap (λ m. length (lists m)) same))
-        | inr apart ↦ are.all node (omega (arith, below, apart)) some
-      ];
-      below = λ t h. let under = are.below t h in omega (arith, under);
-      ascending = are.ascending;
-    }
-
-    pub targets_more : (r : ℕ) → IsNumberOf new (lists n) (Some r) → (more : List Target) → more ≡ targets ++ (record { symbol = n; state = r }) ∷ [] → AreTargets lists (n + 1) new more
-    targets_more r (within, at, some) more is = subst (AreTargets lists (n + 1) new) (sym is) (record {
-      sound = λ t h. elim (Contains-push_cases targets target t h) [
-        | inl early ↦ target_kept lists Found old new adds t (are.sound t early)
-        | inr last ↦ subst (IsTarget lists new) last (record { within = within; is = at; some = some })
-      ];
-      all = λ node below filled. elim (cases_eq node n) [
-        | inl same ↦ (r, subst (λ m. Contains (targets ++ target ∷ []) (record { symbol = m; state = r })) (sym same) (Contains-push targets target))
-        | inr apart ↦ let (s, among) = are.all node (omega (arith, below, apart)) filled in (s, Contains-append_left targets (target ∷ []) (record { symbol = node; state = s }) among)
-      ];
-      below = λ t h. elim (Contains-push_cases targets target t h) [
-        | inl early ↦ let under = are.below t early in omega (arith, under)
-        | inr last ↦ subst (λ (u : Target). u.symbol < n + 1) last (omega arith)
-      ];
-      ascending = ascending_push targets target are.ascending are.below;
-    })
-      where
-        target : Target
-        target = record { symbol = n; state = r }
-
--- the targets for a table of steps are those of a state
-pub targets_found : (g : Grammar) (items : List Item) (table : List (List Item)) → ((node : ℕ) → get_or table node [] ≡ flat_map (step_of g node) items) → (kernels : List (List Item))
-    (targets : List Target) → AreTargets (λ node. get_or table node []) (length table) kernels targets → HasTargets g items kernels targets
-targets_found g items table steps kernels targets are = record {
-  sound = λ t h.
-      let is = are.sound t h in
-      record { within = is.within; is = is.is ∙ steps t.symbol; some = subst (λ l. 0 < length l) (steps t.symbol) is.some };
-  all = λ node some.
-      let filled : 0 < length (get_or table node []) = subst (λ l. 0 < length l) (sym (steps node)) some in
-      let below : node < length table = elim (cases_lt node (length table)) [
-        | inl within ↦ within
-        | inr past ↦ absurd (omega (arith, filled, ap (λ (l : List Item). length l) (get_or_past table node [] past)))
-      ] in
-      are.all node below filled;
-  ascending = are.ascending;
-}
+-- the target for one more list
+module _ (lists lists' : ℕ → List Item) (n : ℕ) (list : List Item) (extended : IsExtended lists lists' n list) (some : 0 < length list) where
+  pub targets_more : (Found : List Item → Type 0) (old new : List (List Item)) → Adds Found old new → (targets : List Target) → AreTargets lists old targets
+      → ((target : Target) → Contains targets target → target.symbol < n) → (r : ℕ) → r < length new → get_or new r [] ≡ list
+      → (more : List Target) → more ≡ targets ++ (record { symbol = n; state = r }) ∷ [] → AreTargets lists' new more
+  targets_more Found old new adds targets are below r within at more is = subst (AreTargets lists' new) (sym is) (record {
+    sound = λ t h. elim (Contains-push_cases targets target t h) [
+      | inl early ↦
+          let kept = target_kept lists Found old new adds t (are.sound t early) in
+          let under = below t early in
+          let same = extended.elsewhere t.symbol (λ e. omega (arith, under, e)) in
+          record { within = kept.within; is = kept.is ∙ sym same; some = subst (λ l. 0 < length l) (sym same) kept.some }
+      | inr last ↦ subst (IsTarget lists' new) last (record {
+        within = within;
+        is = at ∙ sym extended.here;
+        some = subst (λ l. 0 < length l) (sym extended.here) some;
+      })
+    ];
+    all = λ node filled. elim (cases_eq node n) [
+      | inl same ↦ (r, subst (λ m. Contains (targets ++ target ∷ []) (record { symbol = m; state = r })) (sym same) (Contains-push targets target))
+      | inr apart ↦
+          let (s, among) = are.all node (subst (λ l. 0 < length l) (extended.elsewhere node apart) filled) in
+          (s, Contains-append_left targets (target ∷ []) (record { symbol = node; state = s }) among)
+    ];
+    ascending = ascending_push targets target are.ascending below;
+  })
+    where
+      target : Target
+      target = record { symbol = n; state = r }
 
 -- one more state's targets
 module _ (g : Grammar) where
@@ -251,7 +206,7 @@ module _ (g : Grammar) where
   going_none kernels = record { count = refl; each = λ q within. absurd (omega (arith, within)) }
 
   pub going_more : (Found : List Item → Type 0) (kernels new states more : List (List Item)) (targets more_targets : List (List Target)) (items : List Item) (own : List Target) → AreGoing g kernels states targets
-      → Adds Found kernels new → HasTargets g items new own → more ≡ states ++ items ∷ [] → more_targets ≡ targets ++ own ∷ [] → AreGoing g new more more_targets
+      → Adds Found kernels new → AreTargets (items_after g items) new own → more ≡ states ++ items ∷ [] → more_targets ≡ targets ++ own ∷ [] → AreGoing g new more more_targets
   going_more Found kernels new states more targets more_targets items own are adds has is same = subst (λ l. AreGoing g new l more_targets) (sym is) (subst (AreGoing g new (states ++ items ∷ [])) (sym same) (record {
     count = length_push targets own ∙ ap (λ n. n + 1) are.count ∙ sym (length_push states items);
     each = λ q within. elim (cases_lt q (length states)) [
@@ -260,8 +215,8 @@ module _ (g : Grammar) where
           let count = are.count in
           let here : get_or (states ++ items ∷ []) q [] ≡ get_or states q [] = get_or_append_left states (items ∷ []) [] q early in
           let there : get_or (targets ++ own ∷ []) q [] ≡ get_or targets q [] = get_or_append_left targets (own ∷ []) [] q (omega (arith, early, count)) in
-          subst (λ l. HasTargets g l new (get_or (targets ++ own ∷ []) q [])) (sym here) (subst (HasTargets g (get_or states q []) new) (sym there) (record {
-            sound = λ t h. target_kept (λ node. flat_map (step_of g node) (get_or states q [])) Found kernels new adds t (before.sound t h);
+          subst (λ l. AreTargets (items_after g l) new (get_or (targets ++ own ∷ []) q [])) (sym here) (subst (AreTargets (items_after g (get_or states q [])) new) (sym there) (record {
+            sound = λ t h. target_kept (items_after g (get_or states q [])) Found kernels new adds t (before.sound t h);
             all = before.all;
             ascending = before.ascending;
           }))
@@ -271,6 +226,6 @@ module _ (g : Grammar) where
           let last : length states ≡ q = omega (arith, within, late, long) in
           let here : get_or (states ++ items ∷ []) q [] ≡ items = get_or_push states items [] q last in
           let there : get_or (targets ++ own ∷ []) q [] ≡ own = get_or_push targets own [] q (count ∙ last) in
-          subst (λ l. HasTargets g l new (get_or (targets ++ own ∷ []) q [])) (sym here) (subst (HasTargets g items new) (sym there) has)
+          subst (λ l. AreTargets (items_after g l) new (get_or (targets ++ own ∷ []) q [])) (sym here) (subst (AreTargets (items_after g items) new) (sym there) has)
     ];
   }))

@@ -1,6 +1,5 @@
 -- Kernels that were found and states that were visited: each viable prefix is that of a state once all kernels are visited.
 use Rattle.std.proofs.Common.{◌≡◌, ◌==◌, Option, None, Some, cond, true≢false, ◌↔◌, inl, inr, ℕ, ◌+◌, ◌-◌, ◌<◌, ◌≤◌, List, [], ◌∷◌, ◌++◌, Contains, get_or, length, append-nil, append_assoc, refl, sym, ap, subst, ◌∙◌, arith}
-use Rattle.std.specs.List.{flat_map}
 use Rattle.std.proofs.lemmas.Bool.{cases_Bool, cases_lt}
 use Rattle.std.proofs.lemmas.Bool.Decides.{Decides-eqb}
 use Rattle.std.proofs.lemmas.List.{get_or_append_left, get_or_push, length_push}
@@ -9,9 +8,9 @@ use Rattle.cfgrammar.specs.Grammar.{Grammar, IsGrammar, IsSymbolOf, Sym}
 use Rattle.cfgrammar.proofs.Contained.{contains_cases, contains_first, contains_later, contains_none}
 use Rattle.lr_states.specs.declared.Item.{Item}
 use Rattle.lr_states.specs.declared.kernels.Target.{Target}
-use Rattle.lr_states.specs.Inner.Closure.{AreAdvanced, IsClosure, IsKernelOf, node_of, step_of}
+use Rattle.lr_states.specs.Inner.Closure.{AreAdvanced, IsClosure, IsKernelOf, items_after, node_of}
 use Rattle.lr_states.specs.Viable.{AreStates, IsStateOf, IsValid, IsViable, item_at}
-use Rattle.lr_states.specs.Inner.Kernels.{Adds, AreGoing, IsSuccessor}
+use Rattle.lr_states.specs.Inner.Kernels.{Adds, AreGoing, IsAmong}
 use Rattle.lr_states.specs.Automaton.{AreGotos, HaveTargets, IsGoto, target_of}
 use Rattle.lr_states.proofs.Closed.{closure_sorted, closure_state, kernel_next, next_symbol, next_viable}
 use Rattle.lr_states.proofs.Order.{sorted_same}
@@ -61,7 +60,7 @@ module _ (g : Grammar) (Used : ℕ → Type 0) where
     pub upto : length states ≤ length kernels
     pub each : (q : ℕ) → q < length kernels → IsReached (get_or kernels q [])
     pub closures : (q : ℕ) → q < length states → IsClosure g Used (get_or kernels q []) (get_or states q [])
-    pub closed : (q : ℕ) → q < length states → (list : List Item) → IsSuccessor g (get_or states q []) list → (r : ℕ) × (r < length kernels) × (get_or kernels r [] ≡ list)
+    pub closed : (q : ℕ) → q < length states → (list : List Item) → IsAmong (items_after g (get_or states q [])) list → (r : ℕ) × (r < length kernels) × (get_or kernels r [] ≡ list)
 
   -- the empty prefix has no items with symbols read
   pub kernel_first : IsKernelOf g Used [] []
@@ -95,7 +94,7 @@ module _ (g : Grammar) (Used : ℕ → Type 0) where
 
   module _ (grammar : IsGrammar g) (kernels states : List (List Item)) (are : AreExplored kernels states) where
     -- the kernel of a state that comes after one is that of a viable prefix
-    successor_reached : (q : ℕ) → q < length kernels → (items list : List Item) → IsClosure g Used (get_or kernels q []) items → IsSuccessor g items list → IsReached list
+    successor_reached : (q : ℕ) → q < length kernels → (items list : List Item) → IsClosure g Used (get_or kernels q []) items → IsAmong (items_after g items) list → IsReached list
     successor_reached q within items list closure s =
         let reached = are.each q within in
         let state = closure_state g Used reached.prefix (get_or kernels q []) reached.is items closure in
@@ -107,7 +106,7 @@ module _ (g : Grammar) (Used : ℕ → Type 0) where
 
     -- one more state is visited
     pub explored_more : (items : List Item) (kernels' states' : List (List Item)) → length states < length kernels → IsClosure g Used (get_or kernels (length states) []) items
-        → Adds (IsSuccessor g items) kernels kernels' → states' ≡ states ++ items ∷ [] → AreExplored kernels' states'
+        → Adds (IsAmong (items_after g items)) kernels kernels' → states' ≡ states ++ items ∷ [] → AreExplored kernels' states'
     explored_more items kernels' states' room closure adds is = subst (AreExplored kernels') (sym is) (record {
       some = let longer = adds.longer in omega (arith, longer, room);
       first = adds.kept 0 are.some ∙ are.first;
@@ -125,9 +124,9 @@ module _ (g : Grammar) (Used : ℕ → Type 0) where
       ];
       closed = λ q within list h. elim (cases_lt q n) [
         | inl early ↦
-            let (r, below, same) = are.closed q early list (subst (λ l. IsSuccessor g l list) (old q early) h) in
+            let (r, below, same) = are.closed q early list (subst (λ l. IsAmong (items_after g l) list) (old q early) h) in
             (r, (let longer = adds.longer in omega (arith, longer, below)), adds.kept r below ∙ same)
-        | inr late ↦ adds.all list (subst (λ l. IsSuccessor g l list) (last q (omega (arith, within, late, long))) h)
+        | inr late ↦ adds.all list (subst (λ l. IsAmong (items_after g l) list) (last q (omega (arith, within, late, long))) h)
       ];
     })
       where
@@ -163,7 +162,7 @@ module _ (g : Grammar) (Used : ℕ → Type 0) where
           let inside : h.number < length states = omega (arith, below, done) in
           let items = get_or states h.number [] in
           let node = node_of g x in
-          let list = flat_map (step_of g node) items in
+          let list = items_after g items node in
           let advanced = steps_advanced g node items in
           let state = state_of prefix h in
           let sorted = closure_sorted g Used prefix (get_or kernels h.number []) h.kernel items (are.closures h.number inside) in
@@ -245,7 +244,7 @@ module _ (g : Grammar) (Used : ℕ → Type 0) where
               next = w.next;
               at = refl;
             }) in
-            let (r, has) = (going.each q within).all (node_of g x) (some_contained (flat_map (step_of g (node_of g x)) items) new among) in
+            let (r, has) = (going.each q within).all (node_of g x) (some_contained (items_after g items (node_of g x)) new among) in
             none r has
         goto_at q within x symbol (Some r) has =
             let target = (going.each q within).sound (record { symbol = node_of g x; state = r }) has in
@@ -253,7 +252,7 @@ module _ (g : Grammar) (Used : ℕ → Type 0) where
             let upto = are.upto in
             let inside : r < length states = omega (arith, there, done) in
             let items = get_or states q [] in
-            let list = flat_map (step_of g (node_of g x)) items in
+            let list = items_after g items (node_of g x) in
             let a = are.each q (omega (arith, within, upto)) in
             let sorted = closure_sorted g Used a.prefix (get_or kernels q []) a.is items (are.closures q within) in
             let (item, among) = contains_some list target.some in (
@@ -274,7 +273,7 @@ explored_targets g grammar kernels states targets are = record {
   count = are.count;
   symbols = λ q within target h.
       let items = get_or states q [] in
-      let (item, among) = contains_some (flat_map (step_of g target.symbol) items) ((are.each q within).sound target h).some in
+      let (item, among) = contains_some (items_after g items target.symbol) ((are.each q within).sound target h).some in
       let a = ((steps_advanced g target.symbol items).all item).0 among in
       (a.symbol, next_symbol g grammar (item_at item.production a.read) a.symbol a.next, a.at);
   ascending = λ q within. (are.each q within).ascending;

@@ -5,7 +5,9 @@ pub mod Closed
 pub mod Bits
 pub mod Rules
 pub mod Pushed
+pub mod ItemsBy
 pub mod Stepped
 pub mod Added
+pub mod Groups
 pub mod Explored
 pub mod Alike

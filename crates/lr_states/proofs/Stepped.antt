@@ -1,9 +1,9 @@
 -- Items after a symbol is read, one item after another.
-use Rattle.std.proofs.Common.{◌≡◌, ◌==◌, ◌⊎◌, inl, inr, ℕ, ◌+◌, ◌<◌, ◌≤◌, List, [], ◌∷◌, ◌++◌, Option, None, Some, cond, false, Contains, get_or, length, slice_get, slice_set, take, append-nil, refl, sym, ap, subst, ◌∙◌, arith}
+use Rattle.std.proofs.Common.{◌≡◌, ◌==◌, ◌⊎◌, inl, inr, ℕ, ◌+◌, ◌<◌, ◌≤◌, List, [], ◌∷◌, ◌++◌, Option, None, Some, cond, false, Contains, get_or, length, slice_get, take, append-nil, refl, sym, ap, subst, ◌∙◌, arith}
 use Rattle.std.specs.List.{flat_map}
-use Rattle.std.proofs.lemmas.Bool.{cases_Bool, cases_eq}
+use Rattle.std.proofs.lemmas.Bool.{cases_Bool, cases_eq, false_from_ne_true}
 use Rattle.std.proofs.lemmas.Bool.Decides.{Decides-eqb}
-use Rattle.std.proofs.lemmas.List.{flat_map_more, get_or-map, get_or-set_other, get_or-set_same, take_more}
+use Rattle.std.proofs.lemmas.List.{flat_map_more, get_or-map, take_more}
 use Rattle.std.proofs.lemmas.List.Elements.{Contains-append_cases, Contains-append_left, Contains-append_right}
 use Rattle.std.proofs.lemmas.Option.{get_or_from_slice_get, slice_get_within}
 use Rattle.cfgrammar.specs.Grammar.{Grammar, Production, Sym}
@@ -13,6 +13,9 @@ use Rattle.cfgrammar.proofs.Elements.{element_at}
 use Rattle.cfgrammar.specs.Openings.{nth_production}
 use Rattle.cfgrammar.proofs.Contained.{contains_cases, contains_first, contains_later, contains_none, contains_one}
 use Rattle.lr_states.specs.declared.Item.{Item}
+use Rattle.lr_states.specs.declared.successors.Step.{Step}
+use Rattle.lr_states.specs.Inner.Steps.{items_by}
+use Rattle.lr_states.proofs.ItemsBy.{items_by-append, items_by_all, items_by_none}
 use Rattle.lr_states.specs.Inner.Closure.{AreAdvanced, IsAdvanced, node_of, step_at, step_of}
 use Rattle.lr_states.specs.Viable.{AreSorted, HasNext, IsBefore, item_at}
 
@@ -108,29 +111,23 @@ module _ (g : Grammar) (node : ℕ) where
   pub steps_advanced : (items : List Item) → AreAdvanced g items node (flat_map (step_of g node) items)
   steps_advanced items = record { all = λ item. (advanced_by items item, by_advanced items item); sorted = steps_sorted items }
 
--- one item's step is pushed to a table
-module _ (g : Grammar) (item : Item) (old new : List (List Item)) where
-  pub step_pushed : (x : Sym) → HasNext g item x → (index : ℕ) → index ≡ node_of g x → index < length old
-      → new ≡ slice_set old index (get_or old index [] ++ item_at item.production (item.read + 1) ∷ []) → (node : ℕ) → get_or new node [] ≡ get_or old node [] ++ step_of g node item
-  step_pushed x next index is within put node = elim (cases_eq node index) [
-    | inl here ↦
-        ap (λ l. get_or l node []) put ∙ ap (λ n. get_or (slice_set old index pushed) n []) here ∙ get_or-set_same old index pushed [] within
-        ∙ ap (λ n. get_or old n [] ++ item_at item.production (item.read + 1) ∷ []) (sym here)
-        ∙ ap (λ l. get_or old node [] ++ l) (sym (step_here g node item x next (sym is ∙ sym here)))
-    | inr apart ↦
-        ap (λ l. get_or l node []) put ∙ get_or-set_other old index node pushed [] apart ∙ sym (append-nil (get_or old node []))
-        ∙ ap (λ l. get_or old node [] ++ l) (sym (elim (cases_Bool (node_of g x == node)) [
-          | inl on ↦ absurd (apart (sym ((Decides-eqb (node_of g x) node).0 on) ∙ sym is))
-          | inr off ↦ step_elsewhere g node item x next off
-        ]))
-  ]
-    where
-      pushed : List Item
-      pushed = get_or old index [] ++ item_at item.production (item.read + 1) ∷ []
+-- one item's step is pushed to others
+module _ (g : Grammar) (item : Item) (old new : List Step) where
+  pub step_pushed : (x : Sym) → HasNext g item x → (symbol : ℕ) → symbol ≡ node_of g x
+      → new ≡ old ++ (record { symbol = symbol; item = item_at item.production (item.read + 1) }) ∷ [] → (node : ℕ) → items_by new node ≡ items_by old node ++ step_of g node item
+  step_pushed x next symbol is put node =
+      let pushed : List Step = (record { symbol = symbol; item = item_at item.production (item.read + 1) }) ∷ [] in
+      let one : items_by pushed node ≡ step_of g node item = elim (cases_eq symbol node) [
+        | inl same ↦ items_by_all pushed node (λ s h. ap (λ (z : Step). z.symbol) (sym (contains_one _ s h)) ∙ same) ∙ sym (step_here g node item x next (sym is ∙ same))
+        | inr apart ↦
+            items_by_none pushed node (λ s h e. apart (ap (λ (z : Step). z.symbol) (contains_one _ s h) ∙ e))
+            ∙ sym (step_elsewhere g node item x next (false_from_ne_true _ (λ on. apart (is ∙ (Decides-eqb (node_of g x) node).0 on))))
+      ] in
+      ap (λ l. items_by l node) put ∙ items_by-append old pushed node ∙ ap (λ l. items_by old node ++ l) one
 
-  pub step_skipped : slice_get (nth_production g item.production).symbols item.read ≡ None → new ≡ old → (node : ℕ) → get_or new node [] ≡ get_or old node [] ++ step_of g node item
+  pub step_skipped : slice_get (nth_production g item.production).symbols item.read ≡ None → new ≡ old → (node : ℕ) → items_by new node ≡ items_by old node ++ step_of g node item
   step_skipped none same node =
-      ap (λ l. get_or l node []) same ∙ sym (append-nil (get_or old node [])) ∙ ap (λ l. get_or old node [] ++ l) (sym (ap (step_at g node item) none))
+      ap (λ l. items_by l node) same ∙ sym (append-nil (items_by old node)) ∙ ap (λ l. items_by old node ++ l) (sym (ap (step_at g node item) none))
 
 pub steps_more : {A B : Type 0} (f : A → List B) (xs : List A) (i : ℕ) (x : A) → i < length xs → x ≡ get_or xs i x → flat_map f (take i xs) ++ f x ≡ flat_map f (take (i + 1) xs)
 steps_more f xs i x within is =

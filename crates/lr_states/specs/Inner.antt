@@ -1,3 +1,4 @@
 -- Definitions for the crate's private clauses. No public call depends on them.
 pub mod Closure
+pub mod Steps
 pub mod Kernels

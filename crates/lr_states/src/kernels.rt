@@ -1,18 +1,18 @@
 //! Kernels, each of which has a number: the items of a state that have symbols read.
 
-ghost use Rattle.std.specs.Prelude.{◌≡◌, ◌↔◌, ◌<◌, ℕ, [], Contains, IfOk, OnOk, get_or, length, map};
+ghost use Rattle.std.specs.Prelude.{◌≡◌, ◌<◌, ℕ, [], Contains, IfOk, MatchOption, OnOk, get_or, length, map};
+ghost use Rattle.std.specs.List.Sorted.{IsNonDecreasingBy};
 ghost use Rattle.cfgrammar.specs.Numbered.{core};
-ghost use Rattle.lr_states.specs.Inner.Closure.{IsClosure, IsOn};
-ghost use Rattle.lr_states.specs.Inner.Kernels.{Adds, AreTargets, HasTargets, IsAmong, IsNumberOf, IsOne};
+ghost use Rattle.lr_states.specs.Inner.Closure.{IsClosure, IsOn, items_after};
+ghost use Rattle.lr_states.specs.Inner.Kernels.{Adds, AreTargets, IsAmong, IsOne};
+ghost use Rattle.lr_states.specs.Inner.Steps.{IsFirstGroup, items_by, items_of};
 ghost use Rattle.lr_states.specs.Automaton.{AreGotos, HaveTargets};
-ghost use Rattle.lr_states.specs.Inner.Kernels.{IsSuccessor};
 ghost use Rattle.lr_states.specs.Viable.{AreStates, IsViable};
 ghost use Rattle.lr_states.specs.declared.Item.{Item};
 
 use crate::Item;
 use crate::closure::Used;
-use crate::successors::successors;
-use cfgindex::ListTable;
+use crate::successors::{Step, successors};
 use indexmap::IndexSet;
 use std::alloc::{AllocError, Global};
 
@@ -83,50 +83,65 @@ fn visit(
         → item.production < length used.now.grammar.now.productions }
     ensures closure { IfOk result (λ v. IsClosure (core used.now.grammar.now) (IsOn used.now.bits)
         (get_or (map (λ key. key.items) kernels.old.keys) number []) v.items.items) }
-    ensures adds { IfOk result (λ v. Adds (IsSuccessor (core used.now.grammar.now) v.items.items)
+    ensures adds { IfOk result (λ v. Adds (IsAmong (items_after (core used.now.grammar.now) v.items.items))
         (map (λ key. key.items) kernels.old.keys) (map (λ key. key.items) kernels.new.keys)) }
-    ensures targets { IfOk result (λ v. HasTargets (core used.now.grammar.now) v.items.items
+    ensures targets { IfOk result (λ v. AreTargets (items_after (core used.now.grammar.now) v.items.items)
         (map (λ key. key.items) kernels.new.keys) v.targets.items) }
 {
     let items = used.closure(alloc, &kernels.as_slice()[number])?;
-    let table = successors(alloc, used.grammar, &items)?;
-    let targets = add_kernels(alloc, kernels, &table)?;
+    let steps = successors(alloc, used.grammar, &items)?;
+    let targets = add_kernels(alloc, kernels, &steps)?;
     Ok(Visited { items, targets })
 }
 
-/// Adds the lists of the table that aren't empty, and returns their numbers.
+/// Adds the items of the steps by each symbol as a kernel, and returns the numbers of these kernels.
 fn add_kernels(
     alloc: Global,
     kernels: &mut Kernels,
-    table: &ListTable<Item>,
+    steps: &[Step],
 ) -> Result<Vec<Target>, AllocError>
-    ensures adds { OnOk result (Adds (IsAmong table.now (length table.now))
+    requires { IsNonDecreasingBy (λ step. step.symbol) steps.now }
+    ensures adds { OnOk result (Adds (IsAmong (items_by steps.now))
         (map (λ key. key.items) kernels.old.keys) (map (λ key. key.items) kernels.new.keys)) }
-    ensures targets { IfOk result (λ targets. AreTargets (λ node. get_or table.now node []) (length table.now)
+    ensures targets { IfOk result (λ targets. AreTargets (items_by steps.now)
         (map (λ key. key.items) kernels.new.keys) targets.items) }
 {
     let mut targets = Vec::new(alloc);
-    for symbol in 0..table.len() {
-        if let Some(state) = add_kernel(alloc, kernels, table.of(symbol))? {
-            targets.push(Target { symbol, state })?;
-        }
+    let mut rest = steps;
+    while let Some((symbol, group, others)) = first_group(rest) {
+        let state = add_kernel(kernels, kernel_of(alloc, group)?)?;
+        targets.push(Target { symbol, state })?;
+        rest = others;
     }
     Ok(targets)
 }
 
-/// Adds the items as a kernel, if there are any, and returns its number.
-fn add_kernel(
-    alloc: Global,
-    kernels: &mut Kernels,
-    kernel: &[Item],
-) -> Result<Option<usize>, AllocError>
-    ensures adds { OnOk result (Adds (IsOne kernel.now)
-        (map (λ key. key.items) kernels.old.keys) (map (λ key. key.items) kernels.new.keys)) }
-    ensures number { IfOk result (IsNumberOf (map (λ key. key.items) kernels.new.keys) kernel.now) }
+/// The symbol of the first step, the steps by it, and the others.
+fn first_group(steps: &[Step]) -> Option<(usize, &[Step], &[Step])>
+    requires { IsNonDecreasingBy (λ step. step.symbol) steps.now }
+    ensures { MatchOption result (length steps.now ≡ 0)
+        (λ first. IsFirstGroup steps.now first.0 first.1.now first.2.now) }
 {
-    if kernel.is_empty() {
-        return Ok(None);
-    }
-    let (number, _) = kernels.insert_full(kernel.to_vec(alloc)?)?;
-    Ok(Some(number))
+    let symbol = steps.first()?.symbol;
+    let (group, others) = steps.split_at(steps.partition_point(|step| step.symbol <= symbol));
+    Some((symbol, group, others))
+}
+
+/// The items of the steps.
+fn kernel_of(alloc: Global, steps: &[Step]) -> Result<Vec<Item>, AllocError>
+    ensures { IfOk result (λ kernel. kernel.items ≡ items_of steps.now) }
+{
+    steps.iter().map(|step| step.item).collect(alloc)
+}
+
+/// Adds the kernel, which has items, and returns its number.
+fn add_kernel(kernels: &mut Kernels, kernel: Vec<Item>) -> Result<usize, AllocError>
+    requires { 0 < length kernel.items }
+    ensures adds { OnOk result (Adds (IsOne kernel.items)
+        (map (λ key. key.items) kernels.old.keys) (map (λ key. key.items) kernels.new.keys)) }
+    ensures number { IfOk result (λ number. number < length kernels.new.keys) }
+    ensures is { IfOk result (λ number. get_or (map (λ key. key.items) kernels.new.keys) number [] ≡ kernel.items) }
+{
+    let (number, _) = kernels.insert_full(kernel)?;
+    Ok(number)
 }

@@ -1,5 +1,6 @@
 -- How items lead to items: productions that are entered, and symbols that are read.
 use Rattle.std.specs.Prelude.{◌≡◌, ◌==◌, ◌↔◌, ◌⊎◌, ◌<◌, ◌+◌, ℕ, Bool, cond, false, List, [], ◌∷◌, Option, None, Some, Contains, IsTrue, slice_get, slice_index_or}
+use Rattle.std.specs.List.{flat_map}
 use Rattle.search.specs.Reachable.{Reachable}
 use Rattle.cfgrammar.specs.Grammar.{Grammar, Sym, Rule}
 use Rattle.cfgrammar.specs.Openings.{nth_production}
@@ -62,6 +63,10 @@ step_at g node item (Some symbol) = cond (node_of g symbol == node) (item_at ite
 
 abbrev pub step_of : Grammar → ℕ → Item → List Item
 step_of g node item = step_at g node item (slice_get (nth_production g item.production).symbols item.read)
+
+-- the items after the symbol of this number is read
+abbrev pub items_after : Grammar → List Item → ℕ → List Item
+items_after g items node = flat_map (step_of g node) items
 
 -- the item is one of the items, after its next symbol, of this number, is read
 pub record IsAdvanced (g : Grammar) (items : List Item) (node : ℕ) (item : Item) : Type 0 where

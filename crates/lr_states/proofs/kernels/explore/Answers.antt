@@ -5,8 +5,8 @@ use Rattle.cfgrammar.specs.Numbered.{core}
 use Rattle.lr_states.specs.declared.Item.{Item}
 use Rattle.lr_states.specs.declared.kernels.Target.{Target}
 use Rattle.lr_states.specs.declared.kernels.Visited.{Visited}
-use Rattle.lr_states.specs.Inner.Kernels.{AreGoing, IsSuccessor}
-use Rattle.lr_states.specs.Inner.Closure.{IsClosure, IsOn}
+use Rattle.lr_states.specs.Inner.Kernels.{AreGoing, IsAmong}
+use Rattle.lr_states.specs.Inner.Closure.{IsClosure, IsOn, items_after}
 use Rattle.lr_states.proofs.Added.{going_more, going_none, items_Decide, key_first, keys_apart, same_keys}
 use Rattle.lr_states.proofs.Explored.{AreExplored, explored_first, explored_gotos, explored_more, explored_states, explored_targets}
 use Rattle.lr_states.proofs.kernels.explore.Goals as goal
@@ -51,7 +51,7 @@ loop-number-preserved c =
           (map shown c.push.new.self.items) room
           (subst (λ n. IsClosure g used (get_or kernels n []) items) here c.in_ok-visit.ensures.closure) c.in_ok-visit.ensures.adds
           (ap (map shown) c.in_ok-push.ensures.items ∙ map_push shown c.loop-number.states.items c.in_ok-visit.field-0);
-      going = going_more g (IsSuccessor g items) kernels new states (map shown c.push.new.self.items) (map led c.loop-number.states.items) (map led c.push.new.self.items)
+      going = going_more g (IsAmong (items_after g items)) kernels new states (map shown c.push.new.self.items) (map led c.loop-number.states.items) (map led c.push.new.self.items)
           items c.in_ok-visit.field-0.targets.items c.loop-number.invariant.going c.in_ok-visit.ensures.adds c.in_ok-visit.ensures.targets
           (ap (map shown) c.in_ok-push.ensures.items ∙ map_push shown c.loop-number.states.items c.in_ok-visit.field-0)
           (ap (map led) c.in_ok-push.ensures.items ∙ map_push led c.loop-number.states.items c.in_ok-visit.field-0);

@@ -1,10 +1,10 @@
-use Rattle.std.proofs.Common.{◌≡◌, [], Global, Vec, Contains, ap, get_or, length, map, subst, sym, ◌∙◌}
-use Rattle.std.specs.List.{flat_map}
+use Rattle.std.proofs.Common.{◌≡◌, ℕ, [], Global, List, Vec, Contains, ap, get_or, length, map, subst, sym, ◌∙◌}
 use Rattle.std.proofs.lemmas.List.{get_or-map}
 use Rattle.cfgrammar.specs.Numbered.{core}
 use Rattle.lr_states.specs.declared.Item.{Item}
-use Rattle.lr_states.specs.Inner.Closure.{IsClosure, IsOn, step_of}
-use Rattle.lr_states.proofs.Added.{successors_found, targets_found}
+use Rattle.lr_states.specs.Inner.Closure.{IsClosure, IsOn, items_after}
+use Rattle.lr_states.specs.Inner.Kernels.{Adds, AreTargets, IsAmong}
+use Rattle.lr_states.specs.Inner.Steps.{items_by}
 use Rattle.lr_states.proofs.Closed.{closure_within}
 use Rattle.lr_states.proofs.kernels.visit.Goals as goal
 
@@ -40,10 +40,12 @@ returns c =
     let at : key ≡ get_or keys n key = c.index-as_slice-number.is ∙ ap (λ l. get_or l n key) c.as_slice.ensures.keys in
     let same : c.deref.result.now ≡ get_or (map (λ (v : Vec Item Global). v.items) keys) n [] =
     c.deref.ensures.value ∙ ap (λ (v : Vec Item Global). v.items) at ∙ sym (get_or-map (λ (v : Vec Item Global). v.items) keys n key [] c.requires.number) in
+    let old = map (λ (v : Vec Item Global). v.items) keys in
+    let new = map (λ (v : Vec Item Global). v.items) c.add_kernels.new.kernels.keys in
+    let lists : items_by c.deref-3.result.now ≡ items_after g items =
+    λ i. λ node. (ap (λ l. items_by l node) c.deref-3.ensures.value ∙ c.in_ok-steps.ensures.steps node ∙ ap (λ l. items_after g l node) c.deref-2.ensures.value) i in
     record {
       closure = subst (λ l. IsClosure g (IsOn c.args.used.now.bits) l items) same c.in_ok-items.ensures;
-      adds = successors_found g items c.in_ok-table.table (λ node. c.in_ok-table.ensures.steps node ∙ ap (flat_map (step_of g node)) c.deref-2.ensures.value) _ _
-          c.in_ok-targets.ensures.adds;
-      targets = targets_found g items c.in_ok-table.table (λ node. c.in_ok-table.ensures.steps node ∙ ap (flat_map (step_of g node)) c.deref-2.ensures.value) _ _
-          c.in_ok-targets.ensures.targets;
+      adds = subst (λ (l : ℕ → List Item). Adds (IsAmong l) old new) lists c.in_ok-targets.ensures.adds;
+      targets = subst (λ (l : ℕ → List Item). AreTargets l new c.in_ok-targets.targets.items) lists c.in_ok-targets.ensures.targets;
     }
