@@ -4,7 +4,7 @@ pub mod Targets
 pub mod Closed
 pub mod Bits
 pub mod Rules
-pub mod Pushed
+pub mod Entered
 pub mod ItemsBy
 pub mod Stepped
 pub mod Added

@@ -1,20 +1,23 @@
 //! The items of a state by those with symbols read.
 
-ghost use Rattle.std.specs.Prelude.{◌≡◌, ◌↔◌, ◌<◌, ℕ, [], Contains, IfOk, IsTrue, OnOk, false, length};
+ghost use Rattle.std.specs.Prelude.{◌≡◌, ◌↔◌, ◌<◌, ◌++◌, ℕ, [], Contains, IfOk, IsTrue, OnOk, false, length, map};
+ghost use Rattle.std.specs.BTreeSet.{IsOrdered};
+ghost use Rattle.std.specs.Ordering.{nat_cmp};
 ghost use Rattle.cfgrammar.specs.Grammar.{Rule};
 ghost use Rattle.cfgrammar.specs.Numbered.{core};
 ghost use Rattle.cfgrammar.specs.Openings.{nth_production};
-ghost use Rattle.search.specs.Reachable.{IsReachableIn, Reachable, Reaches};
-ghost use Rattle.lr_states.specs.Inner.Closure.{ArePushed, Begins, Enters, IsClosure, IsOn, IsSeed};
-ghost use Rattle.lr_states.specs.Viable.{HasNext, IsViable};
+ghost use Rattle.search.specs.Reachable.{Reaches};
+ghost use Rattle.lr_states.specs.Inner.Closure.{AddsTo, Begins, Enters, IsClosure, IsEntered, IsIn, IsOn, IsSeed};
+ghost use Rattle.lr_states.specs.Viable.{HasNext, IsViable, item_at};
 ghost use Rattle.lr_states.specs.declared.Item.{Item};
 
 use crate::Item;
-use crate::tables::{next_symbol, productions_of, rule_of};
+use crate::tables::{next_symbol, productions_of};
 use cfgrammar::yacc::YaccGrammar;
 use cfgrammar::{Symbol, Vob};
-use search::{Bits, Edges, Search};
+use search::Search;
 use std::alloc::{AllocError, Global};
+use std::collections::BTreeSet;
 
 /// A grammar, and a bit for each production, which says whether it is used.
 #[derive(Drop)]
@@ -24,16 +27,24 @@ pub(crate) struct Used<'a> {
 }
 
 impl<'a> Used<'a> {
-    /// Reaches the rule that a used production begins with, if it does.
-    fn reach_begun(&self, search: &mut Search, production: usize) -> Result<(), AllocError>
+    /// Adds a production if it is used, and reaches the rule that it begins with.
+    fn enter(
+        &self,
+        search: &mut Search,
+        entered: &mut BTreeSet<usize>,
+        production: usize,
+    ) -> Result<(), AllocError>
         requires within { production < length self.now.grammar.now.productions }
         requires nodes { length search.old.reachable ≡ length self.now.grammar.now.rules }
-        ensures { OnOk result (Reaches (Begins (core self.now.grammar.now) (IsOn self.now.bits) production)
+        ensures reaches { OnOk result (Reaches (Begins (core self.now.grammar.now) (IsOn self.now.bits) production)
             search.old search.new) }
+        ensures adds { OnOk result (AddsTo (λ p. (p ≡ production) × IsOn self.now.bits p)
+            entered.old entered.new) }
     {
         if !self.bits.get(production).unwrap_or(false) {
             return Ok(());
         }
+        entered.insert(production)?;
         let item = Item {
             production,
             read: 0,
@@ -41,28 +52,42 @@ impl<'a> Used<'a> {
         reach_next(self.grammar, search, item)
     }
 
-    /// A search that has reached the rules of the productions that belong to a state with these items.
-    fn entered(&self, alloc: Global, kernel: &[Item]) -> Result<Search, AllocError>
-        requires { (item : Item) → Contains kernel.now item
-            → item.production < length self.now.grammar.now.productions }
-        ensures { IfOk result (λ search. (r : ℕ) → IsReachableIn search r
-            ↔ Reachable (IsSeed (core self.now.grammar.now) kernel.now)
-            (Enters (core self.now.grammar.now) (IsOn self.now.bits)) r) }
+    /// Adds the used productions of a rule, and reaches the rules that they begin with.
+    fn enter_rule(
+        &self,
+        search: &mut Search,
+        entered: &mut BTreeSet<usize>,
+        rule: usize,
+    ) -> Result<(), AllocError>
+        requires used { (p : ℕ) → IsOn self.now.bits p → p < length self.now.grammar.now.productions }
+        requires rule { rule < length self.now.grammar.now.rules }
+        requires nodes { length search.old.reachable ≡ length self.now.grammar.now.rules }
+        ensures reaches { OnOk result (Reaches (Enters (core self.now.grammar.now) (IsOn self.now.bits) rule)
+            search.old search.new) }
+        ensures adds { OnOk result (AddsTo (λ p. ((nth_production (core self.now.grammar.now) p).rule ≡ rule)
+            × IsOn self.now.bits p) entered.old entered.new) }
     {
-        let mut search = Search::through(alloc, usize::from(self.grammar.rules_len()))?;
-        reach_seeds(self.grammar, &mut search, kernel)?;
-        search.go_on(self)?;
-        Ok(search)
+        for production in productions_of(self.grammar, rule) {
+            self.enter(search, entered, usize::from(*production))?;
+        }
+        Ok(())
     }
 
-    /// Whether the production is used and its rule was reached.
-    fn is_entered(&self, search: &Search, production: usize) -> bool
-        requires { production < length self.now.grammar.now.productions }
-        ensures { IsTrue result ↔ (IsOn self.now.bits production
-            × IsReachableIn search.now (nth_production (core self.now.grammar.now) production).rule) }
+    /// The used productions that a state with these items has with nothing read.
+    fn entered(&self, alloc: Global, kernel: &[Item]) -> Result<BTreeSet<usize>, AllocError>
+        requires used { (p : ℕ) → IsOn self.now.bits p → p < length self.now.grammar.now.productions }
+        requires within { (item : Item) → Contains kernel.now item
+            → item.production < length self.now.grammar.now.productions }
+        ensures { IfOk result (λ entered. (p : ℕ) → IsIn entered p
+            ↔ IsEntered (core self.now.grammar.now) (IsOn self.now.bits) kernel.now (item_at p 0)) }
     {
-        self.bits.get(production).unwrap_or(false)
-            && search.is_reachable(rule_of(self.grammar, production))
+        let mut entered = BTreeSet::new(alloc);
+        let mut search = Search::through(alloc, usize::from(self.grammar.rules_len()))?;
+        reach_seeds(self.grammar, &mut search, kernel)?;
+        while let Some(rule) = search.next() {
+            self.enter_rule(&mut search, &mut entered, rule)?;
+        }
+        Ok(entered)
     }
 
     /// All items of a state, by those that have symbols read. Those come first, and then used productions in order.
@@ -74,10 +99,10 @@ impl<'a> Used<'a> {
             kernel.now items.items) }
     {
         let mut items = kernel.to_vec(alloc)?;
-        // Most states have none, and a search through all rules would be long.
+        // Most states have none, and a search has a bit for each rule.
         if has_seed(self.grammar, kernel) {
-            let search = self.entered(alloc, kernel)?;
-            self.push_entered(&search, &mut items)?;
+            let entered = self.entered(alloc, kernel)?;
+            push_unread(&entered, &mut items)?;
         }
         Ok(items)
     }
@@ -91,40 +116,20 @@ impl<'a> Used<'a> {
         let none = Vec::new(alloc);
         Ok(!self.closure(alloc, &none)?.is_empty())
     }
-
-    /// Pushes the used productions whose rules were reached, in order, with nothing read.
-    fn push_entered(&self, search: &Search, items: &mut Vec<Item>) -> Result<(), AllocError>
-        ensures { OnOk result (ArePushed (core self.now.grammar.now) (IsOn self.now.bits) (IsReachableIn search.now)
-            items.old.items (length self.now.grammar.now.productions) items.new.items) }
-    {
-        for production in 0..usize::from(self.grammar.prods_len()) {
-            if self.is_entered(search, production) {
-                items.push(Item {
-                    production,
-                    read: 0,
-                })?;
-            }
-        }
-        Ok(())
-    }
 }
 
-// A rule leads to the rules that its used productions begin with.
-impl<'a> Edges<Bits> for Used<'a> {
-    ghost use Rattle.std.specs.Prelude.{length};
-    ghost use Rattle.cfgrammar.specs.Numbered.{core};
-    ghost use Rattle.lr_states.specs.Inner.Closure.{Enters, IsOn};
-
-    ghost nodes = { λ x. length x.grammar.now.rules };
-
-    ghost leads = { λ x. Enters (core x.grammar.now) (IsOn x.bits) };
-
-    fn reach_from(&self, node: usize, search: &mut Search) -> Result<(), AllocError> {
-        for production in productions_of(self.grammar, node) {
-            self.reach_begun(search, usize::from(*production))?;
-        }
-        Ok(())
-    }
+/// Pushes the productions in ascending order, with nothing read.
+fn push_unread(productions: &BTreeSet<usize>, items: &mut Vec<Item>) -> Result<(), AllocError>
+    ensures items { OnOk result (items.new.items
+        ≡ items.old.items ++ map (λ p. item_at p 0) productions.now.keys) }
+    ensures ascending { OnOk result (IsOrdered nat_cmp productions.now) }
+{
+    items.extend(
+        productions.iter().map(|production| Item {
+            production: *production,
+            read: 0,
+        }),
+    )
 }
 
 /// Reaches the rule that is the item's next symbol, if that is one.

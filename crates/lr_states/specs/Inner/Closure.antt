@@ -1,6 +1,8 @@
 -- How items lead to items: productions that are entered, and symbols that are read.
 use Rattle.std.specs.Prelude.{◌≡◌, ◌==◌, ◌↔◌, ◌⊎◌, ◌<◌, ◌+◌, ℕ, Bool, cond, false, List, [], ◌∷◌, Option, None, Some, Contains, IsTrue, slice_get, slice_index_or}
+use Rattle.std.specs.BTreeSet.{BTreeSet, contains}
 use Rattle.std.specs.List.{flat_map}
+use Rattle.std.specs.Ordering.{nat_cmp}
 use Rattle.search.specs.Reachable.{Reachable}
 use Rattle.cfgrammar.specs.Grammar.{Grammar, Sym, Rule}
 use Rattle.cfgrammar.specs.Openings.{nth_production}
@@ -40,17 +42,13 @@ pub record IsClosure (g : Grammar) (Used : ℕ → Type 0) (kernel items : List 
   pub all : (item : Item) → Contains items item ↔ (Contains kernel item ⊎ IsEntered g Used kernel item)
   pub sorted : AreSorted kernel → ((item : Item) → Contains kernel item → 0 < item.read) → AreSorted items
 
--- a production before this one of which nothing is read, which is used and whose rule is reached
-pub record IsPushed (g : Grammar) (Used Reached : ℕ → Type 0) (i : ℕ) (item : Item) : Type 0 where
-  pub unread : item.read ≡ 0
-  pub below : item.production < i
-  pub used : Used item.production
-  pub reached : Reached (nth_production g item.production).rule
+-- the set has the number
+abbrev pub IsIn : BTreeSet ℕ → ℕ → Type 0
+IsIn set n = IsTrue (contains nat_cmp set n)
 
--- such productions come after the items with symbols read
-pub record ArePushed (g : Grammar) (Used Reached : ℕ → Type 0) (kernel : List Item) (i : ℕ) (items : List Item) : Type 0 where
-  pub all : (item : Item) → Contains items item ↔ (Contains kernel item ⊎ IsPushed g Used Reached i item)
-  pub sorted : AreSorted kernel → ((item : Item) → Contains kernel item → 0 < item.read) → AreSorted items
+-- the numbers that were found are in the set, and no others beside those from before
+abbrev pub AddsTo : (ℕ → Type 0) → BTreeSet ℕ → BTreeSet ℕ → Type 0
+AddsTo Found old new = (n : ℕ) → IsIn new n ↔ (IsIn old n ⊎ Found n)
 
 -- the number of a symbol
 abbrev pub node_of : Grammar → Sym → ℕ
