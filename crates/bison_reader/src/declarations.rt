@@ -63,7 +63,7 @@ impl Reader<'_> {
         ensures { Builds (λ x. x) self.old self.new result (symbol_or_tag self.old.sorts.now word) }
     {
         if self.is_of(Group::Symbol, word) {
-            self.note(Item::Symbol(word))?;
+            return self.note(Item::Symbol(word));
         }
         Ok(())
     }

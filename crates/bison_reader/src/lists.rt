@@ -60,10 +60,10 @@ impl Reader<'_> {
     {
         self.note(Item::Token(token))?;
         self.optional(Group::Number);
-        if let Some(string) = self.take(Group::AnyString) {
-            self.note(Item::Alias { token, string })?;
+        match self.take(Group::AnyString) {
+            Some(string) => self.note(Item::Alias { token, string }),
+            None => Ok(()),
         }
-        Ok(())
     }
 
     /// Passes what no rule has, if it is here.
@@ -71,10 +71,10 @@ impl Reader<'_> {
     fn refused(&mut self, group: Group) -> Result<(), Stop>
         ensures { Builds (λ x. x) self.old self.new result (refused self.old.sorts.now group) }
     {
-        if let Some(word) = self.take(group) {
-            self.note(Item::NotForRules(word))?;
+        match self.take(group) {
+            Some(word) => self.note(Item::NotForRules(word)),
+            None => Ok(()),
         }
-        Ok(())
     }
 
     /// Notes that a name in `%nterm` is a rule, unless it is a literal.

@@ -154,10 +154,10 @@ impl<'a> Reader<'a> {
     pub(super) fn note_unexpected(&mut self, expected: Expected) -> Result<(), Stop>
         ensures { Builds (λ x. x) self.old self.new result (noted self.old.sorts.now expected) }
     {
-        if !self.is_here(Group::Fault) {
-            self.note(Item::Unexpected(self.next, expected))?;
+        if self.is_here(Group::Fault) {
+            return Ok(());
         }
-        Ok(())
+        self.note(Item::Unexpected(self.next, expected))
     }
 
     /// Passes a word of the group, which must be here.

@@ -301,9 +301,9 @@ impl Reader<'_> {
         ensures { Builds (λ x. x) self.old self.new result (file self.old.sorts.now) }
     {
         self.declarations()?;
-        if self.take(Group::Mark).is_some() {
-            self.rules()?;
+        match self.take(Group::Mark) {
+            Some(_) => self.rules(),
+            None => Ok(()),
         }
-        Ok(())
     }
 }
