@@ -23,7 +23,7 @@ impl Reader<'_> {
         ensures { Builds (λ x. x) self.old self.new result (level self.old.sorts.now associativity) }
     {
         self.tagged_list(Listed::Precedences(associativity))?;
-        Ok(self.note(Item::LevelEnd(associativity))?)
+        self.note(Item::LevelEnd(associativity))
     }
 
     /// Passes another symbol of a `%start`, if there is one.
@@ -63,7 +63,7 @@ impl Reader<'_> {
         ensures { Builds (λ x. x) self.old self.new result (symbol_or_tag self.old.sorts.now word) }
     {
         if self.is_of(Group::Symbol, word) {
-            self.note(Item::Symbol(word))?;
+            return self.note(Item::Symbol(word));
         }
         Ok(())
     }
@@ -142,7 +142,7 @@ impl Reader<'_> {
         ensures { Builds (λ x. x) self.old self.new result (expected_conflicts self.old.sorts.now ExpectGiven) }
     {
         let number = self.needed(Group::Number, Expected::Number)?;
-        Ok(self.note(Item::Expect(number))?)
+        self.note(Item::Expect(number))
     }
 
     #[tactic(auto, unfolding(crate::specs::Declarations::expected_conflicts))]
@@ -151,7 +151,7 @@ impl Reader<'_> {
             (expected_conflicts self.old.sorts.now ExpectReduceReduceGiven) }
     {
         let number = self.needed(Group::Number, Expected::Number)?;
-        Ok(self.note(Item::ExpectReduceReduce(number))?)
+        self.note(Item::ExpectReduceReduce(number))
     }
 
     /// Passes what follows the directive of a declaration.
@@ -166,7 +166,7 @@ impl Reader<'_> {
             Declaration::Start => self.start(),
             Declaration::NamedCode => self.named_code(),
             Declaration::SymbolsCode => self.symbols_code(),
-            Declaration::DefaultPrecedence(holds) => Ok(self.note(Item::DefaultPrecedence(holds))?),
+            Declaration::DefaultPrecedence(holds) => self.note(Item::DefaultPrecedence(holds)),
             Declaration::OnlyCode => self.only(Group::Code, Expected::Code),
             Declaration::Codes => self.codes(),
             Declaration::Variable => self.variable(),

@@ -1,10 +1,12 @@
 //! Lists of symbols.
 
 ghost use Rattle.std.specs.Prelude.{◌≡◌, ◌<◌, length, Ok};
-ghost use Rattle.constructs.specs.Construct.{goes_on, repeat};
+ghost use Rattle.constructs.specs.Construct.{choice, emits, goes_on, repeat};
 ghost use Rattle.bison_reader.specs.Declarations.{expected_of, group_of, is_literal, is_string, listed, listed_turn};
 ghost use Rattle.bison_reader.specs.Declarations.{precedence_rest, refused, rule_rest, symbol_rest, tagged_list};
 ghost use Rattle.bison_reader.specs.Declarations.{token_rest};
+ghost use Rattle.bison_reader.specs.Here.{sort_of};
+ghost use Rattle.bison_reader.specs.Items.{RefusedForRules, RuleGiven};
 
 use crate::group::Group;
 use crate::item::{Associativity, Expected, Item};
@@ -58,10 +60,10 @@ impl Reader<'_> {
     {
         self.note(Item::Token(token))?;
         self.optional(Group::Number);
-        if let Some(string) = self.take(Group::AnyString) {
-            self.note(Item::Alias { token, string })?;
+        match self.take(Group::AnyString) {
+            Some(string) => self.note(Item::Alias { token, string }),
+            None => Ok(()),
         }
-        Ok(())
     }
 
     /// Passes what no rule has, if it is here.
@@ -69,10 +71,22 @@ impl Reader<'_> {
     fn refused(&mut self, group: Group) -> Result<(), Stop>
         ensures { Builds (λ x. x) self.old self.new result (refused self.old.sorts.now group) }
     {
-        if let Some(word) = self.take(group) {
-            self.note(Item::NotForRules(word))?;
+        match self.take(group) {
+            Some(word) => self.note(Item::NotForRules(word)),
+            None => Ok(()),
         }
-        Ok(())
+    }
+
+    /// Notes that a name in `%nterm` is a rule, unless it is a literal.
+    fn note_rule(&mut self, name: usize) -> Result<(), Stop>
+        ensures { Builds (λ x. x) self.old self.new result
+            (choice (λ _. is_literal self.old.sorts.now (sort_of self.old.sorts.now name))
+            (emits (RefusedForRules name)) (emits (RuleGiven name))) }
+    {
+        match self.sort_of(name) {
+            Sort::Literal => self.note(Item::NotForRules(name)),
+            _ => self.note(Item::Rule(name)),
+        }
     }
 
     /// Passes what follows a name in `%nterm`.
@@ -80,10 +94,7 @@ impl Reader<'_> {
     fn rule_rest(&mut self, name: usize) -> Result<(), Stop>
         ensures { Builds (λ x. x) self.old self.new result (rule_rest self.old.sorts.now name) }
     {
-        match self.sort_of(name) {
-            Sort::Literal => self.note(Item::NotForRules(name))?,
-            _ => self.note(Item::Rule(name))?,
-        }
+        self.note_rule(name)?;
         self.refused(Group::Number)?;
         self.refused(Group::AnyString)
     }
@@ -109,7 +120,7 @@ impl Reader<'_> {
         match list {
             Listed::Tokens => self.token_rest(symbol),
             Listed::Rules => self.rule_rest(symbol),
-            Listed::Symbols => Ok(self.note(Item::Symbol(symbol))?),
+            Listed::Symbols => self.note(Item::Symbol(symbol)),
             Listed::Precedences(associativity) => self.precedence_rest(associativity, symbol),
         }
     }

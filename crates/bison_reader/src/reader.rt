@@ -1,6 +1,6 @@
 //! The reader: the words that are left, and the items that were read.
 
-ghost use Rattle.std.specs.Prelude.{◌≡◌, ◌<◌, ◌≤◌, length, [], IfOk, IfSome, Ok, OnOk, ◌∷◌, ◌++◌};
+ghost use Rattle.std.specs.Prelude.{◌≡◌, ◌<◌, ◌≤◌, length, [], IfErr, IfOk, IfSome, Ok, OnOk, ◌∷◌, ◌++◌};
 ghost use Rattle.bison_reader.specs.Here.{colon_follows, is_here, is_of, needed, noted, optional, sort_of, word_turn};
 ghost use Rattle.bison_reader.specs.Here.{words_of};
 ghost use Rattle.constructs.specs.Construct.{goes_on};
@@ -41,6 +41,7 @@ pub(crate) struct Reader<'a> {
 impl<'a> Reader<'a> {
     ghost use Rattle.bison_reader.specs.Inner.Builds.{Builds, Fails, IsTaken, Grows, items_read, rest_of};
     ghost use Rattle.bison_reader.specs.Items.{item_view};
+    ghost use Rattle.bison_reader.specs.declared.reader.Stop.TheVariants.{OutOfMemory};
 
     /// Before the first word, with nothing read.
     pub(super) fn new(alloc: Global, sorts: &'a [Sort]) -> Self
@@ -137,12 +138,15 @@ impl<'a> Reader<'a> {
     }
 
     /// Notes an item.
-    pub(super) fn note(&mut self, item: Item) -> Result<(), AllocError>
+    pub(super) fn note(&mut self, item: Item) -> Result<(), Stop>
         ensures kept { (self.new.sorts ≡ self.old.sorts) × (self.new.next ≡ self.old.next) }
         ensures noted { OnOk result (items_read self.new ≡ items_read self.old ++ item_view item ∷ []) }
+        ensures stopped { IfErr result (λ stop. stop ≡ OutOfMemory) }
     {
-        self.items.push(item)?;
-        Ok(())
+        match self.items.push(item) {
+            Ok(()) => Ok(()),
+            Err(_) => Err(Stop::OutOfMemory),
+        }
     }
 
     /// Notes that the next word can't be here, unless it is none.
@@ -150,10 +154,10 @@ impl<'a> Reader<'a> {
     pub(super) fn note_unexpected(&mut self, expected: Expected) -> Result<(), Stop>
         ensures { Builds (λ x. x) self.old self.new result (noted self.old.sorts.now expected) }
     {
-        if !self.is_here(Group::Fault) {
-            self.note(Item::Unexpected(self.next, expected))?;
+        if self.is_here(Group::Fault) {
+            return Ok(());
         }
-        Ok(())
+        self.note(Item::Unexpected(self.next, expected))
     }
 
     /// Passes a word of the group, which must be here.

@@ -4,10 +4,11 @@ ghost use Rattle.std.specs.Prelude.{◌≡◌, Ok, OnOk, [], ◌∷◌, ◌++◌
 ghost use Rattle.constructs.specs.Construct.{goes_on, many, recovers, repeat};
 ghost use Rattle.bison_reader.specs.FileGrammar.{file, rules};
 ghost use Rattle.bison_reader.specs.Here.{sort_of};
-ghost use Rattle.bison_reader.specs.Rules.{action_part, modifier, modifier_with, part, production, rule};
+ghost use Rattle.bison_reader.specs.Rules.{modifier, modifier_with, part, production, rule};
 ghost use Rattle.bison_reader.specs.Rules.{production_end, rule_declaration};
-ghost use Rattle.bison_reader.specs.Rules.{rule_or_declaration, rules_rest, rule_turn, rules_turn, symbol_part};
+ghost use Rattle.bison_reader.specs.Rules.{rule_or_declaration, rules_rest, rule_turn, rules_turn};
 ghost use Rattle.bison_reader.specs.Rules.{tagged_action, whole_production, with_name};
+ghost use Rattle.bison_reader.specs.Inner.Parts.{named_part};
 
 use crate::group::Group;
 use crate::item::{Expected, Item, Part, PartKind, Production};
@@ -37,37 +38,22 @@ impl Reader<'_> {
         }
     }
 
-    #[tactic(auto, unfolding(crate::specs::Rules::symbol_part))]
-    fn symbol_part(&mut self, word: usize) -> Part
-        ensures { Builds (λ x. x) self.old self.new (Ok result) (symbol_part self.old.sorts.now word) }
+    /// Passes the name in brackets after a symbol or code, if there is one, and returns what part the two are.
+    fn named_part(&mut self, kind: PartKind, word: usize) -> Part
+        ensures { Builds (λ x. x) self.old self.new (Ok result)
+            (named_part self.old.sorts.now kind word) }
     {
         let last = self.with_name(word);
-        Part {
-            kind: PartKind::Symbol,
-            word,
-            last,
-        }
-    }
-
-    #[tactic(auto, unfolding(crate::specs::Rules::action_part))]
-    fn action_part(&mut self, word: usize) -> Part
-        ensures { Builds (λ x. x) self.old self.new (Ok result) (action_part self.old.sorts.now word) }
-    {
-        let last = self.with_name(word);
-        Part {
-            kind: PartKind::Action,
-            word,
-            last,
-        }
+        Part { kind, word, last }
     }
 
     /// Passes code after a tag.
-    #[tactic(auto, unfolding(crate::specs::Rules::tagged_action))]
+    #[tactic(auto, unfolding(crate::specs::Rules::tagged_action, crate::specs::Rules::action_part))]
     fn tagged_action(&mut self) -> Result<Part, Stop>
         ensures { Builds (λ x. x) self.old self.new result (tagged_action self.old.sorts.now) }
     {
         let code = self.needed(Group::Code, Expected::Code)?;
-        Ok(self.action_part(code))
+        Ok(self.named_part(PartKind::Action, code))
     }
 
     /// Passes the word that has to follow a directive.
@@ -116,15 +102,15 @@ impl Reader<'_> {
     }
 
     /// Passes a part of a production, if there is one here.
-    #[tactic(auto, unfolding(crate::specs::Rules::part))]
+    #[tactic(auto, unfolding(crate::specs::Rules::part, crate::specs::Rules::symbol_part, crate::specs::Rules::action_part))]
     fn part(&mut self) -> Result<Option<Part>, Stop>
         ensures { Builds (λ x. x) self.old self.new result (part self.old.sorts.now) }
     {
         if let Some(symbol) = self.take(Group::Symbol) {
-            return Ok(Some(self.symbol_part(symbol)));
+            return Ok(Some(self.named_part(PartKind::Symbol, symbol)));
         }
         if let Some(code) = self.take(Group::Code) {
-            return Ok(Some(self.action_part(code)));
+            return Ok(Some(self.named_part(PartKind::Action, code)));
         }
         if let Some(word) = self.take(Group::Predicate) {
             return Ok(Some(Part {
@@ -173,8 +159,7 @@ impl Reader<'_> {
         let start = self.next;
         let parts = self.parts()?;
         self.production_end()?;
-        self.note(Item::Production(Production { rule, start, parts }))?;
-        Ok(())
+        self.note(Item::Production(Production { rule, start, parts }))
     }
 
     /// Passes a production. One with a fault ends at the next `;` or `%%`, and doesn't count.
@@ -316,9 +301,9 @@ impl Reader<'_> {
         ensures { Builds (λ x. x) self.old self.new result (file self.old.sorts.now) }
     {
         self.declarations()?;
-        if self.take(Group::Mark).is_some() {
-            self.rules()?;
+        match self.take(Group::Mark) {
+            Some(_) => self.rules(),
+            None => Ok(()),
         }
-        Ok(())
     }
 }

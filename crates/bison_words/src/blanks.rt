@@ -1,7 +1,7 @@
 //! Blanks: white space, commas, comments, and `#line` lines.
 
 ghost use Rattle.std.specs.Prelude.{◌≡◌, ◌≤◌, ◌<◌, length, OnOk};
-ghost use Rattle.constructs.specs.Construct.{goes_on};
+ghost use Rattle.constructs.specs.Construct.{again, goes_on, then};
 ghost use Rattle.bison_words.specs.Blanks.{from_end, ends_with_quote, is_line_end, is_numbered, is_line_number};
 ghost use Rattle.bison_words.specs.Blanks.{line_number, comment, blank_turn, blank};
 
@@ -80,14 +80,14 @@ impl<'a> Scanner<'a> {
 
     /// Passes the rest of the comment that begins at `start`.
     #[tactic(auto, unfolding(crate::specs::Blanks::comment))]
-    fn comment(&mut self, start: &'a str) -> Result<(), AllocError>
+    fn comment(&mut self, start: &'a str) -> Result<bool, AllocError>
         requires { length self.old.rest.now ≤ length start.now }
-        ensures read { Builds (λ x. x) self.old self.new result
-            (comment (length self.old.text.now) start.now) }
+        ensures read { Builds goes_on self.old self.new result
+            (then (comment (length self.old.text.now) start.now) again) }
         ensures passed { OnOk result (Passed self.old self.new) }
     {
         match self.first("*/") {
-            Some(_) => Ok(()),
+            Some(_) => Ok(true),
             None => self.unended(start, WordFaultKind::IncompleteComment),
         }
     }
@@ -111,8 +111,7 @@ impl<'a> Scanner<'a> {
             return Ok(true);
         }
         if self.accept("/*") {
-            self.comment(start)?;
-            return Ok(true);
+            return self.comment(start);
         }
         Ok(false)
     }

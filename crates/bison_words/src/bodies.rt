@@ -1,7 +1,7 @@
 //! Words that code is in: braces, predicates and prologues; the epilogue.
 
 ghost use Rattle.std.specs.Prelude.{◌≡◌, ◌≤◌, length, OnOk, codes};
-ghost use Rattle.constructs.specs.Construct.{goes_on, repeat};
+ghost use Rattle.constructs.specs.Construct.{again, goes_on, repeat, then};
 ghost use Rattle.bison_words.specs.NestedHere.{closing};
 ghost use Rattle.bison_words.specs.Code.{code_end, braces, code, predicate, code_piece};
 ghost use Rattle.bison_words.specs.Code.{prologue_piece, prologue_end, prologue};
@@ -59,17 +59,17 @@ impl<'a> Scanner<'a> {
         opened: &'a str,
         is_predicate: bool,
         closed: bool,
-    ) -> Result<(), AllocError>
+    ) -> Result<bool, AllocError>
         requires suffix { IsSuffix opened.now self.old.rest.now }
         requires before { length opened.now ≤ length start.now }
-        ensures read { Builds (λ x. x) self.old self.new result
-            (code_end (length self.old.text.now) start.now opened.now
-            (braces_lexeme (length self.old.text.now) is_predicate opened.now) closed) }
+        ensures read { Builds goes_on self.old self.new result
+            (then (code_end (length self.old.text.now) start.now opened.now
+            (braces_lexeme (length self.old.text.now) is_predicate opened.now) closed) again) }
         ensures passed { OnOk result (Passed self.old self.new) }
     {
         if closed {
             let lexeme = self.braces_lexeme(opened, is_predicate);
-            return self.word_from(start, lexeme);
+            return self.found_word(start, lexeme);
         }
         self.odd_between(start, opened, WordFaultKind::IncompleteCode)
     }
@@ -87,8 +87,7 @@ impl<'a> Scanner<'a> {
         }
         let opened = self.rest;
         let closed = self.closing_brace()?;
-        self.code_end(start, opened, is_predicate, closed)?;
-        Ok(true)
+        self.code_end(start, opened, is_predicate, closed)
     }
 
     #[tactic(auto, unfolding(crate::specs::Code::code))]
@@ -134,14 +133,14 @@ impl<'a> Scanner<'a> {
 
     /// Adds the prologue that begins at `start`, and whose `%{` precedes `opened`.
     #[tactic(auto, unfolding(crate::specs::Code::prologue_end))]
-    fn prologue_end(&mut self, start: &'a str, opened: &'a str) -> Result<(), AllocError>
+    fn prologue_end(&mut self, start: &'a str, opened: &'a str) -> Result<bool, AllocError>
         requires { length self.old.rest.now ≤ length opened.now × length opened.now ≤ length start.now }
-        ensures read { Builds (λ x. x) self.old self.new result
-            (prologue_end (length self.old.text.now) start.now opened.now) }
+        ensures read { Builds goes_on self.old self.new result
+            (then (prologue_end (length self.old.text.now) start.now opened.now) again) }
         ensures passed { OnOk result (Passed self.old self.new) }
     {
         if self.accept("%}") {
-            return self.word_from(start, Lexeme::Prologue);
+            return self.found_word(start, Lexeme::Prologue);
         }
         self.odd_between(start, opened, WordFaultKind::IncompletePrologue)
     }
@@ -157,8 +156,7 @@ impl<'a> Scanner<'a> {
         }
         let opened = self.rest;
         self.prologue_pieces()?;
-        self.prologue_end(start, opened)?;
-        Ok(true)
+        self.prologue_end(start, opened)
     }
 
     /// Passes the epilogue.

@@ -1,7 +1,7 @@
 //! Tags, and names in brackets.
 
 ghost use Rattle.std.specs.Prelude.{◌≡◌, ◌≤◌, length, OnOk};
-ghost use Rattle.constructs.specs.Construct.{goes_on};
+ghost use Rattle.constructs.specs.Construct.{again, goes_on, then};
 ghost use Rattle.bison_words.specs.NestedHere.{closing};
 ghost use Rattle.bison_words.specs.Brackets.{tag_piece, tag_end, tag, inner_name, name_close, name_end, name};
 
@@ -55,14 +55,14 @@ impl<'a> Scanner<'a> {
 
     /// Adds the tag that begins at `start`, and whose `<` precedes `opened`.
     #[tactic(auto, unfolding(crate::specs::Brackets::tag_end))]
-    fn tag_end(&mut self, start: &'a str, opened: &'a str, closed: bool) -> Result<(), AllocError>
+    fn tag_end(&mut self, start: &'a str, opened: &'a str, closed: bool) -> Result<bool, AllocError>
         requires { length self.old.rest.now ≤ length opened.now × length opened.now ≤ length start.now }
-        ensures read { Builds (λ x. x) self.old self.new result
-            (tag_end (length self.old.text.now) start.now opened.now closed) }
+        ensures read { Builds goes_on self.old self.new result
+            (then (tag_end (length self.old.text.now) start.now opened.now closed) again) }
         ensures passed { OnOk result (Passed self.old self.new) }
     {
         if closed {
-            return self.word_from(start, Lexeme::Tag);
+            return self.found_word(start, Lexeme::Tag);
         }
         self.odd_between(start, opened, WordFaultKind::IncompleteTag)
     }
@@ -84,8 +84,7 @@ impl<'a> Scanner<'a> {
         }
         let opened = self.rest;
         let closed = self.closing_tag();
-        self.tag_end(start, opened, closed)?;
-        Ok(true)
+        self.tag_end(start, opened, closed)
     }
 
     /// Passes an identifier, and returns whether there is one.
@@ -103,24 +102,29 @@ impl<'a> Scanner<'a> {
 
     /// Adds the name in brackets that begins at `start`; a fault at `close` unless that is its closing bracket.
     #[tactic(auto, unfolding(crate::specs::Brackets::name_close))]
-    fn name_close(&mut self, start: &'a str, close: &'a str, proper: bool) -> Result<(), AllocError>
+    fn name_close(
+        &mut self,
+        start: &'a str,
+        close: &'a str,
+        proper: bool,
+    ) -> Result<bool, AllocError>
         requires { length self.old.rest.now ≤ length start.now }
-        ensures read { Builds (λ x. x) self.old self.new result
-            (name_close (length self.old.text.now) start.now close.now proper) }
+        ensures read { Builds goes_on self.old self.new result
+            (then (name_close (length self.old.text.now) start.now close.now proper) again) }
         ensures passed { OnOk result (Passed self.old self.new) }
     {
         if !proper {
             self.fault_between(close, close, WordFaultKind::IllegalName)?;
         }
-        self.word_from(start, Lexeme::Name)
+        self.found_word(start, Lexeme::Name)
     }
 
     /// Passes the bracket that closes the name that begins at `start`, and whatever precedes it.
     #[tactic(auto, unfolding(crate::specs::Brackets::name_end))]
-    fn name_end(&mut self, start: &'a str, opened: &'a str, found: bool) -> Result<(), AllocError>
+    fn name_end(&mut self, start: &'a str, opened: &'a str, found: bool) -> Result<bool, AllocError>
         requires { length self.old.rest.now ≤ length opened.now × length opened.now ≤ length start.now }
-        ensures read { Builds (λ x. x) self.old self.new result
-            (name_end (length self.old.text.now) start.now opened.now found) }
+        ensures read { Builds goes_on self.old self.new result
+            (then (name_end (length self.old.text.now) start.now opened.now found) again) }
         ensures passed { OnOk result (Passed self.old self.new) }
     {
         let close = self.rest;
@@ -129,7 +133,7 @@ impl<'a> Scanner<'a> {
             None => {
                 self.odd_between(start, opened, WordFaultKind::IncompleteName)?;
                 self.pass(Class::Any);
-                Ok(())
+                Ok(true)
             }
         }
     }
@@ -147,7 +151,6 @@ impl<'a> Scanner<'a> {
         self.blank()?;
         let found = self.inner_name();
         self.blank()?;
-        self.name_end(start, opened, found)?;
-        Ok(true)
+        self.name_end(start, opened, found)
     }
 }

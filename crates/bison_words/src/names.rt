@@ -1,7 +1,7 @@
 //! Identifiers, numbers, marks, and what can't begin a word.
 
 ghost use Rattle.std.specs.Prelude.{◌≡◌, ◌≤◌, length, OnOk};
-ghost use Rattle.constructs.specs.Construct.{goes_on};
+ghost use Rattle.constructs.specs.Construct.{again, goes_on, then};
 ghost use Rattle.bison_words.specs.Digits.{digit_value, with_digit, number_of};
 ghost use Rattle.bison_words.specs.Names.{is_identifier, is_colon};
 ghost use Rattle.bison_words.specs.Names.{identifier, number_word, number_end, hexadecimal, number, mark, odd};
@@ -76,16 +76,16 @@ impl<'a> Scanner<'a> {
 
     /// Adds the number that begins at `start`.
     #[tactic(auto, unfolding(crate::specs::Names::number_word))]
-    fn number_word(&mut self, start: &'a str, number: usize) -> Result<(), AllocError>
+    fn number_word(&mut self, start: &'a str, number: usize) -> Result<bool, AllocError>
         requires { length self.old.rest.now ≤ length start.now }
-        ensures read { Builds (λ x. x) self.old self.new result
-            (number_word (length self.old.text.now) start.now number) }
+        ensures read { Builds goes_on self.old self.new result
+            (then (number_word (length self.old.text.now) start.now number) again) }
         ensures passed { OnOk result (Passed self.old self.new) }
     {
         if number > 2_147_483_647 {
             self.fault_from(start, WordFaultKind::IllegalInteger)?;
         }
-        self.word_from(start, Lexeme::Number(number))
+        self.found_word(start, Lexeme::Number(number))
     }
 
     /// Adds the number that begins at `start` and has these digits; no letter may follow it.
@@ -98,11 +98,9 @@ impl<'a> Scanner<'a> {
     {
         if digits.is_empty() || self.starts_with(Class::Letter) {
             self.pass(Class::NameByte);
-            self.odd_from(start, WordFaultKind::IllegalIdentifier)?;
-        } else {
-            self.number_word(start, number_of(base, digits))?;
+            return self.odd_from(start, WordFaultKind::IllegalIdentifier);
         }
-        Ok(true)
+        self.number_word(start, number_of(base, digits))
     }
 
     #[tactic(auto, unfolding(crate::specs::Names::hexadecimal))]
@@ -165,7 +163,6 @@ impl<'a> Scanner<'a> {
         if self.some(Class::Odd).is_none() && self.byte(Class::Any).is_none() {
             return Ok(false);
         }
-        self.odd_from(start, WordFaultKind::IllegalCharacters)?;
-        Ok(true)
+        self.odd_from(start, WordFaultKind::IllegalCharacters)
     }
 }

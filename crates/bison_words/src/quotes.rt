@@ -1,7 +1,7 @@
 //! Character literals and strings.
 
 ghost use Rattle.std.specs.Prelude.{◌≡◌, ◌≤◌, ◌<◌, ◌⊎◌, length, get_or, OnOk};
-ghost use Rattle.constructs.specs.Construct.{goes_on};
+ghost use Rattle.constructs.specs.Construct.{again, goes_on, then};
 ghost use Rattle.bison_words.specs.Quotes.{escaped, with_part, literal_of, is_long, if_closed};
 ghost use Rattle.bison_words.specs.Quotes.{numbered_value, numbered, illegal_escape, escape, quoted_part, quoted};
 ghost use Rattle.bison_words.specs.Quotes.{quotes_end, literal_word, literal, string_word, string, translatable};
@@ -203,10 +203,10 @@ impl<'a> Scanner<'a> {
 
     /// Adds a literal.
     #[tactic(auto, unfolding(crate::specs::Quotes::literal_word))]
-    fn literal_word(&mut self, start: &'a str, parts: Option<Part>) -> Result<(), AllocError>
+    fn literal_word(&mut self, start: &'a str, parts: Option<Part>) -> Result<bool, AllocError>
         requires { length self.old.rest.now ≤ length start.now }
-        ensures read { Builds (λ x. x) self.old self.new result
-            (literal_word (length self.old.text.now) start.now parts) }
+        ensures read { Builds goes_on self.old self.new result
+            (then (literal_word (length self.old.text.now) start.now parts) again) }
         ensures passed { OnOk result (Passed self.old self.new) }
     {
         if parts.is_none() {
@@ -214,7 +214,7 @@ impl<'a> Scanner<'a> {
         } else if is_long(parts) {
             self.fault_from(start, WordFaultKind::LongLiteral)?;
         }
-        self.word_from(start, Lexeme::Literal(literal_of(parts)))
+        self.found_word(start, Lexeme::Literal(literal_of(parts)))
     }
 
     #[tactic(auto, unfolding(crate::specs::Quotes::literal))]
@@ -228,8 +228,7 @@ impl<'a> Scanner<'a> {
         }
         let parts = self.quoted("'")?;
         let closed = self.quotes_end(start, "'", WordFaultKind::IncompleteLiteral)?;
-        self.literal_word(start, if_closed(closed, parts))?;
-        Ok(true)
+        self.literal_word(start, if_closed(closed, parts))
     }
 
     /// Passes the string here, of a word that begins at `start`.

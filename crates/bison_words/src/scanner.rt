@@ -263,21 +263,26 @@ impl<'a> Scanner<'a> {
         start: &'a str,
         end: &'a str,
         kind: WordFaultKind,
-    ) -> Result<(), AllocError>
+    ) -> Result<bool, AllocError>
         requires { length end.now ≤ length start.now }
-        ensures read { Builds (λ x. x) self.old self.new result
-            (odd_between (length self.old.text.now) start.now end.now kind) }
+        ensures read { Builds goes_on self.old self.new result
+            (then (odd_between (length self.old.text.now) start.now end.now kind) again) }
         ensures passed { OnOk result (Passed self.old self.new) }
     {
         self.fault_between(start, end, kind)?;
-        self.word_between(start, end, Lexeme::Fault)
+        self.word_between(start, end, Lexeme::Fault)?;
+        Ok(true)
     }
 
     /// The same from `start` up to here.
-    pub(crate) fn odd_from(&mut self, start: &'a str, kind: WordFaultKind) -> Result<(), AllocError>
+    pub(crate) fn odd_from(
+        &mut self,
+        start: &'a str,
+        kind: WordFaultKind,
+    ) -> Result<bool, AllocError>
         requires { length self.old.rest.now ≤ length start.now }
-        ensures read { Builds (λ x. x) self.old self.new result
-            (odd_from (length self.old.text.now) start.now kind) }
+        ensures read { Builds goes_on self.old self.new result
+            (then (odd_from (length self.old.text.now) start.now kind) again) }
         ensures passed { OnOk result (Passed self.old self.new) }
     {
         self.odd_between(start, self.rest, kind)
@@ -285,14 +290,18 @@ impl<'a> Scanner<'a> {
 
     /// Adds such a fault for what begins at `start` and doesn't end, and passes the rest of the text.
     #[tactic(auto, unfolding(crate::specs::Here::unended))]
-    pub(crate) fn unended(&mut self, start: &'a str, kind: WordFaultKind) -> Result<(), AllocError>
+    pub(crate) fn unended(
+        &mut self,
+        start: &'a str,
+        kind: WordFaultKind,
+    ) -> Result<bool, AllocError>
         requires { length self.old.rest.now ≤ length start.now }
-        ensures read { Builds (λ x. x) self.old self.new result
-            (unended (length self.old.text.now) start.now kind) }
+        ensures read { Builds goes_on self.old self.new result
+            (then (unended (length self.old.text.now) start.now kind) again) }
         ensures passed { OnOk result (Passed self.old self.new) }
     {
         self.odd_from(start, kind)?;
         self.pass(Class::Any);
-        Ok(())
+        Ok(true)
     }
 }

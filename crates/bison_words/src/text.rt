@@ -1,7 +1,7 @@
 //! The words of a text.
 
 ghost use Rattle.std.specs.Prelude.{◌≡◌, ◌≤◌, length, Some, IfOk, OnOk};
-ghost use Rattle.constructs.specs.Construct.{goes_on, computes};
+ghost use Rattle.constructs.specs.Construct.{again, computes, goes_on, then};
 ghost use Rattle.bison_words.specs.WordSpans.{AreInText};
 ghost use Rattle.bison_words.specs.Words.{IsWords};
 ghost use Rattle.bison_words.specs.TextWords.{is_predicate, is_equals, equals, is_mark, directive_end, directive_name};
@@ -58,16 +58,16 @@ impl<'a> Scanner<'a> {
 
     /// Adds the directive that begins at `start`, with an `=` that belongs to it.
     #[tactic(auto, unfolding(crate::specs::TextWords::directive_end))]
-    fn directive_end(&mut self, start: &'a str, directive: Directive) -> Result<(), AllocError>
+    fn directive_end(&mut self, start: &'a str, directive: Directive) -> Result<bool, AllocError>
         requires { length self.old.rest.now ≤ length start.now }
-        ensures read { Builds (λ x. x) self.old self.new result
-            (directive_end (length self.old.text.now) start.now directive) }
+        ensures read { Builds goes_on self.old self.new result
+            (then (directive_end (length self.old.text.now) start.now directive) again) }
         ensures passed { OnOk result (Passed self.old self.new) }
     {
         if directive.takes_equals() && is_equals(self.rest) {
             self.equals();
         }
-        self.word_from(start, Lexeme::Directive(directive))
+        self.found_word(start, Lexeme::Directive(directive))
     }
 
     /// Passes the name of the directive whose `%` is at `start`.
@@ -80,12 +80,11 @@ impl<'a> Scanner<'a> {
     {
         match self.some(Class::NameByte) {
             Some(name) => match directive_named(name) {
-                Some(directive) => self.directive_end(start, directive)?,
-                None => self.odd_from(start, WordFaultKind::UnknownDirective)?,
+                Some(directive) => self.directive_end(start, directive),
+                None => self.odd_from(start, WordFaultKind::UnknownDirective),
             },
-            None => self.odd_from(start, WordFaultKind::IllegalCharacters)?,
+            None => self.odd_from(start, WordFaultKind::IllegalCharacters),
         }
-        Ok(true)
     }
 
     #[tactic(auto, unfolding(crate::specs::TextWords::directive))]
@@ -100,8 +99,7 @@ impl<'a> Scanner<'a> {
         if self.starts_with(Class::Letter) {
             return self.directive_name(start);
         }
-        self.odd_from(start, WordFaultKind::IllegalCharacters)?;
-        Ok(true)
+        self.odd_from(start, WordFaultKind::IllegalCharacters)
     }
 
     /// Passes a word that begins with `%`.
