@@ -1,11 +1,13 @@
 -- Where an item or a target is in its list.
-use Rattle.std.proofs.Common.{◌≡◌, ◌==◌, inl, inr, ℕ, zero, suc, ◌+◌, ◌<◌, ◌≤◌, Bool, true, false, cond, not, nat_lt, ◌↔◌, List, [], ◌∷◌, Option, None, Some, Contains, get_or, length, slice_get, refl, sym, ap, subst, ◌∙◌, arith, ltb, lt-ltb, true≢false}
+use Rattle.std.proofs.Common.{◌≡◌, ◌==◌, inl, inr, ℕ, zero, suc, ◌+◌, ◌<◌, ◌≤◌, Bool, true, false, cond, not, nat_lt, ◌↔◌, List, [], ◌∷◌, Option, None, Some, Contains, IsTrue, get_or, length, slice_get, refl, sym, ap, subst, ◌∙◌, arith, ltb, lt-ltb, true≢false}
+use Rattle.std.specs.Prelude.{is_some, position}
 use Rattle.std.specs.Bool.{Decides}
-use Rattle.std.specs.List.{list_any, position_or_len}
+use Rattle.std.specs.List.{position_or_len}
 use Rattle.std.specs.List.Sorted.{IsPartitionPoint, IsPartitionedBy}
-use Rattle.std.proofs.lemmas.Bool.{cases_Bool, cases_eq, cases_lt, ltb-true}
-use Rattle.std.proofs.lemmas.Bool.Decides.{Decides-and, Decides-eqb, Decides-like, Decides-ltb}
-use Rattle.std.proofs.lemmas.List.Folds.{Any-from_list_any, list_any_at}
+use Rattle.std.proofs.lemmas.Bool.{cases_Bool, cases_eq, cases_lt}
+use Rattle.std.proofs.lemmas.Bool.Decides.{Decides-and, Decides-eqb, Decides-like, Decides-ltb, Decides-or}
+use Rattle.std.proofs.lemmas.List.Elements.{Contains-get_or}
+use Rattle.std.proofs.lemmas.List.Quantifiers.{position-Some}
 use Rattle.std.proofs.lemmas.Option.{get_or_from_slice_get, slice_get-get_or, slice_get_within}
 use Rattle.cfgrammar.proofs.Elements.{element_at}
 use Rattle.lr_states.specs.declared.Item.{Item}
@@ -16,37 +18,13 @@ use Rattle.search.proofs.PathGroups.{contains_at, contains_there}
 use Rattle.lr_states.proofs.Order.{before_not_after}
 use Rattle.lr_states.proofs.Targets.{not_same, symbol_missing, symbol_rises}
 use Rattle.lr_lookaheads.specs.Lookaheads.{is_item}
-use Rattle.lr_lookaheads.specs.Inner.Numbers.{place_of_item, place_of_rule}
-
-module _ {A : Type 0} where
-  -- the first element that passes a test
-  pub first_passes : (p : A → Bool) (xs : List A) → position_or_len p xs < length xs → (x : A) × (slice_get xs (position_or_len p xs) ≡ Some x) × (p x ≡ true)
-  first_passes p [] within = absurd (omega (arith, within))
-  first_passes p (y ∷ xs) within = go (p y) refl within (first_passes p xs)
-    where
-      go : (b : Bool) → p y ≡ b → cond (not b) (1 + position_or_len p xs) 0 < length (y ∷ xs)
-          → (position_or_len p xs < length xs → (x : A) × (slice_get xs (position_or_len p xs) ≡ Some x) × (p x ≡ true))
-          → (x : A) × (slice_get (y ∷ xs) (cond (not b) (1 + position_or_len p xs) 0) ≡ Some x) × (p x ≡ true)
-      go true passes lt later = (y, refl, passes)
-      go false fails lt later =
-          let (x, at, passes) = later (omega (arith, lt)) in
-          let one : suc (position_or_len p xs) ≡ 1 + position_or_len p xs = omega arith in
-          (x, subst (λ n. slice_get (y ∷ xs) n ≡ Some x) one at, passes)
+use Rattle.lr_lookaheads.specs.Inner.Numbers.{is_before, place_of_item, place_of_rule}
 
 pub same_item : (a b : Item) → Decides (is_item a b) (a ≡ b)
 same_item a b = Decides-like _
     (λ h. λ i. record { production = h.0 i; read = h.1 i })
     (λ e. (ap (λ (z : Item). z.production) e, ap (λ (z : Item). z.read) e))
     (Decides-and _ _ (Decides-eqb a.production b.production) (Decides-eqb a.read b.read))
-
--- whether the item is in the list
-pub any_item : (items : List Item) (item : Item) → (list_any (λ other. is_item other item) items ≡ true) ↔ Contains items item
-any_item items item = (
-  (λ found.
-      let (i, other, within, at, same) = Any-from_list_any (λ other. is_item other item) items found in
-      subst (Contains items) ((same_item other item).0 same) (i, within, at)),
-  (λ has. let (i, within, at) = has in list_any_at (λ other. is_item other item) items i item within ((same_item (get_or items i item) item).1 at)),
-)
 
 before_apart : (a b : Item) → IsBefore a b → is_item b a ≡ false
 before_apart a b before = elim (cases_Bool (is_item b a)) [
@@ -89,17 +67,12 @@ rule_placed targets ascending i target at =
     let within = slice_get_within targets i target at in
     ap (λ n. cond (nat_lt n (length targets)) (Some n) None) first ∙ ap (λ b. cond b (Some i) None) (lt-ltb i (length targets) within)
 
--- a rule has a place exactly if it has a target
+-- the target at a rule's place
 pub place_cases : (targets : List Target) (rule : ℕ) (o : Option ℕ) → o ≡ place_of_rule targets rule → (i : ℕ) → o ≡ Some i → (target : Target) × (slice_get targets i ≡ Some target) × (target.symbol ≡ rule)
-place_cases targets rule o is i some = go (nat_lt (position_or_len (is_for rule) targets) (length targets)) refl (sym some ∙ is)
-  where
-    go : (b : Bool) → nat_lt (position_or_len (is_for rule) targets) (length targets) ≡ b → Some i ≡ cond b (Some (position_or_len (is_for rule) targets)) None
-        → (target : Target) × (slice_get targets i ≡ Some target) × (target.symbol ≡ rule)
-    go true lt same =
-        let here : i ≡ position_or_len (is_for rule) targets = cc in
-        let (target, at, passes) = first_passes (is_for rule) targets ((Decides-ltb _ _).0 lt) in
-        (target, subst (λ n. slice_get targets n ≡ Some target) (sym here) at, (Decides-eqb target.symbol rule).0 passes)
-    go false lt same = absurd (cc)
+place_cases targets rule o is i some =
+    let target = get_or targets i (record { symbol = 0; state = 0 }) in
+    let (within, passes, first) = position-Some (is_for rule) targets i (record { symbol = 0; state = 0 }) (sym is ∙ some) in
+    (target, slice_get-get_or targets i (record { symbol = 0; state = 0 }) within, (Decides-eqb target.symbol rule).0 passes)
 
 pub target_found : (targets : List Target) (symbol state : ℕ) → target_of targets symbol ≡ Some state → (i : ℕ) × (slice_get targets i ≡ Some (record { symbol = symbol; state = state }))
 target_found [] symbol state is = absurd (cc)
@@ -129,18 +102,23 @@ module _ {A : Type 0} (xs : List A) (P : A → Type 0) (falls : (i j : ℕ) (a b
     (λ early. before i x early at),
   )
 
-pub read_falls : (items : List Item) → AreSorted items → (i j : ℕ) (a b : Item) → i ≤ j → slice_get items i ≡ Some a → slice_get items j ≡ Some b → b.read ≤ a.read
-read_falls [] sorted i j a b most at there = absurd (cc)
-read_falls (x ∷ items) sorted zero zero a b most at there = let same : a ≡ b = cc in let reads = ap (λ (z : Item). z.read) same in omega (arith, reads)
-read_falls (x ∷ items) sorted zero (suc j) a b most at there =
+pub item_before : (items : List Item) → AreSorted items → (i j : ℕ) (a b : Item) → i < j → slice_get items i ≡ Some a → slice_get items j ≡ Some b → IsBefore a b
+item_before [] sorted i j a b less at there = absurd (cc)
+item_before (x ∷ items) sorted i zero a b less at there = absurd (omega (arith, less))
+item_before (x ∷ items) sorted zero (suc j) a b less at there =
     let same : x ≡ a = cc in
-    subst (λ (z : Item). b.read ≤ z.read) same (before_reads x b (sorted.0 b (contains_there items j b there)))
-  where
-    before_reads : (a b : Item) → IsBefore a b → b.read ≤ a.read
-    before_reads a b (inl less) = omega (arith, less)
-    before_reads a b (inr same) = let reads = same.0 in omega (arith, reads)
-read_falls (x ∷ items) sorted (suc i) zero a b most at there = absurd (omega (arith, most))
-read_falls (x ∷ items) sorted (suc i) (suc j) a b most at there = read_falls items sorted.1 i j a b (omega (arith, most)) at there
+    subst (λ z. IsBefore z b) same (sorted.0 b (contains_there items j b there))
+item_before (x ∷ items) sorted (suc i) (suc j) a b less at there = item_before items sorted.1 i j a b (omega (arith, less)) at there
+
+read_falls : (items : List Item) → AreSorted items → (i j : ℕ) (a b : Item) → i ≤ j → slice_get items i ≡ Some a → slice_get items j ≡ Some b → b.read ≤ a.read
+read_falls items sorted i j a b most at there = elim (cases_lt i j) [
+  | inl less ↦ elim (item_before items sorted i j a b less at there) [ inl lower ↦ omega (arith, lower) | inr same ↦ let reads = same.0 in omega (arith, reads) ]
+  | inr past ↦
+      let here : slice_get items j ≡ Some a = subst (λ k. slice_get items k ≡ Some a) (omega (arith, most, past)) at in
+      let same : a ≡ b = cc in
+      let reads = ap (λ (z : Item). z.read) same in
+      omega (arith, reads)
+]
 
 pub reads_first : (items : List Item) → AreSorted items → (n : ℕ) → ((i : ℕ) (item : Item) → i < n → slice_get items i ≡ Some item → 0 < item.read) → ((item : Item) → slice_get items n ≡ Some item → item.read ≡ 0)
     → (i : ℕ) (item : Item) → slice_get items i ≡ Some item → (0 < item.read) ↔ (i < n)
@@ -177,3 +155,73 @@ no_place targets rule none = go (place_of_rule targets rule) refl
 pub rule_missing : (targets : List Target) → AreAscending targets → (rule place : ℕ) → IsPartitionPoint (λ (target : Target). ltb target.symbol rule ≡ true) (λ (target : Target). ltb target.symbol rule ≡ false) targets place
     → (d : Target) → (place < length targets → (get_or targets place d).symbol ≡ rule → ⊥) → None ≡ place_of_rule targets rule
 rule_missing targets ascending rule place point d none = no_place targets rule (symbol_missing targets ascending rule place point d none)
+
+before_decides : (a b : Item) → Decides (is_before a b) (IsBefore a b)
+before_decides a b = Decides-or _ _ (Decides-ltb b.read a.read) (Decides-and _ _ (Decides-eqb a.read b.read) (Decides-ltb a.production b.production))
+
+before_trans : (a b c : Item) → IsBefore a b → IsBefore b c → IsBefore a c
+before_trans a b c (inl less) (inl more) = inl (omega (arith, less, more))
+before_trans a b c (inl less) (inr same) = let reads = same.0 in inl (omega (arith, less, reads))
+before_trans a b c (inr same) (inl more) = let reads = same.0 in inl (omega (arith, more, reads))
+before_trans a b c (inr same) (inr equal) =
+    let (reads, less) = same in
+    let (again, more) = equal in
+    inr (omega (arith, reads, again), omega (arith, less, more))
+
+-- a binary search for an item
+module _ (items : List Item) (sorted : AreSorted items) (item : Item) where
+  pub items_parted : IsPartitionedBy (λ other. is_before other item) items
+  items_parted i j d most within later = elim (cases_lt i j) [
+    | inl less ↦
+        let ordered = item_before items sorted i j (get_or items i d) (get_or items j d) less (slice_get-get_or items i d (omega (arith, less, within))) (slice_get-get_or items j d within) in
+        (before_decides (get_or items i d) item).1 (before_trans (get_or items i d) (get_or items j d) item ordered ((before_decides (get_or items j d) item).0 later))
+    | inr past ↦ let same : j ≡ i = omega (arith, most, past) in subst (λ k. is_before (get_or items k d) item ≡ true) same later
+  ]
+
+  pub item_found : (place : ℕ) (d : Item) → place < length items → get_or items place d ≡ item → Some place ≡ position (is_item item) items
+  item_found place d within is =
+      let first = item_placed items sorted place item (slice_get-get_or items place d within ∙ ap Some is) in
+      sym (ap (λ n. cond (nat_lt n (length items)) (Some n) None) first ∙ ap (λ b. cond b (Some place) None) (lt-ltb place (length items) within))
+
+  pub item_missing : (place : ℕ) → IsPartitionPoint (λ other. is_before other item ≡ true) (λ other. is_before other item ≡ false) items place
+      → (d : Item) → (place < length items → get_or items place d ≡ item → ⊥) → None ≡ position (is_item item) items
+  item_missing place (low, high) d none = go (position (is_item item) items) refl
+    where
+      apart : (i : ℕ) → i < length items → get_or items i d ≡ item → ⊥
+      apart i within is = elim (cases_lt i place) [
+        | inl early ↦
+            let before = (before_decides item item).0 (subst (λ other. is_before other item ≡ true) is (low i d (omega arith) early)) in
+            before_not_after item item before before
+        | inr late ↦ elim (cases_eq place i) [
+          | inl same ↦ none (omega (arith, late, within)) (ap (λ k. get_or items k d) same ∙ is)
+          | inr unlike ↦
+              let there : place < length items = omega (arith, late, within) in
+              let before = item_before items sorted place i (get_or items place d) item (omega (arith, late, unlike)) (slice_get-get_or items place d there) (slice_get-get_or items i d within ∙ ap Some is) in
+              true≢false (sym ((before_decides (get_or items place d) item).1 before) ∙ high place d (omega arith) there)
+        ]
+      ]
+
+      go : (o : Option ℕ) → o ≡ position (is_item item) items → None ≡ position (is_item item) items
+      go None e = e
+      go (Some i) e =
+          let (within, is, first) = position-Some (is_item item) items i d (sym e) in
+          absurd (apart i within (sym ((same_item item (get_or items i d)).0 is)))
+
+  pub item_there : Contains items item → position (is_item item) items ≡ Some (place_of_item items item)
+  item_there has =
+      let at = place_holds items sorted item has in
+      let place = place_of_item items item in
+      ap (λ b. cond b (Some place) None) (lt-ltb place (length items) (slice_get_within items place item at))
+
+  -- whether the item is in the list
+  pub any_item : IsTrue (is_some (position (is_item item) items)) ↔ Contains items item
+  any_item = (
+    (λ some. go (position (is_item item) items) refl some),
+    (λ has. ap is_some (item_there has)),
+  )
+    where
+      go : (o : Option ℕ) → position (is_item item) items ≡ o → IsTrue (is_some o) → Contains items item
+      go None e some = absurd (true≢false (sym some))
+      go (Some i) e some =
+          let (within, is, first) = position-Some (is_item item) items i item e in
+          subst (Contains items) (sym ((same_item item (get_or items i item)).0 is)) (Contains-get_or items i item within)

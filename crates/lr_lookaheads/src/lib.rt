@@ -6,14 +6,15 @@ mod edges;
 mod nodes;
 mod reached;
 
-ghost use Rattle.std.specs.Prelude.{◌≡◌, ◌↔◌, ◌<◌, [], None, Contains, IfOk, IfSome, IsTrue, get_or, length};
+ghost use Rattle.std.specs.Prelude.{◌≡◌, ◌↔◌, ◌<◌, ℕ, [], None, Contains, IfOk, IfSome, IsTrue};
+ghost use Rattle.std.specs.Prelude.{get_or, length};
 ghost use Rattle.cfgrammar.specs.Numbered.{core};
 ghost use Rattle.lr_states.specs.Automaton.{AreGotos, HaveTargets};
-ghost use Rattle.lr_states.specs.Viable.{AreStates, IsUsed};
+ghost use Rattle.lr_states.specs.Viable.{AreSorted, AreStates, IsUsed};
 ghost use Rattle.lr_lookaheads.specs.Lookaheads.{AreLookaheads, tokens_of};
 
 use crate::edges::Graph;
-use crate::nodes::Nodes;
+use crate::nodes::{Nodes, place_of_item};
 use crate::reached::Reached;
 use cfgrammar::Vob;
 use cfgrammar::yacc::YaccGrammar;
@@ -103,7 +104,8 @@ impl Lookaheads {
 /// Whether a state has an item.
 #[tactic(auto, using(crate::proofs::Places::any_item))]
 fn has_item(states: &States, state: usize, item: Item) -> bool
+    requires { (q : ℕ) → q < length states.now.states → AreSorted (get_or states.now.states q []) }
     ensures { IsTrue result ↔ ((state < length states.now.states) × Contains (get_or states.now.states state []) item) }
 {
-    state < states.len() && states.items(state).contains(&item)
+    state < states.len() && place_of_item(states.items(state), item).is_some()
 }

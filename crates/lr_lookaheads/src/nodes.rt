@@ -2,7 +2,7 @@
 //! rule in the first state, and then those of each state.
 
 ghost use Rattle.std.specs.Prelude.{◌≡◌, ◌↔◌, ◌+◌, ◌<◌, ◌≤◌, ℕ, [], Some, Contains, IfOk, IfSome, get_or, length};
-ghost use Rattle.std.specs.Prelude.{slice_get};
+ghost use Rattle.std.specs.Prelude.{position, slice_get};
 ghost use Rattle.cfgrammar.specs.Grammar.{Grammar};
 ghost use Rattle.cfgrammar.specs.Numbered.{core};
 ghost use Rattle.cfgrammar.specs.NumberedSymbols.{sym_of};
@@ -11,9 +11,10 @@ ghost use Rattle.lr_states.specs.Automaton.{AreAscending, HaveTargets};
 ghost use Rattle.lr_states.specs.Viable.{AreSorted};
 ghost use Rattle.lr_states.specs.declared.Item.{Item};
 ghost use Rattle.lr_states.specs.declared.kernels.Target.{Target};
+ghost use Rattle.lr_lookaheads.specs.Lookaheads.{is_item};
 ghost use Rattle.lr_lookaheads.specs.Inner.Graph.{next};
 ghost use Rattle.lr_lookaheads.specs.Inner.Numbers.{AreNumbers, AreOfGrammar, AreReady, IsBlock, IsNode, block_of};
-ghost use Rattle.lr_lookaheads.specs.Inner.Numbers.{item_number, number, numbers_of, place_of_item};
+ghost use Rattle.lr_lookaheads.specs.Inner.Numbers.{is_before, item_number, number, numbers_of};
 ghost use Rattle.lr_lookaheads.specs.Inner.Numbers.{place_of_rule, shown_number};
 
 use cfgrammar::Symbol;
@@ -133,7 +134,7 @@ impl Nodes {
         if item.read == 0 {
             self.next(states, state, self.owners[item.production])
         } else {
-            self.block(state).items + place_of_item(states.items(state), item)
+            self.block(state).items + place_of_item(states.items(state), item).unwrap()
         }
     }
 }
@@ -196,16 +197,24 @@ fn count_next(targets: &[Target], rules: usize) -> usize
     targets.len()
 }
 
-/// The index of an item.
-fn place_of_item(items: &[Item], item: Item) -> usize
-    ensures { result ≡ place_of_item items.now item }
+/// The index of an item, if it is among these.
+pub(crate) fn place_of_item(items: &[Item], item: Item) -> Option<usize>
+    requires { AreSorted items.now }
+    ensures { result ≡ position (is_item item) items.now }
 {
-    for (index, other) in items.iter().enumerate() {
-        if item == *other {
-            return index;
-        }
+    let place = items.partition_point(|other| is_before(*other, item));
+    if place < items.len() && items[place] == item {
+        Some(place)
+    } else {
+        None
     }
-    items.len()
+}
+
+/// Whether the first item comes before the second one in a state.
+fn is_before(a: Item, b: Item) -> bool
+    ensures { result ≡ is_before a b }
+{
+    b.read < a.read || (a.read == b.read && a.production < b.production)
 }
 
 /// The index of the target for a rule.

@@ -1,5 +1,5 @@
 -- The numbers of nodes.
-use Rattle.std.specs.Prelude.{◌≡◌, ◌==◌, ◌↔◌, ◌<◌, ◌≤◌, ◌+◌, ℕ, Bool, cond, List, [], Option, None, Some, Contains, get_or, length, map, position, slice_get}
+use Rattle.std.specs.Prelude.{◌≡◌, ◌==◌, ◌&&◌, ◌||◌, ◌↔◌, ◌<◌, ◌≤◌, ◌+◌, ℕ, Bool, cond, nat_lt, List, [], Option, None, Some, Contains, get_or, length, map, position, slice_get}
 use Rattle.std.specs.List.{position_or_len, range_with_len}
 use Rattle.cfgrammar.specs.Grammar.{Grammar, IsGrammar, Sym, Rule, Token}
 use Rattle.cfgrammar.specs.Openings.{nth_production}
@@ -32,6 +32,10 @@ block_of n q = nth_block n.blocks q
 -- the index of the item
 abbrev pub place_of_item : List Item → Item → ℕ
 place_of_item items item = position_or_len (is_item item) items
+
+-- items in the order of a state
+abbrev pub is_before : Item → Item → Bool
+is_before a b = nat_lt b.read a.read || ((a.read == b.read) && nat_lt a.production b.production)
 
 -- the index of the target for the rule
 abbrev pub place_of_rule : List Target → ℕ → Option ℕ

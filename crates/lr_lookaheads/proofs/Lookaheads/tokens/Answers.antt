@@ -6,6 +6,9 @@ use Rattle.lr_lookaheads.proofs.Ready.{item_low}
 use Rattle.lr_lookaheads.proofs.Whole.{tokens_at}
 use Rattle.lr_lookaheads.proofs.Lookaheads.tokens.Goals as goal
 
+pub has_item-requires : goal.has_item-requires
+has_item-requires c = let (ready, long) = c.self.invariant in let (g, r) = ready in r.states.sorted
+
 pub row-requires : goal.row-requires
 row-requires c =
     let (ready, long) = c.self.invariant in

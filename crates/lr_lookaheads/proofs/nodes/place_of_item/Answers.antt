@@ -1,19 +1,23 @@
-use Rattle.std.proofs.Common.{below_more, arith, length, sym}
-use Rattle.std.proofs.lemmas.List.Sums.{position_or_len_is}
+use Rattle.std.proofs.Common.{◌≡◌, ◌<◌, arith, get_or, length, rules, sym, true≢false, ◌∙◌}
+use Rattle.std.proofs.lemmas.List.Sorted.{IsPartitionPoint-from_clause}
 use Rattle.lr_states.specs.Viable.{item_at}
-use Rattle.lr_lookaheads.specs.Lookaheads.{is_item}
+use Rattle.lr_lookaheads.specs.Inner.Numbers.{is_before}
+use Rattle.lr_lookaheads.proofs.Places.{item_found, item_missing, items_parted, same_item}
 use Rattle.lr_lookaheads.proofs.nodes.place_of_item.Goals as goal
-
-pub loop-index-preserved : goal.loop-index-preserved
-loop-index-preserved c = below_more _ _ c.loop-index.invariant (sym c.if-eq.ensures)
+use Rattle.lr_lookaheads.proofs.nodes.place_of_item.Goals.{else-place-items-via-then-place-items+else-eq, else-place-items-via-else-place-items}
 
 pub returns-then-eq : goal.returns-then-eq
-returns-then-eq c =
-    let all = c.args.items.now in
-    sym (position_or_len_is (is_item c.args.item) all c.loop-index.index (item_at 0 0) (let lt = c.loop-index-test.true in omega (arith, lt)) c.loop-index.invariant (λ within. sym c.if-eq.ensures))
+returns-then-eq c = item_found c.args.items.now c.requires c.args.item c.partition_point-place.result (item_at 0 0) c.if-place-items.true
+    ((same_item (get_or c.args.items.now c.partition_point-place.result (item_at 0 0)) c.args.item).0 (sym c.eq.ensures ∙ c.if-eq.true))
 
-pub returns : goal.returns
-returns c =
+pub returns-else-place-items : goal.returns-else-place-items
+returns-else-place-items c =
     let all = c.args.items.now in
-    sym (position_or_len_is (is_item c.args.item) all (length all) (item_at 0 0) (omega arith)
-    (λ k low. c.loop-index.invariant k (let past = c.loop-index-test.false in omega (arith, low, past))) (λ within. absurd (omega (arith, within))))
+    let place = c.partition_point-place.result in
+    let point = IsPartitionPoint-from_clause (λ other. is_before other c.args.item) _ _ c.partition_point-place.ensures.partitioned (items_parted all c.requires c.args.item)
+    (λ a r q k. search rules) in
+    let none : place < length all → get_or all place (item_at 0 0) ≡ c.args.item → ⊥ = elim c.else-place-items.branch [
+      | else-place-items-via-then-place-items+else-eq w ↦ λ within is. true≢false (sym ((same_item (get_or all place (item_at 0 0)) c.args.item).1 is) ∙ sym w.eq.ensures ∙ w.if-eq.false)
+      | else-place-items-via-else-place-items w ↦ λ within same. let past = w.if-place-items.false in omega (arith, within, past)
+    ] in
+    item_missing all c.requires c.args.item place point (item_at 0 0) none
