@@ -33,7 +33,7 @@ def findings_of(t, tree, grammar, is_printed):
     found = (unused(tree) + shadowed(tree) + unproductive(tree, grammar) + useless(grammar) + cycles(grammar, is_printed) + repeats(grammar)
              + idle(tree) + declared_again(tree) + overridden(tree) + glued(t, tree) + needless(tree, grammar) + escapes(tree)
              + implicitly_empty(t, tree) + [Finding(*it) for it in conflict_findings(tree)] + undefined_precedences(tree)
-             + missing_empty(t, tree) + swallowed(tree) + unknown_keys(t))
+             + missing_empty(t, tree) + swallowed(tree) + unknown_keys(t) + unknown_references(t, tree))
     return sorted(found, key=lambda finding: finding.spans[0][0])
 
 
@@ -244,3 +244,33 @@ def unknown_keys(t):
     return [Finding('UnknownKey', [span], "Unknown key '%s' in the section" % key,
                     nearest(key, KEYS) or "the keys are 'yacckind', 'recoverer' and 'test_files'")
             for key, (span, _) in values.items() if key not in KEYS and not errors]
+
+
+def references(code):
+    """The references of an action's code: where each begins, and its number."""
+    skipped = rb'//[^\n]*|/\*(?:(?!\*/).)*(?:\*/)?|"(?:\\.|[^"\\])*["\\]?|\'(?:\\.|[^\'\\])*[\'\\]?'
+    found = re.finditer(skipped + rb'|(?P<sign>[$@])(?=(?:<[^>]*>)?(?P<number>[0-9]+))|.', code, re.S)
+    return [(it.start(), min(int(it['number']), 2 ** 64 - 1)) for it in found if it['sign']]
+
+
+def unknown_references(t, tree):
+    """Actions that refer to symbols which don't come before them."""
+    inner = {name: place for p in tree.productions for place, (is_token, name, _) in reversed([*enumerate(p.symbols)])
+             if not is_token and name.startswith('$@')}
+    rules = {index: name for name, rule in tree.rules.items() for index in rule.productions}
+    found = []
+    for index, p in enumerate(tree.productions):
+        if p.action is None:
+            continue
+        limit = inner.get(rules[index], len(p.symbols))
+        code, span = p.action
+        code = code if isinstance(code, bytes) else code.encode()
+        for offset, number in references(code):
+            if number > limit:
+                start = span[0] + re.match(rb'[ \t-\r]*', t[span[0]:]).end() + offset
+                sign = chr(code[offset])
+                last = "the last symbol before it is '%s%d'" % (sign, limit) if limit else 'no symbol is before it'
+                found.append(Finding('UnknownReference', [(start, start + 1)],
+                                     "Unknown reference '%s%d': %s" % (sign, number, last)))
+                break
+    return found

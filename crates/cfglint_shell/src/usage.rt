@@ -81,6 +81,7 @@ and the others are warnings. If a finding is given to several of these options, 
   missing-empty           an empty production without %empty, which others have
   swallowed-rule          a rule whose type goes on to the type of the next one
   unknown-key             a key of a section that nothing looks for
+  unknown-reference       an action's $6 or @6 where fewer symbols come before it: an error
 
 --kind=KIND is --kind KIND, and so on.
 
@@ -348,5 +349,6 @@ const FINDINGS: [&str; 25] = [
     "missing-empty",
     "swallowed-rule",
     "unknown-key",
+    "unknown-reference",
     "all",
 ];

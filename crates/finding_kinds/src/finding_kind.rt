@@ -56,10 +56,12 @@ pub enum FindingKind {
     SwallowedRule,
     /// The section of a file has the key, which nothing that reads grammars looks for.
     UnknownKey,
+    /// The action refers to a symbol that doesn't come before it, as `$6` where there are three.
+    UnknownReference,
 }
 
 /// The kinds, in order.
-pub(crate) const KINDS: [FindingKind; 24] = [
+pub(crate) const KINDS: [FindingKind; 25] = [
     FindingKind::UnusedRule,
     FindingKind::UnusedToken,
     FindingKind::ShadowedRule,
@@ -84,6 +86,7 @@ pub(crate) const KINDS: [FindingKind; 24] = [
     FindingKind::MissingEmpty,
     FindingKind::SwallowedRule,
     FindingKind::UnknownKey,
+    FindingKind::UnknownReference,
 ];
 
 impl FindingKind {
@@ -123,6 +126,7 @@ impl FindingKind {
             FindingKind::MissingEmpty => "missing-empty",
             FindingKind::SwallowedRule => "swallowed-rule",
             FindingKind::UnknownKey => "unknown-key",
+            FindingKind::UnknownReference => "unknown-reference",
         }
     }
 

@@ -9,3 +9,4 @@ pub mod Empty
 pub mod Named
 pub mod Swallowed
 pub mod Keys
+pub mod References

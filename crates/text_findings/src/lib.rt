@@ -9,6 +9,7 @@ mod glued;
 mod keys;
 mod named;
 mod precedences;
+mod references;
 pub mod reporter;
 mod swallowed;
 mod words;
