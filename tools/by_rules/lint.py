@@ -75,6 +75,7 @@ and the others are warnings. If a finding is given to several of these options, 
   swallowed-rule          a rule whose type goes on to the type of the next one
   unknown-key             a key of a section that nothing looks for
   unknown-reference       an action's $6 or @6 where fewer symbols come before it: an error
+  misspelled-define       a %define whose variable or value is near to one that Bison knows
 
 --kind=KIND is --kind KIND, and so on.
 
@@ -90,7 +91,7 @@ FINDINGS = ('unused-rule', 'unused-token', 'shadowed-rule', 'start-without-sente
             'unusable-production', 'useless-symbol', 'cyclic-rule', 'repeated-production', 'unused-precedence',
             'repeated-token', 'overridden-precedence', 'glued-keyword', 'needless-expect-unused', 'escaped-token', 'implicit-empty',
             'shift-reduce', 'reduce-reduce', 'unmet-expect', 'undefined-precedence', 'missing-empty', 'swallowed-rule', 'unknown-key',
-            'unknown-reference')
+            'unknown-reference', 'misspelled-define')
 RULES = (*FINDINGS,
          'illegal-integer', 'illegal-name', 'illegal-string', 'incomplete-rule', 'incomplete-comment',
          'incomplete-action', 'missing-colon', 'missing-right-arrow', 'mismatched-brace', 'non-empty-production',

@@ -73,6 +73,7 @@ const LOG_START: &str =
 {\"id\":\"swallowed-rule\"},
 {\"id\":\"unknown-key\"},
 {\"id\":\"unknown-reference\"},
+{\"id\":\"misspelled-define\"},
 {\"id\":\"illegal-integer\"},
 {\"id\":\"illegal-name\"},
 {\"id\":\"illegal-string\"},

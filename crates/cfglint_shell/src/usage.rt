@@ -82,6 +82,7 @@ and the others are warnings. If a finding is given to several of these options, 
   swallowed-rule          a rule whose type goes on to the type of the next one
   unknown-key             a key of a section that nothing looks for
   unknown-reference       an action's $6 or @6 where fewer symbols come before it: an error
+  misspelled-define       a %define whose variable or value is near to one that Bison knows
 
 --kind=KIND is --kind KIND, and so on.
 
@@ -324,7 +325,7 @@ const UNITS: [&str; 3] = ["bytes", "characters", "display"];
 const COLOR_CHOICES: [&str; 3] = ["auto", "always", "never"];
 
 /// The values of `--allow`, `--warn` and `--deny`.
-const FINDINGS: [&str; 25] = [
+const FINDINGS: [&str; 27] = [
     "unused-rule",
     "unused-token",
     "shadowed-rule",
@@ -350,5 +351,6 @@ const FINDINGS: [&str; 25] = [
     "swallowed-rule",
     "unknown-key",
     "unknown-reference",
+    "misspelled-define",
     "all",
 ];

@@ -58,10 +58,12 @@ pub enum FindingKind {
     UnknownKey,
     /// The action refers to a symbol that doesn't come before it, as `$6` where there are three.
     UnknownReference,
+    /// A `%define` of a Bison file has a variable or a value that is unknown, but near to a known one.
+    MisspelledDefine,
 }
 
 /// The kinds, in order.
-pub(crate) const KINDS: [FindingKind; 25] = [
+pub(crate) const KINDS: [FindingKind; 26] = [
     FindingKind::UnusedRule,
     FindingKind::UnusedToken,
     FindingKind::ShadowedRule,
@@ -87,6 +89,7 @@ pub(crate) const KINDS: [FindingKind; 25] = [
     FindingKind::SwallowedRule,
     FindingKind::UnknownKey,
     FindingKind::UnknownReference,
+    FindingKind::MisspelledDefine,
 ];
 
 impl FindingKind {
@@ -127,6 +130,7 @@ impl FindingKind {
             FindingKind::SwallowedRule => "swallowed-rule",
             FindingKind::UnknownKey => "unknown-key",
             FindingKind::UnknownReference => "unknown-reference",
+            FindingKind::MisspelledDefine => "misspelled-define",
         }
     }
 
