@@ -1,6 +1,7 @@
 """The issues of a file without errors: "Findings"."""
 import re
 
+from .bison_words import Scanner
 from .conflict_findings import conflict_findings
 from .costs import Costs
 from .cycles import Cycles
@@ -25,6 +26,17 @@ class Finding:
 KEYWORDS = (b'%token', b'%left', b'%right', b'%nonassoc', b'%avoid_insert', b'%implicit_tokens')
 # the keys of a section that programs look for
 KEYS = ('yacckind', 'recoverer', 'test_files')
+# the variables of %define, and the values of those whose values are words
+VARIABLES = ('api.filename.type', 'api.header.include', 'api.location.file', 'api.location.include', 'api.location.type',
+             'api.namespace', 'api.package', 'api.parser.abstract', 'api.parser.annotations', 'api.parser.class', 'api.parser.extends',
+             'api.parser.final', 'api.parser.implements', 'api.parser.public', 'api.parser.strictfp', 'api.position.file',
+             'api.position.type', 'api.prefix', 'api.pure', 'api.push-pull', 'api.symbol.prefix', 'api.token.constructor',
+             'api.token.prefix', 'api.token.raw', 'api.value.automove', 'api.value.type', 'api.value.union.name',
+             'lr.default-reduction', 'lr.default-reductions', 'lr.keep-unreachable-state', 'lr.keep-unreachable-states', 'lr.type',
+             'parse.assert', 'parse.error', 'parse.lac', 'parse.lac.es-capacity-initial', 'parse.lac.memory-trace', 'parse.trace')
+VALUES = {'parse.error': ('custom', 'detailed', 'simple', 'verbose'), 'parse.lac': ('none', 'full'),
+          'lr.type': ('lalr', 'ielr', 'canonical-lr'), 'lr.default-reduction': ('most', 'consistent', 'accepting'),
+          'api.push-pull': ('pull', 'push', 'both'), 'api.value.type': ('union', 'union-directive', 'variant')}
 
 
 def findings_of(t, tree, grammar, is_printed):
@@ -33,7 +45,8 @@ def findings_of(t, tree, grammar, is_printed):
     found = (unused(tree) + shadowed(tree) + unproductive(tree, grammar) + useless(grammar) + cycles(grammar, is_printed) + repeats(grammar)
              + idle(tree) + declared_again(tree) + overridden(tree) + glued(t, tree) + needless(tree, grammar) + escapes(tree)
              + implicitly_empty(t, tree) + [Finding(*it) for it in conflict_findings(tree)] + undefined_precedences(tree)
-             + missing_empty(t, tree) + swallowed(tree) + unknown_keys(t))
+             + missing_empty(t, tree) + swallowed(tree) + unknown_keys(t) + unknown_references(t, tree)
+             + misspelled_defines(t))
     return sorted(found, key=lambda finding: finding.spans[0][0])
 
 
@@ -244,3 +257,48 @@ def unknown_keys(t):
     return [Finding('UnknownKey', [span], "Unknown key '%s' in the section" % key,
                     nearest(key, KEYS) or "the keys are 'yacckind', 'recoverer' and 'test_files'")
             for key, (span, _) in values.items() if key not in KEYS and not errors]
+
+
+def references(code):
+    """The references of an action's code: where each begins, and its number."""
+    skipped = rb'//[^\n]*|/\*(?:(?!\*/).)*(?:\*/)?|"(?:\\.|[^"\\])*["\\]?|\'(?:\\.|[^\'\\])*[\'\\]?'
+    found = re.finditer(skipped + rb'|(?P<sign>[$@])(?=(?:<[^>]*>)?(?P<number>[0-9]+))|.', code, re.S)
+    return [(it.start(), min(int(it['number']), 2 ** 64 - 1)) for it in found if it['sign']]
+
+
+def unknown_references(t, tree):
+    """Actions that refer to symbols which don't come before them."""
+    inner = {name: place for p in tree.productions for place, (is_token, name, _) in reversed([*enumerate(p.symbols)])
+             if not is_token and name.startswith('$@')}
+    rules = {index: name for name, rule in tree.rules.items() for index in rule.productions}
+    found = []
+    for index, p in enumerate(tree.productions):
+        if p.action is None:
+            continue
+        limit = inner.get(rules[index], len(p.symbols))
+        code, span = p.action
+        code = code if isinstance(code, bytes) else code.encode()
+        for offset, number in references(code):
+            if number > limit:
+                start = span[0] + re.match(rb'[ \t-\r]*', t[span[0]:]).end() + offset
+                sign = chr(code[offset])
+                last = "the last symbol before it is '%s%d'" % (sign, limit) if limit else 'no symbol is before it'
+                found.append(Finding('UnknownReference', [(start, start + 1)],
+                                     "Unknown reference '%s%d': %s" % (sign, number, last)))
+                break
+    return found
+
+
+def misspelled_defines(t):
+    """Each `%define` with a variable, or else a value, that Bison doesn't know, but near to one that it knows."""
+    words, found = Scanner(t).read().words, []
+    for index, word in enumerate(words):
+        if word.kind != '%define' or words[index + 1].kind != 'identifier':
+            continue
+        variable, wrong, names = words[index + 1].value, words[index + 1], VARIABLES
+        if variable in VARIABLES:
+            wrong, names = words[index + 2], VALUES.get(variable, ())
+        note = nearest(wrong.value, names) if wrong.kind == 'identifier' and wrong.value not in names else None
+        if note:
+            found.append(Finding('MisspelledDefine', [wrong.span], "Misspelled %%define: '%s' is unknown" % wrong.value, note))
+    return found

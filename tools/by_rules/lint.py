@@ -74,6 +74,8 @@ and the others are warnings. If a finding is given to several of these options, 
   missing-empty           an empty production without %empty, which others have
   swallowed-rule          a rule whose type goes on to the type of the next one
   unknown-key             a key of a section that nothing looks for
+  unknown-reference       an action's $6 or @6 where fewer symbols come before it: an error
+  misspelled-define       a %define whose variable or value is near to one that Bison knows
 
 --kind=KIND is --kind KIND, and so on.
 
@@ -88,7 +90,8 @@ SAME = {'yacc': 'bison'}
 FINDINGS = ('unused-rule', 'unused-token', 'shadowed-rule', 'start-without-sentence', 'no-sentence', 'unusable-rule',
             'unusable-production', 'useless-symbol', 'cyclic-rule', 'repeated-production', 'unused-precedence',
             'repeated-token', 'overridden-precedence', 'glued-keyword', 'needless-expect-unused', 'escaped-token', 'implicit-empty',
-            'shift-reduce', 'reduce-reduce', 'unmet-expect', 'undefined-precedence', 'missing-empty', 'swallowed-rule', 'unknown-key')
+            'shift-reduce', 'reduce-reduce', 'unmet-expect', 'undefined-precedence', 'missing-empty', 'swallowed-rule', 'unknown-key',
+            'unknown-reference', 'misspelled-define')
 RULES = (*FINDINGS,
          'illegal-integer', 'illegal-name', 'illegal-string', 'incomplete-rule', 'incomplete-comment',
          'incomplete-action', 'missing-colon', 'missing-right-arrow', 'mismatched-brace', 'non-empty-production',
@@ -101,7 +104,7 @@ RULES = (*FINDINGS,
          'section-duplicate-entry', 'section-invalid-entry', 'section-conversion')
 RULES = tuple(dict.fromkeys((*RULES, *(word for _, word in TEXTS.values()), 'unreadable-file', 'invalid-encoding')))
 ALLOWED = ('unusable-rule', 'unusable-production', 'useless-symbol', 'escaped-token', 'implicit-empty')
-DENIED = ('start-without-sentence', 'unmet-expect')
+DENIED = ('start-without-sentence', 'unmet-expect', 'unknown-reference')
 LEVELS = {'--allow': None, '--warn': 'warning', '--deny': 'error'}
 VALIDATION = ('NoStartRule', 'InvalidStartRule', 'UnknownRuleRef', 'UnknownToken', 'NoPrecForToken', 'UnknownEPP')
 WORDS = {'UnknownRuleRef': 'unknown-rule', 'NoPrecForToken': 'no-precedence', 'MissingGrmtoolsSection': 'missing-section',

@@ -16,7 +16,7 @@ CHARACTERS = ('é', 'ß', '日', '♠', '𝄞', '🂡', '\u0085', '\u00a0', '\u2
 NUMBERS = ('0', '1', '42', '18446744073709551615', '18446744073709551616', '007')
 SECTIONS = ('%grmtools', '%grmtools {', 'yacckind', 'YaccKind::', 'Original', '(NoAction)', '(YaccOriginalActionKind::UserAction)',
             'Grmtools', 'Eco', 'a: ', 'b, ', '!c', '"t"', '[x, 1]', '}', '"\\"')
-ACTIONS = ('{}', '{ a }', '{ { } }', '{é}', "{ '}' }", '{ // \n }', '{')
+ACTIONS = ('{}', '{ a }', '{ { } }', '{é}', "{ '}' }", '{ // \n }', '{ $2 + $lexer }', "{'\"' $1}", '{')
 LONGEST = 1500
 
 

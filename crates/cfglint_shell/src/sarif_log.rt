@@ -72,6 +72,8 @@ const LOG_START: &str =
 {\"id\":\"missing-empty\"},
 {\"id\":\"swallowed-rule\"},
 {\"id\":\"unknown-key\"},
+{\"id\":\"unknown-reference\"},
+{\"id\":\"misspelled-define\"},
 {\"id\":\"illegal-integer\"},
 {\"id\":\"illegal-name\"},
 {\"id\":\"illegal-string\"},

@@ -81,6 +81,8 @@ and the others are warnings. If a finding is given to several of these options, 
   missing-empty           an empty production without %empty, which others have
   swallowed-rule          a rule whose type goes on to the type of the next one
   unknown-key             a key of a section that nothing looks for
+  unknown-reference       an action's $6 or @6 where fewer symbols come before it: an error
+  misspelled-define       a %define whose variable or value is near to one that Bison knows
 
 --kind=KIND is --kind KIND, and so on.
 
@@ -323,7 +325,7 @@ const UNITS: [&str; 3] = ["bytes", "characters", "display"];
 const COLOR_CHOICES: [&str; 3] = ["auto", "always", "never"];
 
 /// The values of `--allow`, `--warn` and `--deny`.
-const FINDINGS: [&str; 25] = [
+const FINDINGS: [&str; 27] = [
     "unused-rule",
     "unused-token",
     "shadowed-rule",
@@ -348,5 +350,7 @@ const FINDINGS: [&str; 25] = [
     "missing-empty",
     "swallowed-rule",
     "unknown-key",
+    "unknown-reference",
+    "misspelled-define",
     "all",
 ];

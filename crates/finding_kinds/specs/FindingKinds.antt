@@ -3,7 +3,7 @@ use Rattle.std.specs.Prelude.{ℕ, ◌==◌, List, [], ◌∷◌, Option, if◌t
 use Rattle.std.specs.List.{find}
 use Rattle.std.specs.Str.{bytes_eq}
 use Rattle.finding_kinds.specs.declared.finding_kind.FindingKind.{FindingKind}
-use Rattle.finding_kinds.specs.declared.finding_kind.FindingKind.TheVariants.{UnusedRule, UnusedToken, ShadowedRule, StartWithoutSentence, NoSentence, UnusableRule, UnusableProduction, UselessSymbol, CyclicRule, RepeatedProduction, UnusedPrecedence, RepeatedToken, OverriddenPrecedence, GluedKeyword, NeedlessExpectUnused, EscapedToken, ImplicitEmpty, ShiftReduce, ReduceReduce, UnmetExpect, UndefinedPrecedence, MissingEmpty, SwallowedRule, UnknownKey}
+use Rattle.finding_kinds.specs.declared.finding_kind.FindingKind.TheVariants.{UnusedRule, UnusedToken, ShadowedRule, StartWithoutSentence, NoSentence, UnusableRule, UnusableProduction, UselessSymbol, CyclicRule, RepeatedProduction, UnusedPrecedence, RepeatedToken, OverriddenPrecedence, GluedKeyword, NeedlessExpectUnused, EscapedToken, ImplicitEmpty, ShiftReduce, ReduceReduce, UnmetExpect, UndefinedPrecedence, MissingEmpty, SwallowedRule, UnknownKey, UnknownReference, MisspelledDefine}
 use Rattle.finding_kinds.specs.declared.levels.Level.{Level}
 use Rattle.finding_kinds.specs.declared.levels.Level.TheVariants.{Allow, Warn, Deny}
 use Rattle.finding_kinds.specs.declared.levels.Levels.{Levels}
@@ -34,13 +34,15 @@ word_of UndefinedPrecedence = codes "undefined-precedence"
 word_of MissingEmpty = codes "missing-empty"
 word_of SwallowedRule = codes "swallowed-rule"
 word_of UnknownKey = codes "unknown-key"
+word_of UnknownReference = codes "unknown-reference"
+word_of MisspelledDefine = codes "misspelled-define"
 
 -- the kinds, in order
 abbrev pub kinds : List FindingKind
 kinds = UnusedRule ∷ UnusedToken ∷ ShadowedRule ∷ StartWithoutSentence ∷ NoSentence ∷ UnusableRule ∷ UnusableProduction
     ∷ UselessSymbol ∷ CyclicRule ∷ RepeatedProduction ∷ UnusedPrecedence ∷ RepeatedToken ∷ OverriddenPrecedence
     ∷ GluedKeyword ∷ NeedlessExpectUnused ∷ EscapedToken ∷ ImplicitEmpty ∷ ShiftReduce ∷ ReduceReduce ∷ UnmetExpect
-    ∷ UndefinedPrecedence ∷ MissingEmpty ∷ SwallowedRule ∷ UnknownKey ∷ []
+    ∷ UndefinedPrecedence ∷ MissingEmpty ∷ SwallowedRule ∷ UnknownKey ∷ UnknownReference ∷ MisspelledDefine ∷ []
 
 -- the kind that a word names
 abbrev pub finding_named : List ℕ → Option FindingKind
@@ -72,9 +74,12 @@ number UndefinedPrecedence = 20
 number MissingEmpty = 21
 number SwallowedRule = 22
 number UnknownKey = 23
+number UnknownReference = 24
+number MisspelledDefine = 25
 
--- A start rule without a sentence and an expectation that isn't met are errors, and every other finding is a warning, except for two groups
--- that aren't reported: those that only follow from a rule without a sentence, and those about a style that many files have.
+-- A start rule without a sentence, an expectation that isn't met and a reference to no symbol are errors, and every other finding is a
+-- warning, except for two groups that aren't reported: those that only follow from a rule without a sentence, and those about a style that
+-- many files have.
 abbrev pub default_level : FindingKind → Level
 default_level StartWithoutSentence = Deny
 default_level UnusableRule = Allow
@@ -83,6 +88,7 @@ default_level UselessSymbol = Allow
 default_level EscapedToken = Allow
 default_level ImplicitEmpty = Allow
 default_level UnmetExpect = Deny
+default_level UnknownReference = Deny
 default_level _ = Warn
 
 abbrev pub default_levels : Levels

@@ -56,10 +56,14 @@ pub enum FindingKind {
     SwallowedRule,
     /// The section of a file has the key, which nothing that reads grammars looks for.
     UnknownKey,
+    /// The action refers to a symbol that doesn't come before it, as `$6` where there are three.
+    UnknownReference,
+    /// A `%define` of a Bison file has a variable or a value that is unknown, but near to a known one.
+    MisspelledDefine,
 }
 
 /// The kinds, in order.
-pub(crate) const KINDS: [FindingKind; 24] = [
+pub(crate) const KINDS: [FindingKind; 26] = [
     FindingKind::UnusedRule,
     FindingKind::UnusedToken,
     FindingKind::ShadowedRule,
@@ -84,6 +88,8 @@ pub(crate) const KINDS: [FindingKind; 24] = [
     FindingKind::MissingEmpty,
     FindingKind::SwallowedRule,
     FindingKind::UnknownKey,
+    FindingKind::UnknownReference,
+    FindingKind::MisspelledDefine,
 ];
 
 impl FindingKind {
@@ -123,6 +129,8 @@ impl FindingKind {
             FindingKind::MissingEmpty => "missing-empty",
             FindingKind::SwallowedRule => "swallowed-rule",
             FindingKind::UnknownKey => "unknown-key",
+            FindingKind::UnknownReference => "unknown-reference",
+            FindingKind::MisspelledDefine => "misspelled-define",
         }
     }
 

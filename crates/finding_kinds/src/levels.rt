@@ -19,13 +19,13 @@ pub enum Level {
 /// The level of each kind of finding.
 #[derive(Clone, Copy, Debug)]
 pub struct Levels {
-    by_kind: [Level; 24],
+    by_kind: [Level; 26],
 }
 
 impl Levels {
-    /// A start rule without a sentence and an expectation that isn't met are errors, and every other finding is a
-    /// warning, except for two groups that aren't reported: those that only follow from a rule without a sentence, and
-    /// those about a style that many files have.
+    /// A start rule without a sentence, an expectation that isn't met and a reference to no symbol are errors, and every
+    /// other finding is a warning, except for two groups that aren't reported: those that only follow from a rule
+    /// without a sentence, and those about a style that many files have.
     pub fn new() -> Self
         ensures { result ≡ default_levels }
     {
@@ -37,6 +37,7 @@ impl Levels {
         levels.set(FindingKind::EscapedToken, Level::Allow);
         levels.set(FindingKind::ImplicitEmpty, Level::Allow);
         levels.set(FindingKind::UnmetExpect, Level::Deny);
+        levels.set(FindingKind::UnknownReference, Level::Deny);
         levels
     }
 
@@ -45,7 +46,7 @@ impl Levels {
         ensures { result ≡ all_levels level }
     {
         Levels {
-            by_kind: [level; 24],
+            by_kind: [level; 26],
         }
     }
 

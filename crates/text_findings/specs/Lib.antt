@@ -9,3 +9,5 @@ pub mod Empty
 pub mod Named
 pub mod Swallowed
 pub mod Keys
+pub mod References
+pub mod Defines

@@ -156,7 +156,7 @@ fn is_of_action(ast: &GrammarAST, number: usize) -> bool
 }
 
 /// The name of the rule of the production with this number.
-fn rule_name_at(ast: &GrammarAST, number: usize) -> Option<&str>
+pub(crate) fn rule_name_at(ast: &GrammarAST, number: usize) -> Option<&str>
     ensures { option_map (λ name. name.now) result ≡ rule_name_at (syntax ast.now) number }
 {
     let Some(rule) = ast.prods_rules().get(number) else {
@@ -169,7 +169,7 @@ fn rule_name_at(ast: &GrammarAST, number: usize) -> Option<&str>
 }
 
 /// Whether a rule with this name is that of an action inside of a production.
-fn is_action_name(name: &str) -> bool
+pub(crate) fn is_action_name(name: &str) -> bool
     ensures { result ≡ is_action_name name.now }
 {
     name.as_bytes().starts_with(b"$@")

@@ -4,16 +4,18 @@ ghost use Rattle.std.specs.Prelude.{◌≡◌, ◌++◌, OnOk};
 ghost use Rattle.cfgrammar.specs.TreeView.{syntax};
 ghost use Rattle.text_findings.specs.File.{AreFileFindings};
 
+use crate::defines::push_misspelled_defines;
 use crate::empty::push_missing_empty;
 use crate::finding::Finding;
 use crate::keys::push_unknown_keys;
 use crate::precedences::push_undefined_precedences;
+use crate::references::push_unknown_references;
 use crate::swallowed::push_swallowed;
 use cfgrammar::yacc::ast::GrammarAST;
 use std::alloc::{AllocError, Global};
 
 /// Adds what a file seems to lack to the findings: precedences of tokens that a `%prec` names, `%empty`, the `:` after a
-/// rule's type, and what makes a key of its section known.
+/// rule's type, what makes a key of its section or a `%define` known, and symbols before an action that refers to them.
 ///
 /// # Errors
 ///
@@ -30,5 +32,7 @@ pub fn push_file_findings(
     push_undefined_precedences(alloc, all, ast)?;
     push_missing_empty(alloc, all, text, ast)?;
     push_swallowed(alloc, all, ast)?;
-    push_unknown_keys(alloc, all, text)
+    push_unknown_keys(alloc, all, text)?;
+    push_unknown_references(alloc, all, text, ast)?;
+    push_misspelled_defines(alloc, all, text)
 }

@@ -1,6 +1,7 @@
 //! Findings, how they are reported number by number, and those that the text or the tree alone decides.
 #![tactic(auto)]
 
+mod defines;
 mod empty;
 mod escapes;
 mod file;
@@ -9,6 +10,7 @@ mod glued;
 mod keys;
 mod named;
 mod precedences;
+mod references;
 pub mod reporter;
 mod swallowed;
 mod words;

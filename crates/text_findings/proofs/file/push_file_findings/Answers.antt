@@ -3,9 +3,11 @@ use Rattle.std.proofs.lemmas.Result.{on_ok_weaker}
 use Rattle.text_findings.specs.Finding.{ShownFinding}
 use Rattle.text_findings.proofs.file.push_file_findings.Goals as goal
 
-joined : (a0 a1 a2 a3 a4 p e s k : List ShownFinding) → a1 ≡ a0 ++ p → a2 ≡ a1 ++ e → a3 ≡ a2 ++ s → a4 ≡ a3 ++ k → a4 ≡ a0 ++ (p ++ (e ++ (s ++ k)))
-joined a0 a1 a2 a3 a4 p e s k e1 e2 e3 e4 =
-    let all : a4 ≡ (((a0 ++ p) ++ e) ++ s) ++ k = e4 ∙ ap (λ z. z ++ k) (e3 ∙ ap (λ z. z ++ s) (e2 ∙ ap (λ z. z ++ e) e1)) in
+joined : (a0 a1 a2 a3 a4 a5 a6 p e s k r d : List ShownFinding) → a1 ≡ a0 ++ p → a2 ≡ a1 ++ e → a3 ≡ a2 ++ s → a4 ≡ a3 ++ k → a5 ≡ a4 ++ r
+    → a6 ≡ a5 ++ d → a6 ≡ a0 ++ (p ++ (e ++ (s ++ (k ++ (r ++ d)))))
+joined a0 a1 a2 a3 a4 a5 a6 p e s k r d e1 e2 e3 e4 e5 e6 =
+    let all : a6 ≡ (((((a0 ++ p) ++ e) ++ s) ++ k) ++ r) ++ d =
+    e6 ∙ ap (λ z. z ++ d) (e5 ∙ ap (λ z. z ++ r) (e4 ∙ ap (λ z. z ++ k) (e3 ∙ ap (λ z. z ++ s) (e2 ∙ ap (λ z. z ++ e) e1)))) in
     all ∙ simp append_assoc
 
 pub returns : goal.returns
@@ -13,21 +15,28 @@ returns c =
     let (precedences, are_precedences, precedences_is) = c.in_ok-push_undefined_precedences.ensures in
     let (empty, are_empty, empty_is) = c.in_ok-push_missing_empty.ensures in
     let (swallowed, are_swallowed, swallowed_is) = c.in_ok-push_swallowed.ensures in
-    on_ok_weaker c.push_unknown_keys.result
+    let (keys, are_keys, keys_is) = c.in_ok-push_unknown_keys.ensures in
+    let (references, are_references, references_is) = c.in_ok-push_unknown_references.ensures in
+    on_ok_weaker c.push_misspelled_defines.result
     (λ h. (
-      precedences ++ (empty ++ (swallowed ++ h.0)),
+      precedences ++ (empty ++ (swallowed ++ (keys ++ (references ++ h.0)))),
       record {
         precedences = precedences;
         empty = empty;
         swallowed = swallowed;
-        keys = h.0;
+        keys = keys;
+        references = references;
+        defines = h.0;
         are_precedences = are_precedences;
         are_empty = are_empty;
         are_swallowed = are_swallowed;
-        are_keys = h.1;
+        are_keys = are_keys;
+        are_references = are_references;
+        are_defines = h.1;
         is = refl;
       },
       joined c.args.all.now.items c.push_undefined_precedences.new.all.items c.push_missing_empty.new.all.items c.push_swallowed.new.all.items
-          c.push_unknown_keys.new.all.items precedences empty swallowed h.0 precedences_is empty_is swallowed_is h.2,
+          c.push_unknown_keys.new.all.items c.push_unknown_references.new.all.items c.push_misspelled_defines.new.all.items precedences empty
+          swallowed keys references h.0 precedences_is empty_is swallowed_is keys_is references_is h.2,
     ))
-    c.push_unknown_keys.ensures
+    c.push_misspelled_defines.ensures
