@@ -5,8 +5,8 @@ use Rattle.cfgrammar.specs.Grammar.{Grammar, Sym}
 use Rattle.cfgrammar.specs.Openings.{ArePositionsOf, nth_production}
 use Rattle.cfgrammar.proofs.Contained.{contains_mapped, contains_none, contains_source}
 use Rattle.cfgrammar.proofs.Taken.{contains_taken}
-use Rattle.conflict_examples.specs.declared.Side.{Side}
 use Rattle.conflict_examples.specs.declared.nodes.Node.{Node}
+use Rattle.conflict_examples.specs.declared.nodes.Step.{Step}
 use Rattle.conflict_examples.specs.Inner.Ways.{Finds}
 use Rattle.conflict_examples.proofs.Found.{finds_none, finds_then}
 
@@ -19,29 +19,28 @@ position_is number g rule all are i d within =
     let low = All-contains (λ p. p < length g.productions) (map number all) (number x) are.within among in
     (low, (are.listed (number x) low).0 among)
 
-module _ (g : Grammar) (Used : ℕ → Type 0) (step : ℕ → Sym → Option ℕ) (t : ℕ) where
-  -- by one of these things
-  pub record Among {A : Type 0} (Finds : A → Node → Type 0) (list : List A) (n : Node) : Type 0 where
-    pub thing : A
-    pub among : Contains list thing
-    pub finds : Finds thing n
+-- by one of these things
+pub record Among {A : Type 0} (Finds : A → Node → Type 0) (list : List A) (n : Node) : Type 0 where
+  pub thing : A
+  pub among : Contains list thing
+  pub finds : Finds thing n
 
-  module _ {A : Type 0} (F : A → Node → Type 0) (all : List A) where
-    pub among_none : (es : List (Node × Side)) → Finds g Used step t (Among F (take 0 all)) es es
-    among_none es = finds_none g Used step t (Among F (take 0 all)) es (λ n h. contains_none h.thing h.among)
+module _ (g : Grammar) (Used : ℕ → Type 0) (step : ℕ → Sym → Option ℕ) (t : ℕ) {from : Option Node} {A : Type 0} (F : A → Node → Type 0) (all : List A) where
+  pub among_none : (es : List (Node × Step)) → Finds g Used step t from (Among F (take 0 all)) es es
+  among_none es = finds_none g Used step t (Among F (take 0 all)) es (λ n h. contains_none h.thing h.among)
 
-    pub among_more : (i : ℕ) (x : A) → i < length all → x ≡ get_or all i x → (old mid new : List (Node × Side)) → Finds g Used step t (Among F (take i all)) old mid
-        → Finds g Used step t (F x) mid new → Finds g Used step t (Among F (take (i + 1) all)) old new
-    among_more i x within at old mid new w v = finds_then g Used step t (Among F (take i all)) (F x) (Among F (take (i + 1) all)) old mid new
-        (λ n h. elim ((contains_taken all i x within at h.thing).0 h.among) [
-          | inl before ↦ inl (record { thing = h.thing; among = before; finds = h.finds })
-          | inr same ↦ inr (subst (λ y. F y n) same h.finds)
-        ])
-        w v
+  pub among_more : (i : ℕ) (x : A) → i < length all → x ≡ get_or all i x → (old mid new : List (Node × Step)) → Finds g Used step t from (Among F (take i all)) old mid
+      → Finds g Used step t from (F x) mid new → Finds g Used step t from (Among F (take (i + 1) all)) old new
+  among_more i x within at old mid new w v = finds_then g Used step t (Among F (take i all)) (F x) (Among F (take (i + 1) all)) old mid new
+      (λ n h. elim ((contains_taken all i x within at h.thing).0 h.among) [
+        | inl before ↦ inl (record { thing = h.thing; among = before; finds = h.finds })
+        | inr same ↦ inr (subst (λ y. F y n) same h.finds)
+      ])
+      w v
 
-  -- whatever a rule's productions find, by their numbers
-  pub among_all : {A : Type 0} (number : A → ℕ) (F : ℕ → Node → Type 0) (rule : ℕ) (all : List A) → ArePositionsOf g rule (map number all) → (p : ℕ) → p < length g.productions
-      → (nth_production g p).rule ≡ rule → (n : Node) → F p n → Among (λ x. F (number x)) all n
-  among_all number F rule all are p within own n h =
-      let (x, among, same) = contains_source number all p ((are.listed p within).1 own) in
-      record { thing = x; among = among; finds = subst (λ m. F m n) (sym same) h }
+-- whatever a rule's productions find, by their numbers
+pub among_all : {A : Type 0} (number : A → ℕ) (F : ℕ → Node → Type 0) (g : Grammar) (rule : ℕ) (all : List A) → ArePositionsOf g rule (map number all) → (p : ℕ) → p < length g.productions
+    → (nth_production g p).rule ≡ rule → (n : Node) → F p n → Among (λ x. F (number x)) all n
+among_all number F g rule all are p within own n h =
+    let (x, among, same) = contains_source number all p ((are.listed p within).1 own) in
+    record { thing = x; among = among; finds = subst (λ m. F m n) (sym same) h }

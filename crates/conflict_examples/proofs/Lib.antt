@@ -6,6 +6,7 @@ pub mod Compared
 pub mod Entering
 pub mod Showing
 pub mod Explored
+pub mod Walked
 pub mod Along
 pub mod Places
 pub mod Derived

@@ -11,8 +11,8 @@ use Rattle.cfgrammar.specs.Derivation.{Derives}
 use Rattle.derivation.proofs.Concatenation.{derives_both}
 use Rattle.derivation.proofs.UnitPaths.{empty_in_parts}
 use Rattle.lr_lookaheads.specs.Lookaheads.{HasUsed}
-use Rattle.conflict_examples.specs.declared.Side.{Side}
 use Rattle.conflict_examples.specs.declared.nodes.Node.{Node}
+use Rattle.conflict_examples.specs.declared.nodes.Step.{Step}
 use Rattle.conflict_examples.specs.Inner.Ways.{ByNext, ByShown, Finds}
 use Rattle.conflict_examples.proofs.Found.{finds_as, finds_none, finds_then}
 
@@ -46,7 +46,7 @@ module _ (g : Grammar) (Used : ℕ → Type 0) (step : ℕ → Sym → Option �
   abbrev P : ℕ → List Sym → Type 0
   P = HasUsed g Used
 
-  abbrev All : (Node → Type 0) → List (Node × Side) → List (Node × Side) → Type 0
+  abbrev All : Option Node → (Node → Type 0) → List (Node × Step) → List (Node × Step) → Type 0
   All = Finds g Used step t
 
   -- by one of the first symbols
@@ -59,10 +59,11 @@ module _ (g : Grammar) (Used : ℕ → Type 0) (step : ℕ → Sym → Option �
   abbrev At : ℕ → Node → Type 0
   At i n = ByNext g Used step t q rule n (slice_get list i)
 
-  pub below_none : (es : List (Node × Side)) → All (Below 0) es es
+  pub below_none : {from : Option Node} (es : List (Node × Step)) → All from (Below 0) es es
   below_none es = finds_none g Used step t (Below 0) es (λ n h. let low = h.below in omega (arith, low))
 
-  pub below_more : (i : ℕ) → Derives P (take i list) [] → (old mid new : List (Node × Side)) → All (Below i) old mid → All (At i) mid new → All (Below (i + 1)) old new
+  pub below_more : {from : Option Node} (i : ℕ) → Derives P (take i list) [] → (old mid new : List (Node × Step)) → All from (Below i) old mid → All from (At i) mid new
+      → All from (Below (i + 1)) old new
   below_more i nullable old mid new w v = finds_then g Used step t (Below i) (At i) (Below (i + 1)) old mid new
       (λ n h. elim (cases_lt h.index i) [
         | inl before ↦ inl (record { index = h.index; below = before; nullable = h.nullable; by = h.by })
@@ -76,7 +77,7 @@ module _ (g : Grammar) (Used : ℕ → Type 0) (step : ℕ → Sym → Option �
   none_by : (n : Node) → ByNext g Used step t q rule n None → ⊥
   none_by n h = h
 
-  pub below_all : (i : ℕ) → length list ≤ i → (old new : List (Node × Side)) → All (Below i) old new → All (ByShown g Used step t q rule list) old new
+  pub below_all : {from : Option Node} (i : ℕ) → length list ≤ i → (old new : List (Node × Step)) → All from (Below i) old new → All from (ByShown g Used step t q rule list) old new
   below_all i most old new w = finds_as g Used step t (Below i) (ByShown g Used step t q rule list) old new
       (λ n h. elim (cases_lt h.index (length list)) [
         | inl within ↦ record { index = h.index; below = omega (arith, within, most); nullable = h.nullable; by = h.by }
@@ -106,7 +107,7 @@ module _ (g : Grammar) (Used : ℕ → Type 0) (step : ℕ → Sym → Option �
       not_past index past d = none_after (drop (i + 1) (take index list))
           (subst (λ l. Derives P l []) (sym (ap (λ l. l ++ drop (i + 1) (take index list)) (sym (take_within (i + 1) index list (omega (arith, past)))) ∙ take-append-drop (i + 1) (take index list))) d)
 
-      pub below_stop : (old new : List (Node × Side)) → All (Below (i + 1)) old new → All (ByShown g Used step t q rule list) old new
+      pub below_stop : {from : Option Node} (old new : List (Node × Step)) → All from (Below (i + 1)) old new → All from (ByShown g Used step t q rule list) old new
       below_stop old new w = finds_as g Used step t (Below (i + 1)) (ByShown g Used step t q rule list) old new
           (λ n h. elim (cases_lt i h.index) [
             | inl past ↦ absurd (not_past h.index past h.nullable)

@@ -1,18 +1,17 @@
 -- What sides show: where nodes lead, what is derived there.
-use Rattle.std.proofs.Common.{◌≡◌, ℕ, ◌+◌, List, [], ◌∷◌, ◌++◌, Option, Some, append-nil, append_assoc, take-append-drop, drop, take, refl, sym, ap, subst, ◌∙◌, arith}
+use Rattle.std.proofs.Common.{◌≡◌, ℕ, ◌+◌, List, [], ◌∷◌, ◌++◌, Option, Some, append-nil, append_assoc, take-append-drop, drop, map, take, refl, sym, ap, subst, ◌∙◌, arith}
 use Rattle.cfgrammar.specs.Grammar.{Grammar, Sym, Rule}
 use Rattle.cfgrammar.specs.Derivation.{Derives, none}
+use Rattle.cfgrammar.specs.NumberedSymbols.{sym_of}
 use Rattle.cfgrammar.specs.Openings.{nth_production}
 use Rattle.derivation.proofs.Concatenation.{derives_left, derives_production, derives_right, derives_trans}
 use Rattle.lr_states.specs.declared.Item.{Item}
 use Rattle.lr_states.specs.Viable.{HasNext, item_at}
 use Rattle.lr_states.proofs.Spines.{more_read, split_at, within_at}
 use Rattle.lr_lookaheads.specs.Lookaheads.{HasUsed}
-use Rattle.conflict_examples.specs.declared.Side.{Side}
-use Rattle.conflict_examples.specs.declared.nodes.Node.{Node}
-use Rattle.conflict_examples.specs.declared.nodes.Node.TheVariants as nodes
-use Rattle.conflict_examples.specs.Examples.{BeginsAt, prefix_of, rest_of}
-use Rattle.conflict_examples.specs.Inner.Ways.{IsOpen, IsRead, Shown, back_of}
+use Rattle.conflict_examples.specs.declared.nodes.Step.{Step}
+use Rattle.conflict_examples.specs.declared.nodes.Step.TheVariants as steps
+use Rattle.conflict_examples.specs.Inner.Ways.{EachMade, IsOpen, IsRead, back_of}
 use Rattle.conflict_examples.proofs.Runs.{run_more}
 
 module _ (g : Grammar) (Used : ℕ → Type 0) (step : ℕ → Sym → Option ℕ) (t : ℕ) where
@@ -28,9 +27,15 @@ module _ (g : Grammar) (Used : ℕ → Type 0) (step : ℕ → Sym → Option �
   abbrev Read : ℕ → Item → List Sym → List Sym → Type 0
   Read = IsRead g Used step t
 
+  -- what a step makes is also so
+  pub each_as : (s : Step) (P Q : List Sym → List Sym → Type 0) → ((prefix after : List Sym) → P prefix after → Q prefix after) → EachMade g Used step t s P → EachMade g Used step t s Q
+  each_as steps.First P Q to each = to [] [] each
+  each_as (steps.Read n x) P Q to each = λ prefix after h. to (prefix ++ sym_of (λ s. s) x ∷ []) after (each prefix after h)
+  each_as (steps.Open n front) P Q to each = λ prefix after h. to prefix (map (sym_of (λ s. s)) front.now ++ after) (each prefix after h)
+
   -- the start rule itself
-  pub begin_shown : (prefix after : List Sym) → prefix ≡ [] → after ≡ [] → Open 0 0 prefix after
-  begin_shown prefix after front back = subst (λ l. Open 0 0 l after) (sym front) (subst (Open 0 0 []) (sym back) (record { derived = none; leads = refl }))
+  pub begin_shown : Open 0 0 [] []
+  begin_shown = record { derived = none; leads = refl }
 
   -- a used production of the rule, of which nothing is read
   pub entered_shown : (q p rule : ℕ) (prefix after : List Sym) → Used p → (nth_production g p).rule ≡ rule → Open q rule prefix after → Read q (item_at p 0) prefix after
@@ -90,15 +95,3 @@ module _ (g : Grammar) (Used : ℕ → Type 0) (step : ℕ → Sym → Option �
   dropped_shown q rule prefix list rest i nullable o =
       open_derives q rule prefix (take i list) [] (drop i list ++ rest) nullable
       (subst (Open q rule prefix) (ap (λ l. l ++ rest) (sym (take-append-drop i list)) ∙ append_assoc (take i list) (drop i list) rest) o)
-
-  -- a side with the same symbols shows the same
-  pub copy_shown : (n : Node) (one two : Side) → prefix_of two ≡ prefix_of one → rest_of two ≡ rest_of one → Shown g Used step t n one → Shown g Used step t n two
-  copy_shown (nodes.Item x) one two prefix rest w = (
-    subst (λ l. Read x.place x.item l (rest_of two)) (sym prefix) (subst (Read x.place x.item (prefix_of one)) (sym rest) w.0),
-    (λ follows. subst (BeginsAt g t) (sym rest) (w.1 follows)),
-  )
-  copy_shown (nodes.Opened x) one two prefix rest w = (
-    subst (λ l. Open x.place x.rule l (Rule x.first ∷ rest_of two)) (sym prefix) (subst (λ l. Open x.place x.rule (prefix_of one) (Rule x.first ∷ l)) (sym rest) w.0),
-    w.1,
-    w.2,
-  )

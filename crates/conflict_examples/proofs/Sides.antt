@@ -15,23 +15,22 @@ use Rattle.lr_states.proofs.Spines.{within_at}
 use Rattle.conflict_examples.specs.declared.Side.{Side}
 use Rattle.conflict_examples.specs.declared.nodes.ItemAt.{ItemAt}
 use Rattle.conflict_examples.specs.declared.nodes.Node.TheVariants as nodes
-use Rattle.conflict_examples.specs.Examples.{BeginsAt, IsSide, IsStartApart, ends, prefix_of, rest_of, token}
-use Rattle.conflict_examples.specs.Inner.Ways.{IsSideAt, Shown, run}
+use Rattle.conflict_examples.specs.Examples.{BeginsAt, IsSide, IsStartApart, ends, rest_of, token}
+use Rattle.conflict_examples.specs.Inner.Ways.{IsSideAt, IsSideWith}
 use Rattle.conflict_examples.proofs.Derived.{start_alone}
 use Rattle.conflict_examples.proofs.Runs.{none_some}
 
 -- with what isn't read of the item's production
-pub whole_shown : (g : Grammar) (Used : ℕ → Type 0) (step : ℕ → Sym → Option ℕ) (t : ℕ) (x : ItemAt) (side whole : Side) (unread : List Sym)
-    → Shown g Used step t (nodes.Item x) side → unread ≡ drop x.item.read (nth_production g x.item.production).symbols
-    → prefix_of whole ≡ prefix_of side → rest_of whole ≡ unread ++ rest_of side → IsSideAt g Used step t x whole
-whole_shown g Used step t x side whole unread shown left prefix rest =
-    let read = shown.0 in
-    let all = rest ∙ ap (λ l. l ++ rest_of side) left in
+pub whole_shown : (g : Grammar) (Used : ℕ → Type 0) (step : ℕ → Sym → Option ℕ) (t : ℕ) (x : ItemAt) (unread : List Sym) (side : Side)
+    → unread ≡ drop x.item.read (nth_production g x.item.production).symbols → IsSideWith g Used step t (nodes.Item x) unread side → IsSideAt g Used step t x side
+whole_shown g Used step t x unread side left w =
+    let read = w.shown.0 in
+    let all = w.rest ∙ ap (λ l. l ++ w.after) left in
     record {
-      leads = subst (λ l. run step 0 l ≡ Some x.place) (sym prefix) read.leads;
-      is = record { before = read.before; after = rest_of side; derived = read.derived; used = read.used; prefix = prefix ∙ read.is; rest = all };
+      leads = read.leads;
+      is = record { before = read.before; after = w.after; derived = read.derived; used = read.used; prefix = read.is; rest = all };
       follows = λ yes end. subst (BeginsAt g t)
-          (sym (all ∙ ap (λ l. l ++ rest_of side) (drop_all x.item.read (nth_production g x.item.production).symbols (omega (arith, end))))) (shown.1 yes);
+          (sym (all ∙ ap (λ l. l ++ w.after) (drop_all x.item.read (nth_production g x.item.production).symbols (omega (arith, end))))) (w.shown.1 yes);
     }
 
 module _ (g : Grammar) (Used : ℕ → Type 0) (item : Item) (side : Side) (w : IsSide g Used item side) where

@@ -1,6 +1,6 @@
 //! Nodes that ways lead to, and those that were found.
 
-use crate::Side;
+use cfgrammar::Symbol;
 use indexmap::IndexMap;
 use lr_states::Item;
 
@@ -29,5 +29,16 @@ pub(crate) enum Node {
     Opened(OpenedAt),
 }
 
-/// Nodes in the order in which they were found, each with a side that shows it.
-pub(crate) type Found = IndexMap<Node, Side>;
+/// What leads to a node that was found, and what it adds to a side that shows the node it is from.
+#[derive(Clone, Copy)]
+pub(crate) enum Step<'a> {
+    /// A way begins there, with an empty side.
+    First,
+    /// From this node, by reading a symbol, which ends the prefix.
+    Read(Node, Symbol<u32>),
+    /// From this node, by opening a rule after which these symbols come. They begin the rest.
+    Open(Node, &'a [Symbol<u32>]),
+}
+
+/// Nodes in the order in which they were found, each with the last step of a way that leads to it.
+pub(crate) type Found<'a> = IndexMap<Node, Step<'a>>;

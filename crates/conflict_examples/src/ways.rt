@@ -1,21 +1,22 @@
 //! A search for ways that a parser could take to an item.
 
-ghost use Rattle.std.specs.Prelude.{◌≡◌, ◌↔◌, ◌++◌, ◌+◌, ◌∷◌, ◌<◌, [], None, true};
-ghost use Rattle.std.specs.Prelude.{All, IfOk, IfSome, IsTrue, OnOk, drop, length, map, slice_get};
+ghost use Rattle.std.specs.Prelude.{◌≡◌, ◌↔◌, ◌++◌, ◌+◌, ◌∷◌, ◌<◌, ◌≤◌, [], None, Some, true};
+ghost use Rattle.std.specs.Prelude.{All, IfOk, IsTrue, OnOk, drop, length, map, slice_get};
 ghost use Rattle.cfgrammar.specs.Accessors.{IsSymbolWithin};
 ghost use Rattle.cfgrammar.specs.Grammar.{Rule};
 ghost use Rattle.cfgrammar.specs.NumberedSymbols.{sym_of};
 ghost use Rattle.cfgrammar.specs.Openings.{nth_production};
 ghost use Rattle.lr_states.specs.Viable.{HasNext};
-ghost use Rattle.conflict_examples.specs.Examples.{BeginsAt, prefix_of, rest_of};
-ghost use Rattle.conflict_examples.specs.Inner.Searches.{AreWith, BeginsBy, EntersBy, FindsAll, FindsItem, IsByNext};
-ghost use Rattle.conflict_examples.specs.Inner.Searches.{IsByShown, IsNullable, IsOpenIn};
-ghost use Rattle.conflict_examples.specs.Inner.Searches.{IsReachedBy, IsReadBy, IsReady, LeadsBy, OpensBy, Shows};
-ghost use Rattle.conflict_examples.specs.Inner.Searches.{UnfoldsBy, UnfoldsWith, grammar_of, used_of};
+ghost use Rattle.conflict_examples.specs.Inner.Searches.{AreKnown, AreWith, BeginsBy, EachMade, EachShown, EntersBy};
+ghost use Rattle.conflict_examples.specs.Inner.Searches.{FindsAll, FindsItem, IsByNext, IsByShown, IsNextIn};
+ghost use Rattle.conflict_examples.specs.Inner.Searches.{IsNullable, IsOpenIn, IsReadBy, IsReady, IsShown, IsSideWith};
+ghost use Rattle.conflict_examples.specs.Inner.Searches.{LeadsBy, OpensBy, Shows, UnfoldsBy, UnfoldsWith};
+ghost use Rattle.conflict_examples.specs.Inner.Searches.{grammar_of, used_of};
+ghost use Rattle.conflict_examples.specs.Inner.Ways.{HasNode, parent_of};
 ghost use Rattle.conflict_examples.specs.declared.nodes.Node.TheVariants as nodes;
 
 use crate::Side;
-use crate::nodes::{Found, ItemAt, Node, OpenedAt};
+use crate::nodes::{Found, ItemAt, Node, OpenedAt, Step};
 use crate::roads::Road;
 use cfgrammar::yacc::YaccGrammar;
 use cfgrammar::yacc::firsts::YaccFirsts;
@@ -46,27 +47,58 @@ impl<'a> Ways<'a> {
         requires ready { IsReady self.now }
         ensures { IfOk result (FindsItem self.now at) }
     {
-        match self.side(Node::Item(at))? {
-            Some(side) => {
-                let unread = &symbols_of(self.grammar, at.item.production)[at.item.read..];
-                Ok(Some(self.with_front(unread, &side)?))
-            }
-            None => Ok(None),
+        let node = Node::Item(at);
+        let found = self.searched(node)?;
+        if !found.contains_key(&node) {
+            return Ok(None);
         }
+        Ok(Some(self.side(&found, node, self.unread(at.item))?))
     }
 
-    /// What a way to this node shows, if there is one.
-    fn side(&self, node: Node) -> Result<Option<Side>, AllocError>
-        requires ready { IsReady self.now }
-        ensures shown { IfOk result (λ side. IfSome side (Shows self.now node)) }
-        ensures none { IfOk result (λ side. side ≡ None → IsReachedBy self.now node → ⊥) }
+    /// The symbols of an item that aren't read.
+    fn unread(&self, item: Item) -> &'a [Symbol<u32>]
+        requires within { item.production < length self.now.grammar.now.productions }
+        requires read { item.read ≤ length (nth_production (grammar_of self.now) item.production).symbols }
+        ensures { map (sym_of (λ s. s)) result.now
+            ≡ drop item.read (nth_production (grammar_of self.now) item.production).symbols }
     {
-        let mut found = self.searched(node)?;
-        Ok(found.swap_remove(&node))
+        &symbols_of(self.grammar, item.production)[item.read..]
+    }
+
+    /// The side that the steps to a found node make, with these symbols before its rest.
+    fn side(
+        &self,
+        found: &Found<'a>,
+        node: Node,
+        unread: &[Symbol<u32>],
+    ) -> Result<Side, AllocError>
+        requires known { AreKnown self.now found.now.entries }
+        requires there { HasNode found.now.entries node }
+        ensures { IfOk result (IsSideWith self.now node (map (sym_of (λ s. s)) unread.now)) }
+    {
+        let mut prefix = Vec::new(self.alloc);
+        let mut rest = Vec::new(self.alloc);
+        rest.extend_from_slice(unread)?;
+        let mut last = node;
+        while let Some(step) = found.get(&last) {
+            match *step {
+                Step::First => break,
+                Step::Read(parent, symbol) => {
+                    prefix.push(symbol)?;
+                    last = parent;
+                }
+                Step::Open(parent, front) => {
+                    rest.extend_from_slice(front)?;
+                    last = parent;
+                }
+            }
+        }
+        prefix.reverse();
+        Ok(Side { prefix, rest })
     }
 
     /// Nodes that ways lead to, with this one if it is among them.
-    fn searched(&self, node: Node) -> Result<Found, AllocError>
+    fn searched(&self, node: Node) -> Result<Found<'a>, AllocError>
         requires ready { IsReady self.now }
         ensures { IfOk result (λ found. AreWith self.now node found.entries) }
     {
@@ -76,75 +108,67 @@ impl<'a> Ways<'a> {
             if found.contains_key(&node) {
                 break;
             }
-            let Some((next, side)) = found.get_index(number) else {
+            let Some((next, _step)) = found.get_index(number) else {
                 break;
             };
-            let (next, side) = (*next, self.copy(side)?);
-            self.go_on(&mut found, next, &side)?;
+            let next = *next;
+            self.go_on(&mut found, next)?;
         }
         let _count = found.len();
         Ok(found)
     }
 
     /// Finds the productions of the start rule.
-    fn begin(&self, found: &mut Found) -> Result<(), AllocError>
+    fn begin(&self, found: &mut Found<'a>) -> Result<(), AllocError>
         requires ready { IsReady self.now }
-        ensures { OnOk result (FindsAll self.now (BeginsBy self.now) found.old.entries found.new.entries) }
+        ensures { OnOk result (FindsAll self.now None (BeginsBy self.now) found.old.entries found.new.entries) }
     {
-        let empty = Side {
-            prefix: Vec::new(self.alloc),
-            rest: Vec::new(self.alloc),
-        };
-        self.enter(found, 0, 0, false, &empty)?;
+        self.enter(found, 0, 0, false, Step::First)?;
         if usize::from(self.grammar.eof_token_idx()) == self.token {
-            self.enter(found, 0, 0, true, &empty)?;
+            self.enter(found, 0, 0, true, Step::First)?;
         }
         Ok(())
     }
 
     /// Finds what a node leads to.
-    fn go_on(&self, found: &mut Found, node: Node, side: &Side) -> Result<(), AllocError>
+    fn go_on(&self, found: &mut Found<'a>, node: Node) -> Result<(), AllocError>
         requires ready { IsReady self.now }
-        requires shown { Shows self.now node side.now }
-        ensures { OnOk result (FindsAll self.now (LeadsBy self.now node) found.old.entries found.new.entries) }
+        requires shown { IsShown self.now node }
+        ensures { OnOk result (FindsAll self.now (Some node) (LeadsBy self.now node)
+            found.old.entries found.new.entries) }
     {
         match node {
-            Node::Item(at) => self.go_on_item(found, at, side),
-            Node::Opened(at) => self.unfold(found, at, side),
+            Node::Item(at) => self.go_on_item(found, at),
+            Node::Opened(at) => self.unfold(found, at),
         }
     }
 
     /// Finds what an item leads to.
-    fn go_on_item(&self, found: &mut Found, at: ItemAt, side: &Side) -> Result<(), AllocError>
+    fn go_on_item(&self, found: &mut Found<'a>, at: ItemAt) -> Result<(), AllocError>
         requires ready { IsReady self.now }
-        requires shown { Shows self.now (nodes.Item at) side.now }
-        ensures { OnOk result (FindsAll self.now (LeadsBy self.now (nodes.Item at))
+        requires shown { IsShown self.now (nodes.Item at) }
+        ensures { OnOk result (FindsAll self.now (Some (nodes.Item at)) (LeadsBy self.now (nodes.Item at))
             found.old.entries found.new.entries) }
     {
         let Some(symbol) = next_symbol(self.grammar, at.item) else {
             return Ok(());
         };
-        self.read(found, at, symbol, side)?;
+        self.read(found, at, symbol)?;
         match symbol {
-            Symbol::Rule(rule) => self.open(found, at, usize::from(rule), side),
+            Symbol::Rule(rule) => self.open(found, at, usize::from(rule)),
             Symbol::Token(_) => Ok(()),
         }
     }
 
     /// Finds the item after its next symbol.
-    fn read(
-        &self,
-        found: &mut Found,
-        at: ItemAt,
-        symbol: Symbol<u32>,
-        side: &Side,
-    ) -> Result<(), AllocError>
+    fn read(&self, found: &mut Found<'a>, at: ItemAt, symbol: Symbol<u32>) -> Result<(), AllocError>
         requires ready { IsReady self.now }
-        requires shown { Shows self.now (nodes.Item at) side.now }
+        requires shown { IsShown self.now (nodes.Item at) }
         requires next { HasNext (grammar_of self.now) at.item (sym_of (λ s. s) symbol) }
-        ensures { OnOk result (FindsAll self.now (IsReadBy self.now at.place at.item at.followed
+        ensures { OnOk result (FindsAll self.now (Some (nodes.Item at)) (IsReadBy self.now at.place at.item at.followed
             (sym_of (λ s. s) symbol)) found.old.entries found.new.entries) }
     {
+        self.grammar.invariant_holds();
         let Some(place) = self.road.step(at.place, symbol) else {
             return Ok(());
         };
@@ -152,40 +176,27 @@ impl<'a> Ways<'a> {
             production: at.item.production,
             read: at.item.read + 1,
         };
-        let copy = self.copy(side)?;
-        let mut prefix = copy.prefix;
-        prefix.push(symbol)?;
-        let longer = Side {
-            prefix,
-            rest: copy.rest,
-        };
         let node = Node::Item(ItemAt {
             place,
             item,
             followed: at.followed,
         });
-        self.add(found, node, &longer)
+        self.add(found, node, Step::Read(Node::Item(at), symbol))
     }
 
     /// Finds what an item leads to by the rule that is next in it.
-    fn open(
-        &self,
-        found: &mut Found,
-        at: ItemAt,
-        rule: usize,
-        side: &Side,
-    ) -> Result<(), AllocError>
+    fn open(&self, found: &mut Found<'a>, at: ItemAt, rule: usize) -> Result<(), AllocError>
         requires ready { IsReady self.now }
-        requires shown { Shows self.now (nodes.Item at) side.now }
+        requires shown { IsShown self.now (nodes.Item at) }
         requires next { HasNext (grammar_of self.now) at.item (Rule rule) }
-        ensures { OnOk result (FindsAll self.now (OpensBy self.now at.place at.item at.followed rule)
-            found.old.entries found.new.entries) }
+        ensures { OnOk result (FindsAll self.now (Some (nodes.Item at))
+            (OpensBy self.now at.place at.item at.followed rule) found.old.entries found.new.entries) }
     {
+        let node = Node::Item(at);
         let back = self.back(at.item);
-        let entered = self.with_front(back, side)?;
-        self.enter(found, at.place, rule, false, &entered)?;
-        let nullable = self.show(found, at.place, rule, back, side)?;
-        self.enter_last(found, at, rule, nullable, side)
+        self.enter(found, at.place, rule, false, Step::Open(node, back))?;
+        let nullable = self.show(found, node, at.place, rule, back)?;
+        self.enter_last(found, at, rule, nullable)
     }
 
     /// The symbols of an item after the next one.
@@ -203,34 +214,33 @@ impl<'a> Ways<'a> {
     /// item's production, if the symbols between them are nullable.
     fn enter_last(
         &self,
-        found: &mut Found,
+        found: &mut Found<'a>,
         at: ItemAt,
         rule: usize,
         nullable: bool,
-        side: &Side,
     ) -> Result<(), AllocError>
         requires ready { IsReady self.now }
-        requires opened { IsTrue nullable → IsOpenIn self.now at.place rule (prefix_of side.now) (rest_of side.now) }
-        requires follows { IsTrue at.followed → BeginsAt (grammar_of self.now) self.now.token (rest_of side.now) }
-        ensures { OnOk result (FindsAll self.now (λ n. IsTrue at.followed × IsTrue nullable
+        requires within { rule < length self.now.grammar.now.rules }
+        requires opened { IsTrue nullable → EachShown self.now (nodes.Item at) (IsOpenIn self.now at.place rule) }
+        ensures { OnOk result (FindsAll self.now (Some (nodes.Item at)) (λ n. IsTrue at.followed × IsTrue nullable
             × EntersBy self.now at.place rule true n) found.old.entries found.new.entries) }
     {
         if at.followed && nullable {
-            self.enter(found, at.place, rule, true, side)
+            self.enter(found, at.place, rule, true, Step::Open(Node::Item(at), &[]))
         } else {
             Ok(())
         }
     }
 
     /// Finds what a rule leads to by the productions of the rule that comes first after it.
-    fn unfold(&self, found: &mut Found, at: OpenedAt, side: &Side) -> Result<(), AllocError>
+    fn unfold(&self, found: &mut Found<'a>, at: OpenedAt) -> Result<(), AllocError>
         requires ready { IsReady self.now }
-        requires shown { Shows self.now (nodes.Opened at) side.now }
-        ensures { OnOk result (FindsAll self.now (UnfoldsBy self.now at.place at.rule at.first)
+        requires shown { IsShown self.now (nodes.Opened at) }
+        ensures { OnOk result (FindsAll self.now (Some (nodes.Opened at)) (UnfoldsBy self.now at.place at.rule at.first)
             found.old.entries found.new.entries) }
     {
         for production in productions_of(self.grammar, at.first) {
-            self.unfold_by(found, at, usize::from(*production), side)?;
+            self.unfold_by(found, at, usize::from(*production))?;
         }
         Ok(())
     }
@@ -238,26 +248,20 @@ impl<'a> Ways<'a> {
     /// Finds what a rule leads to by this production of the rule that comes first after it, if the production is used.
     fn unfold_by(
         &self,
-        found: &mut Found,
+        found: &mut Found<'a>,
         at: OpenedAt,
         production: usize,
-        side: &Side,
     ) -> Result<(), AllocError>
         requires ready { IsReady self.now }
-        requires shown { Shows self.now (nodes.Opened at) side.now }
+        requires rule { at.rule < length self.now.grammar.now.rules }
         requires within { production < length self.now.grammar.now.productions }
         requires owner { (nth_production (grammar_of self.now) production).rule ≡ at.first }
-        ensures { OnOk result (FindsAll self.now (UnfoldsWith self.now at.place at.rule production)
-            found.old.entries found.new.entries) }
+        ensures { OnOk result (FindsAll self.now (Some (nodes.Opened at))
+            (UnfoldsWith self.now at.place at.rule production) found.old.entries found.new.entries) }
     {
         if self.used.get(production).unwrap_or(false) {
-            self.show(
-                found,
-                at.place,
-                at.rule,
-                symbols_of(self.grammar, production),
-                side,
-            )?;
+            let symbols = symbols_of(self.grammar, production);
+            self.show(found, Node::Opened(at), at.place, at.rule, symbols)?;
         }
         Ok(())
     }
@@ -266,23 +270,24 @@ impl<'a> Ways<'a> {
     /// whether there is none such.
     fn show(
         &self,
-        found: &mut Found,
+        found: &mut Found<'a>,
+        from: Node,
         place: usize,
         rule: usize,
-        symbols: &[Symbol<u32>],
-        side: &Side,
+        symbols: &'a [Symbol<u32>],
     ) -> Result<bool, AllocError>
         requires ready { IsReady self.now }
-        requires opened { IsOpenIn self.now place rule (prefix_of side.now)
-            (map (sym_of (λ s. s)) symbols.now ++ rest_of side.now) }
+        requires rule { rule < length self.now.grammar.now.rules }
+        requires opened { EachShown self.now from (λ prefix after. IsOpenIn self.now place rule prefix
+            (map (sym_of (λ s. s)) symbols.now ++ after)) }
         requires within { All (IsSymbolWithin (λ s. s) self.now.grammar.now) symbols.now }
-        ensures found { OnOk result (FindsAll self.now (IsByShown self.now place rule
+        ensures found { OnOk result (FindsAll self.now (Some from) (IsByShown self.now place rule
             (map (sym_of (λ s. s)) symbols.now)) found.old.entries found.new.entries) }
         ensures nullable { IfOk result (λ nullable. IsTrue nullable
             ↔ IsNullable self.now (map (sym_of (λ s. s)) symbols.now)) }
     {
         for index in 0..symbols.len() {
-            self.show_first(found, place, rule, symbols, index, side)?;
+            self.show_first(found, from, place, rule, symbols, index)?;
             if !self.is_nullable(symbols[index]) {
                 return Ok(false);
             }
@@ -293,35 +298,40 @@ impl<'a> Ways<'a> {
     /// Finds what a rule leads to by one of the symbols after it, where those before that are dropped.
     fn show_first(
         &self,
-        found: &mut Found,
+        found: &mut Found<'a>,
+        from: Node,
         place: usize,
         rule: usize,
-        symbols: &[Symbol<u32>],
+        symbols: &'a [Symbol<u32>],
         index: usize,
-        side: &Side,
     ) -> Result<(), AllocError>
         requires ready { IsReady self.now }
+        requires rule { rule < length self.now.grammar.now.rules }
         requires index { index < length symbols.now }
-        requires opened { IsOpenIn self.now place rule (prefix_of side.now)
-            (drop index (map (sym_of (λ s. s)) symbols.now) ++ rest_of side.now) }
+        requires opened { EachShown self.now from (λ prefix after. IsOpenIn self.now place rule prefix
+            (drop index (map (sym_of (λ s. s)) symbols.now) ++ after)) }
         requires within { All (IsSymbolWithin (λ s. s) self.now.grammar.now) symbols.now }
-        ensures { OnOk result (FindsAll self.now
+        ensures { OnOk result (FindsAll self.now (Some from)
             (IsByNext self.now place rule (slice_get (map (sym_of (λ s. s)) symbols.now) index))
             found.old.entries found.new.entries) }
     {
         match symbols[index] {
             Symbol::Rule(first) => {
-                let after = self.with_front(&symbols[index + 1..], side)?;
                 let node = Node::Opened(OpenedAt {
                     place,
                     rule,
                     first: usize::from(first),
                 });
-                self.add(found, node, &after)
+                self.add(found, node, Step::Open(from, &symbols[index + 1..]))
             }
             Symbol::Token(token) if usize::from(token) == self.token => {
-                let followed = self.with_front(&symbols[index..], side)?;
-                self.enter(found, place, rule, true, &followed)
+                self.enter(
+                    found,
+                    place,
+                    rule,
+                    true,
+                    Step::Open(from, &symbols[index..]),
+                )
             }
             Symbol::Token(_) => Ok(()),
         }
@@ -330,16 +340,16 @@ impl<'a> Ways<'a> {
     /// Finds the used productions of a rule that is next.
     fn enter(
         &self,
-        found: &mut Found,
+        found: &mut Found<'a>,
         place: usize,
         rule: usize,
         followed: bool,
-        side: &Side,
+        step: Step<'a>,
     ) -> Result<(), AllocError>
         requires ready { IsReady self.now }
-        requires opened { IsOpenIn self.now place rule (prefix_of side.now) (rest_of side.now) }
-        requires follows { IsTrue followed → BeginsAt (grammar_of self.now) self.now.token (rest_of side.now) }
-        ensures { OnOk result (FindsAll self.now (EntersBy self.now place rule followed)
+        requires within { rule < length self.now.grammar.now.rules }
+        requires next { EachMade self.now step (IsNextIn self.now place rule followed) }
+        ensures { OnOk result (FindsAll self.now (parent_of step.entry) (EntersBy self.now place rule followed)
             found.old.entries found.new.entries) }
     {
         for production in productions_of(self.grammar, rule) {
@@ -352,20 +362,20 @@ impl<'a> Ways<'a> {
                 item,
                 followed,
             };
-            self.add_used(found, at, side)?;
+            self.add_used(found, at, step)?;
         }
         Ok(())
     }
 
     /// Adds an item if its production is used.
-    fn add_used(&self, found: &mut Found, at: ItemAt, side: &Side) -> Result<(), AllocError>
+    fn add_used(&self, found: &mut Found<'a>, at: ItemAt, step: Step<'a>) -> Result<(), AllocError>
         requires ready { IsReady self.now }
-        requires shown { used_of self.now at.item.production → Shows self.now (nodes.Item at) side.now }
-        ensures { OnOk result (FindsAll self.now (λ n. used_of self.now at.item.production × (n ≡ nodes.Item at))
-            found.old.entries found.new.entries) }
+        requires shown { used_of self.now at.item.production → EachMade self.now step (Shows self.now (nodes.Item at)) }
+        ensures { OnOk result (FindsAll self.now (parent_of step.entry)
+            (λ n. used_of self.now at.item.production × (n ≡ nodes.Item at)) found.old.entries found.new.entries) }
     {
         if self.used.get(at.item.production).unwrap_or(false) {
-            self.add(found, Node::Item(at), side)?;
+            self.add(found, Node::Item(at), step)?;
         }
         Ok(())
     }
@@ -381,35 +391,15 @@ impl<'a> Ways<'a> {
         }
     }
 
-    /// Adds a node with a copy of the side, unless it was found before.
-    fn add(&self, found: &mut Found, node: Node, side: &Side) -> Result<(), AllocError>
-        requires shown { Shows self.now node side.now }
-        ensures { OnOk result (FindsAll self.now (λ n. n ≡ node) found.old.entries found.new.entries) }
+    /// Adds a node with the step that leads to it, unless it was found before.
+    fn add(&self, found: &mut Found<'a>, node: Node, step: Step<'a>) -> Result<(), AllocError>
+        requires shown { EachMade self.now step (Shows self.now node) }
+        ensures { OnOk result (FindsAll self.now (parent_of step.entry) (λ n. n ≡ node)
+            found.old.entries found.new.entries) }
     {
         if !found.contains_key(&node) {
-            found.insert(node, self.copy(side)?)?;
+            found.insert(node, step)?;
         }
         Ok(())
-    }
-
-    /// A copy of the side.
-    fn copy(&self, side: &Side) -> Result<Side, AllocError>
-        ensures prefix { IfOk result (λ x. x.prefix.items ≡ side.now.prefix.items) }
-        ensures rest { IfOk result (λ x. x.rest.items ≡ side.now.rest.items) }
-    {
-        self.with_front(&[], side)
-    }
-
-    /// The side with these symbols before its rest.
-    fn with_front(&self, symbols: &[Symbol<u32>], side: &Side) -> Result<Side, AllocError>
-        ensures prefix { IfOk result (λ x. x.prefix.items ≡ side.now.prefix.items) }
-        ensures rest { IfOk result (λ x. x.rest.items ≡ symbols.now ++ side.now.rest.items) }
-    {
-        let mut rest = symbols.to_vec(self.alloc)?;
-        rest.extend_from_slice(&side.rest)?;
-        Ok(Side {
-            prefix: side.prefix.to_vec(self.alloc)?,
-            rest,
-        })
     }
 }

@@ -1,5 +1,5 @@
 -- What a search finds, by what it goes by.
-use Rattle.std.specs.Prelude.{◌<◌, ℕ, Bool, List, [], Option, length}
+use Rattle.std.specs.Prelude.{ℕ, Bool, List, [], Option}
 use Rattle.cfgrammar.specs.Grammar.{Grammar, Sym}
 use Rattle.cfgrammar.specs.Numbered.{core}
 use Rattle.cfgrammar.specs.Derivation.{Derives}
@@ -10,6 +10,7 @@ use Rattle.lr_lookaheads.specs.Lookaheads.{HasUsed}
 use Rattle.conflict_examples.specs.declared.Side.{Side}
 use Rattle.conflict_examples.specs.declared.nodes.ItemAt.{ItemAt}
 use Rattle.conflict_examples.specs.declared.nodes.Node.{Node}
+use Rattle.conflict_examples.specs.declared.nodes.Step.{Step}
 use Rattle.conflict_examples.specs.declared.ways.Ways.{Ways}
 use Rattle.conflict_examples.specs.Inner.Tables.{AreReady, step_of}
 use Rattle.conflict_examples.specs.Inner.Ways as ways
@@ -23,13 +24,25 @@ used_of w = IsUsed (grammar_of w)
 abbrev pub IsReady : Ways → Type 0
 IsReady w = AreReady (grammar_of w) w.firsts.now w.used.now
 
-abbrev pub Shows : Ways → Node → Side → Type 0
+abbrev pub Shows : Ways → Node → List Sym → List Sym → Type 0
 Shows w = ways.Shown (grammar_of w) (used_of w) (step_of w.road) w.token
 
-abbrev pub IsOpenIn : Ways → ℕ → ℕ → List Sym → List Sym → Type 0
-IsOpenIn w q rule prefix after = (rule < length w.grammar.now.rules) × ways.IsOpen (grammar_of w) (used_of w) (step_of w.road) w.token q rule prefix after
+abbrev pub IsShown : Ways → Node → Type 0
+IsShown w = ways.IsShown (grammar_of w) (used_of w) (step_of w.road) w.token
 
-abbrev pub FindsAll : Ways → (Node → Type 0) → List (Node × Side) → List (Node × Side) → Type 0
+abbrev pub EachShown : Ways → Node → (List Sym → List Sym → Type 0) → Type 0
+EachShown w = ways.EachShown (grammar_of w) (used_of w) (step_of w.road) w.token
+
+abbrev pub EachMade : Ways → Step → (List Sym → List Sym → Type 0) → Type 0
+EachMade w = ways.EachMade (grammar_of w) (used_of w) (step_of w.road) w.token
+
+abbrev pub IsOpenIn : Ways → ℕ → ℕ → List Sym → List Sym → Type 0
+IsOpenIn w = ways.IsOpen (grammar_of w) (used_of w) (step_of w.road) w.token
+
+abbrev pub IsNextIn : Ways → ℕ → ℕ → Bool → List Sym → List Sym → Type 0
+IsNextIn w = ways.IsNext (grammar_of w) (used_of w) (step_of w.road) w.token
+
+abbrev pub FindsAll : Ways → Option Node → (Node → Type 0) → List (Node × Step) → List (Node × Step) → Type 0
 FindsAll w = ways.Finds (grammar_of w) (used_of w) (step_of w.road) w.token
 
 -- what the nodes that are found have in common
@@ -64,8 +77,14 @@ module _ (w : Ways) where
   abbrev pub IsReachedBy : Node → Type 0
   IsReachedBy = ways.IsReached (grammar_of w) (used_of w) (step_of w.road) w.token
 
-  abbrev pub AreWith : Node → List (Node × Side) → Type 0
+  abbrev pub AreKnown : List (Node × Step) → Type 0
+  AreKnown = ways.AreSteps (grammar_of w) (used_of w) (step_of w.road) w.token
+
+  abbrev pub AreWith : Node → List (Node × Step) → Type 0
   AreWith = ways.IsSearched (grammar_of w) (used_of w) (step_of w.road) w.token
+
+  abbrev pub IsSideWith : Node → List Sym → Side → Type 0
+  IsSideWith = ways.IsSideWith (grammar_of w) (used_of w) (step_of w.road) w.token
 
   abbrev pub FindsItem : ItemAt → Option Side → Type 0
   FindsItem = ways.IsFound (grammar_of w) (used_of w) (step_of w.road) w.token

@@ -1,9 +1,10 @@
 -- Ways that a parser could take: nodes are reached by reading symbols, and by opening productions of rules that are next.
-use Rattle.std.specs.Prelude.{◌≡◌, ◌+◌, ◌<◌, ◌≤◌, ℕ, Bool, false, true, List, [], ◌∷◌, ◌++◌, Option, None, Some, Contains, IsTrue, drop, length, slice_get, take}
+use Rattle.std.specs.Prelude.{◌≡◌, ◌+◌, ◌<◌, ◌≤◌, ℕ, Bool, false, true, List, [], ◌∷◌, ◌++◌, Option, None, Some, Contains, IsTrue, drop, length, map, slice_get, take}
 use Rattle.std.specs.Option.{option_and_then}
 use Rattle.search.specs.Reachable.{Reachable}
 use Rattle.cfgrammar.specs.Grammar.{Grammar, Sym, Rule, Token}
 use Rattle.cfgrammar.specs.Derivation.{Derives}
+use Rattle.cfgrammar.specs.NumberedSymbols.{sym_of}
 use Rattle.cfgrammar.specs.Openings.{nth_production}
 use Rattle.lr_states.specs.declared.Item.{Item}
 use Rattle.lr_states.specs.Viable.{HasNext, item_at}
@@ -12,6 +13,8 @@ use Rattle.conflict_examples.specs.declared.Side.{Side}
 use Rattle.conflict_examples.specs.declared.nodes.ItemAt.{ItemAt}
 use Rattle.conflict_examples.specs.declared.nodes.Node.{Node}
 use Rattle.conflict_examples.specs.declared.nodes.Node.TheVariants as nodes
+use Rattle.conflict_examples.specs.declared.nodes.Step.{Step}
+use Rattle.conflict_examples.specs.declared.nodes.Step.TheVariants as steps
 use Rattle.conflict_examples.specs.Examples.{BeginsAt, IsSide, prefix_of, rest_of}
 
 -- where symbols lead from a place
@@ -24,6 +27,22 @@ item_node q item followed = nodes.Item (record { place = q; item = item; followe
 
 abbrev pub opened_node : ℕ → ℕ → ℕ → Node
 opened_node q rule first = nodes.Opened (record { place = q; rule = rule; first = first })
+
+-- the node that a step is from
+abbrev pub parent_of : Step → Option Node
+parent_of steps.First = None
+parent_of (steps.Read node symbol) = Some node
+parent_of (steps.Open node front) = Some node
+
+abbrev pub HasNode : List (Node × Step) → Node → Type 0
+HasNode found n = (step : Step) × Contains found (n, step)
+
+-- one of the first nodes that were found
+pub record IsFoundBefore (found : List (Node × Step)) (k : ℕ) (n : Node) : Type 0 where
+  pub number : ℕ
+  pub before : number < k
+  pub step : Step
+  pub is : slice_get found number ≡ Some (n, step)
 
 -- By used productions, and `step` from place to place; `t` is the token that is to come next in the end.
 module _ (g : Grammar) (Used : ℕ → Type 0) (step : ℕ → Sym → Option ℕ) (t : ℕ) where
@@ -44,11 +63,31 @@ module _ (g : Grammar) (Used : ℕ → Type 0) (step : ℕ → Sym → Option �
     pub is : prefix ≡ before ++ take item.read (symbols item.production)
     pub leads : run step 0 prefix ≡ Some q
 
-  -- A side shows that a node is reached: of an item what comes before and after its production, where the token comes first if it is followed by
-  -- it; else what comes after the rule and the first of the symbols after it.
-  abbrev pub Shown : Node → Side → Type 0
-  Shown (nodes.Item x) side = IsRead x.place x.item (prefix_of side) (rest_of side) × (IsTrue x.followed → BeginsAt g t (rest_of side))
-  Shown (nodes.Opened x) side = IsOpen x.place x.rule (prefix_of side) (Rule x.first ∷ rest_of side) × (x.rule < g.rules) × (x.first < g.rules)
+  -- A prefix and a rest show that a node is reached: of an item what comes before and after its production, where the token comes first if it is
+  -- followed by it; else what comes after the rule and the first of the symbols after it.
+  abbrev pub Shown : Node → List Sym → List Sym → Type 0
+  Shown (nodes.Item x) prefix after = IsRead x.place x.item prefix after × (IsTrue x.followed → BeginsAt g t after)
+  Shown (nodes.Opened x) prefix after = IsOpen x.place x.rule prefix (Rule x.first ∷ after) × (x.rule < g.rules) × (x.first < g.rules)
+
+  -- some do
+  pub record IsShown (n : Node) : Type 0 where
+    pub prefix : List Sym
+    pub after : List Sym
+    pub shown : Shown n prefix after
+
+  -- each prefix and rest that show the node are so
+  abbrev pub EachShown : Node → (List Sym → List Sym → Type 0) → Type 0
+  EachShown n P = (prefix after : List Sym) → Shown n prefix after → P prefix after
+
+  -- and so is each that a step makes of them: it reads a symbol more, or puts others before the rest
+  abbrev pub EachMade : Step → (List Sym → List Sym → Type 0) → Type 0
+  EachMade steps.First P = P [] []
+  EachMade (steps.Read n x) P = EachShown n (λ prefix after. P (prefix ++ sym_of (λ s. s) x ∷ []) after)
+  EachMade (steps.Open n front) P = EachShown n (λ prefix after. P prefix (map (sym_of (λ s. s)) front.now ++ after))
+
+  -- the rule is next, and the token comes after it, if it is followed by it
+  abbrev pub IsNext : ℕ → ℕ → Bool → List Sym → List Sym → Type 0
+  IsNext q rule followed prefix after = IsOpen q rule prefix after × (IsTrue followed → BeginsAt g t after)
 
   -- a used production of the rule, of which nothing is read
   pub record Enters (q rule : ℕ) (followed : Bool) (n : Node) : Type 0 where
@@ -110,17 +149,29 @@ module _ (g : Grammar) (Used : ℕ → Type 0) (step : ℕ → Sym → Option �
   abbrev pub IsReached : Node → Type 0
   IsReached = Reachable Begins Leads
 
-  -- these nodes are found too, each new one with a side that shows it; those that were there stay
-  pub record Finds (Found : Node → Type 0) (old new : List (Node × Side)) : Type 0 where
-    pub more : List (Node × Side)
+  -- these nodes are found too, each new one by a step from the same node, or from none; those that were there stay
+  pub record Finds (from : Option Node) (Found : Node → Type 0) (old new : List (Node × Step)) : Type 0 where
+    pub more : List (Node × Step)
     pub is : new ≡ old ++ more
-    pub shown : (n : Node) (side : Side) → Contains more (n, side) → Shown n side
-    pub found : (n : Node) → Found n → (side : Side) × Contains new (n, side)
+    pub shown : (n : Node) (s : Step) → Contains more (n, s) → EachMade s (Shown n)
+    pub parent : (n : Node) (s : Step) → Contains more (n, s) → parent_of s ≡ from
+    pub found : (n : Node) → Found n → HasNode new n
+
+  -- what each step makes shows its node, and the node that it is from was found earlier
+  pub record AreSteps (found : List (Node × Step)) : Type 0 where
+    pub shown : (n : Node) (s : Step) → Contains found (n, s) → EachMade s (Shown n)
+    pub parent : (k : ℕ) (n : Node) (s : Step) → slice_get found k ≡ Some (n, s) → (m : Node) → parent_of s ≡ Some m → IsFoundBefore found k m
 
   -- nodes that are reached, with this one if it is
-  pub record IsSearched (node : Node) (found : List (Node × Side)) : Type 0 where
-    pub shown : (n : Node) (side : Side) → Contains found (n, side) → Shown n side
-    pub has : IsReached node → (side : Side) × Contains found (node, side)
+  pub record IsSearched (node : Node) (found : List (Node × Step)) : Type 0 where
+    pub steps : AreSteps found
+    pub has : IsReached node → HasNode found node
+
+  -- a side that shows the node, with these symbols before its rest
+  pub record IsSideWith (n : Node) (front : List Sym) (side : Side) : Type 0 where
+    pub after : List Sym
+    pub shown : Shown n (prefix_of side) after
+    pub rest : rest_of side ≡ front ++ after
 
   -- a side of the item, whose prefix leads to the place
   pub record IsSideAt (x : ItemAt) (side : Side) : Type 0 where

@@ -1,28 +1,24 @@
-use Rattle.std.proofs.Common.{◌≡◌, Contains, ap, map, subst, sym, ◌∙◌}
+use Rattle.std.proofs.Common.{◌≡◌, subst, sym, ◌∙◌}
 use Rattle.std.specs.Map.{lookup}
 use Rattle.indexmap.proofs.CallerLemmas.{insert_entry-new}
-use Rattle.cfgrammar.specs.NumberedSymbols.{sym_of}
 use Rattle.conflict_examples.specs.contracts.nodes.NodePartialEq.TheImpl.{ghosts as compared}
 use Rattle.conflict_examples.specs.Inner.Searches.{grammar_of, used_of}
 use Rattle.conflict_examples.specs.Inner.Tables.{step_of}
+use Rattle.conflict_examples.specs.Inner.Ways.{HasNode}
 use Rattle.conflict_examples.proofs.Found.{finds_known, finds_one}
-use Rattle.conflict_examples.proofs.Compared.{is_absent, known_side}
-use Rattle.conflict_examples.proofs.Shown.{copy_shown}
+use Rattle.conflict_examples.proofs.Compared.{is_absent, known_step}
 use Rattle.conflict_examples.proofs.ways.Ways.add.Goals as goal
 
 pub returns-in_ok-insert : goal.returns-in_ok-insert
 returns-in_ok-insert c =
     let w = c.args.self.now in
-    let copy = c.in_ok-copy.field-0 in
     let absent = is_absent (lookup (compared.eq c.args.node) c.args.found.now.entries) (sym c.contains_key.ensures ∙ c.if-not-contains_key.true) in
-    finds_one (grammar_of w) (used_of w) (step_of w.road) w.token c.args.node copy c.args.found.now.entries c.insert.new.self.entries
-    (c.in_ok-insert.ensures.entries ∙ insert_entry-new compared.eq c.args.found.now c.args.node copy absent)
-    (copy_shown (grammar_of w) (used_of w) (step_of w.road) w.token c.args.node c.args.side.now copy (ap (map (sym_of (λ s. s))) c.in_ok-copy.ensures.prefix)
-    (ap (map (sym_of (λ s. s))) c.in_ok-copy.ensures.rest) c.requires.shown)
+    finds_one (grammar_of w) (used_of w) (step_of w.road) w.token c.args.node c.args.step c.args.found.now.entries c.insert.new.self.entries
+    (c.in_ok-insert.ensures.entries ∙ insert_entry-new compared.eq c.args.found.now c.args.node c.args.step absent) c.requires.shown
 
 pub returns-else-not-contains_key : goal.returns-else-not-contains_key
 returns-else-not-contains_key c =
     let w = c.args.self.now in
-    let known = known_side c.args.node c.args.found.now.entries (sym c.contains_key.ensures ∙ c.if-not-contains_key.false) in
+    let known = known_step c.args.node c.args.found.now.entries (sym c.contains_key.ensures ∙ c.if-not-contains_key.false) in
     finds_known (grammar_of w) (used_of w) (step_of w.road) w.token (λ n. n ≡ c.args.node) c.args.found.now.entries
-    (λ n same. (known.0, subst (λ m. Contains c.args.found.now.entries (m, known.0)) (sym same) known.1))
+    (λ n same. subst (HasNode c.args.found.now.entries) (sym same) known)

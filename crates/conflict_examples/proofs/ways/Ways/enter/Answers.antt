@@ -4,13 +4,12 @@ use Rattle.cfgindex.specs.declared.idxnewtype.PIdx.{PIdx}
 use Rattle.cfgrammar.specs.Openings.{nth_production}
 use Rattle.lr_states.specs.Viable.{item_at}
 use Rattle.conflict_examples.specs.declared.nodes.Node.{Node}
-use Rattle.conflict_examples.specs.Examples.{prefix_of, rest_of}
-use Rattle.conflict_examples.specs.Inner.Searches.{EntersBy, FindsAll, grammar_of, used_of}
+use Rattle.conflict_examples.specs.Inner.Searches.{EntersBy, FindsAll, IsNextIn, Shows, grammar_of, used_of}
 use Rattle.conflict_examples.specs.Inner.Tables.{step_of}
-use Rattle.conflict_examples.specs.Inner.Ways.{item_node}
+use Rattle.conflict_examples.specs.Inner.Ways.{item_node, parent_of}
 use Rattle.conflict_examples.proofs.Entering.{Among, among_all, among_more, position_is}
 use Rattle.conflict_examples.proofs.Found.{finds_as}
-use Rattle.conflict_examples.proofs.Shown.{entered_shown}
+use Rattle.conflict_examples.proofs.Shown.{each_as, entered_shown}
 use Rattle.conflict_examples.proofs.ways.Ways.enter.Goals as goal
 
 pub add_used-requires-clause-shown : goal.add_used-requires-clause-shown
@@ -21,7 +20,8 @@ add_used-requires-clause-shown c =
     let lt : c.loop-production.production-index < length all = omega (arith, c.loop-production-test.true) in
     let is = position_is (λ (p : PIdx ℕ). p.0) g c.args.rule all c.productions_of-production-items.ensures c.loop-production.production-index (record { 0 = 0 }) lt in
     let owner = subst (λ p. (nth_production g p).rule ≡ c.args.rule) (sym c.from.ensures) (subst (λ (p : PIdx ℕ). (nth_production g p.0).rule ≡ c.args.rule) (get_or_default all _ _ _ lt) is.1) in
-    λ used. (entered_shown g (used_of w) (step_of w.road) w.token c.args.place c.from.result c.args.rule (prefix_of c.args.side.now) (rest_of c.args.side.now) used owner c.requires.opened.1, c.requires.follows)
+    λ used. each_as g (used_of w) (step_of w.road) w.token c.args.step (IsNextIn w c.args.place c.args.rule c.args.followed) (Shows w (item_node c.args.place (item_at c.from.result 0) c.args.followed))
+    (λ prefix after h. (entered_shown g (used_of w) (step_of w.road) w.token c.args.place c.from.result c.args.rule prefix after used owner h.0, h.1)) c.requires.next
 
 pub loop-production-preserved : goal.loop-production-preserved
 loop-production-preserved c =
@@ -31,7 +31,7 @@ loop-production-preserved c =
     let lt : n < length all = omega (arith, c.loop-production-test.true) in
     among_more (grammar_of w) (used_of w) (step_of w.road) w.token (λ (p : PIdx ℕ) m. used_of w p.0 × (m ≡ item_node c.args.place (item_at p.0 0) c.args.followed)) all n
     (get_or all n (record { 0 = 0 })) lt (get_or_default all n _ _ lt) _ _ _ c.loop-production.invariant
-    (subst (λ p. FindsAll w (λ m. used_of w p × (m ≡ item_node c.args.place (item_at p 0) c.args.followed)) c.loop-production.found.entries c.add_used.new.found.entries)
+    (subst (λ p. FindsAll w (parent_of c.args.step) (λ m. used_of w p × (m ≡ item_node c.args.place (item_at p 0) c.args.followed)) c.loop-production.found.entries c.add_used.new.found.entries)
     c.from.ensures c.in_ok-add_used.ensures)
 
 pub returns : goal.returns
@@ -40,8 +40,8 @@ returns c =
     let g = grammar_of w in
     let all = c.productions_of-production-items.result.now in
     let F : ℕ → Node → Type 0 = λ p m. used_of w p × (m ≡ item_node c.args.place (item_at p 0) c.args.followed) in
-    let A : List (PIdx ℕ) → Node → Type 0 = Among g (used_of w) (step_of w.road) w.token (λ (p : PIdx ℕ). F p.0) in
+    let A : List (PIdx ℕ) → Node → Type 0 = Among (λ (p : PIdx ℕ). F p.0) in
     let whole : take c.loop-production.production-index all ≡ all = take_all c.loop-production.production-index all (omega (arith, c.loop-production-test.false)) in
     finds_as g (used_of w) (step_of w.road) w.token (A all) (EntersBy w c.args.place c.args.rule c.args.followed) _ _
-    (λ n h. among_all g (used_of w) (step_of w.road) w.token (λ (p : PIdx ℕ). p.0) F c.args.rule all c.productions_of-production-items.ensures h.production h.used.within h.owner n (h.used, h.is))
-    (subst (λ l. FindsAll w (A l) c.args.found.now.entries c.loop-production.found.entries) whole c.loop-production.invariant)
+    (λ n h. among_all (λ (p : PIdx ℕ). p.0) F g c.args.rule all c.productions_of-production-items.ensures h.production h.used.within h.owner n (h.used, h.is))
+    (subst (λ l. FindsAll w (parent_of c.args.step) (A l) c.args.found.now.entries c.loop-production.found.entries) whole c.loop-production.invariant)

@@ -1,4 +1,4 @@
 use Rattle.conflict_examples.proofs.ways.Ways.enter_last.Goals as goal
 
-pub enter-requires-clause-follows : goal.enter-requires-clause-follows
-enter-requires-clause-follows c = λ _. c.requires.follows c.if-at.true
+pub enter-requires-clause-next : goal.enter-requires-clause-next
+enter-requires-clause-next c = λ prefix after h. (c.requires.opened c.if-nullable.true prefix after h, (λ yes. h.1 c.if-at.true))

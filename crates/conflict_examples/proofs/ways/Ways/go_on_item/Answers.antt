@@ -6,8 +6,15 @@ use Rattle.conflict_examples.specs.declared.nodes.Node.TheVariants as nodes
 use Rattle.conflict_examples.specs.Inner.Searches.{IsReadBy, LeadsBy, OpensBy, grammar_of, used_of}
 use Rattle.conflict_examples.specs.Inner.Tables.{step_of}
 use Rattle.conflict_examples.specs.Inner.Ways.{opens, reads}
-use Rattle.conflict_examples.proofs.Found.{finds_then}
+use Rattle.conflict_examples.proofs.Found.{finds_none, finds_then}
+use Rattle.conflict_examples.proofs.Runs.{none_some}
 use Rattle.conflict_examples.proofs.ways.Ways.go_on_item.Goals as goal
+
+pub returns-in_default : goal.returns-in_default
+returns-in_default c =
+    let w = c.args.self.now in
+    finds_none (grammar_of w) (used_of w) (step_of w.road) w.token (LeadsBy w (nodes.Item c.args.at)) _
+    (λ n h. elim h [ reads symbol next r ↦ none_some (c.in_default.ensures.is ∙ next) | opens rule next o ↦ none_some (c.in_default.ensures.is ∙ next) ])
 
 pub returns-in-Rule : goal.returns-in-Rule
 returns-in-Rule c =

@@ -1,59 +1,51 @@
-use Rattle.std.proofs.Common.{◌≡◌, ◌⊎◌, inl, inr, ◌++◌, [], List, IsTrue, ap, false, map, subst, sym, true, ◌∙◌}
-use Rattle.std.proofs.lemmas.List.{map-append}
+use Rattle.std.proofs.Common.{◌≡◌, ◌⊎◌, inl, inr, ◌++◌, [], List, IsTrue, false, map, subst, sym, true, true≢false}
 use Rattle.std.proofs.lemmas.Result.{IfOk-weaker}
 use Rattle.cfgrammar.specs.Grammar.{Sym, Rule}
 use Rattle.cfgrammar.specs.NumberedSymbols.{sym_of}
 use Rattle.lr_states.proofs.Closed.{next_symbol}
 use Rattle.conflict_examples.specs.declared.nodes.Node.{Node}
-use Rattle.conflict_examples.specs.Examples.{prefix_of, rest_of}
-use Rattle.conflict_examples.specs.Inner.Searches.{EntersBy, IsByShown, IsNullable, OpensBy, grammar_of, used_of}
+use Rattle.conflict_examples.specs.Inner.Searches.{EntersBy, IsByShown, IsNullable, IsOpenIn, OpensBy, grammar_of, used_of}
 use Rattle.conflict_examples.specs.Inner.Tables.{step_of}
-use Rattle.conflict_examples.specs.Inner.Ways.{IsOpen, back_of, ends, enters, shows}
+use Rattle.conflict_examples.specs.Inner.Ways.{back_of, ends, enters, shows}
 use Rattle.conflict_examples.proofs.Found.{finds_then}
-use Rattle.conflict_examples.proofs.Showing.{f}
 use Rattle.conflict_examples.proofs.Shown.{next_shown, open_derives}
 use Rattle.conflict_examples.proofs.ways.Ways.open.Goals as goal
+
+pub show-requires-clause-rule : goal.show-requires-clause-rule
+show-requires-clause-rule c = next_symbol (grammar_of c.args.self.now) c.requires.ready.grammar c.args.at.item (Rule c.args.rule) c.requires.next
 
 pub show-requires-clause-opened : goal.show-requires-clause-opened
 show-requires-clause-opened c =
     let w = c.args.self.now in
-    let g = grammar_of w in
     let at = c.args.at in
-    let side = c.args.side.now in (
-      next_symbol g c.requires.ready.grammar at.item (Rule c.args.rule) c.requires.next,
-      subst (λ l. IsOpen g (used_of w) (step_of w.road) w.token at.place c.args.rule (prefix_of side) (l ++ rest_of side)) (sym c.back-back.ensures.symbols)
-          (next_shown g (used_of w) (step_of w.road) w.token at.place at.item c.args.rule (prefix_of side) (rest_of side) c.requires.next c.requires.shown.0),
+    λ prefix after h. subst (λ l. IsOpenIn w at.place c.args.rule prefix (l ++ after)) (sym c.back-back.ensures.symbols)
+    (next_shown (grammar_of w) (used_of w) (step_of w.road) w.token at.place at.item c.args.rule prefix after c.requires.next h.0)
+
+pub enter-requires-clause-within : goal.enter-requires-clause-within
+enter-requires-clause-within c = next_symbol (grammar_of c.args.self.now) c.requires.ready.grammar c.args.at.item (Rule c.args.rule) c.requires.next
+
+pub enter-requires-clause-next : goal.enter-requires-clause-next
+enter-requires-clause-next c =
+    let w = c.args.self.now in
+    let at = c.args.at in
+    λ prefix after h. (
+      subst (λ l. IsOpenIn w at.place c.args.rule prefix (l ++ after)) (sym c.back-back.ensures.symbols)
+          (next_shown (grammar_of w) (used_of w) (step_of w.road) w.token at.place at.item c.args.rule prefix after c.requires.next h.0),
+      (λ no. absurd (true≢false (sym no))),
     )
 
-pub enter-requires-clause-opened : goal.enter-requires-clause-opened
-enter-requires-clause-opened c =
-    let w = c.args.self.now in
-    let g = grammar_of w in
-    let at = c.args.at in
-    let side = c.args.side.now in
-    let entered = c.in_ok-entered.entered in
-    let prefix : prefix_of entered ≡ prefix_of side = ap (map f) c.in_ok-entered.ensures.prefix in
-    let rest : rest_of entered ≡ back_of g (used_of w) (step_of w.road) w.token at.item ++ rest_of side =
-    ap (map f) c.in_ok-entered.ensures.rest ∙ map-append f c.back-back.result.now side.rest.items ∙ ap (λ l. l ++ rest_of side) c.back-back.ensures.symbols in
-    let O : List Sym → List Sym → Type 0 = IsOpen g (used_of w) (step_of w.road) w.token at.place c.args.rule in (
-      next_symbol g c.requires.ready.grammar at.item (Rule c.args.rule) c.requires.next,
-      subst (λ l. O l (rest_of entered)) (sym prefix) (subst (O (prefix_of side)) (sym rest)
-          (next_shown g (used_of w) (step_of w.road) w.token at.place at.item c.args.rule (prefix_of side) (rest_of side) c.requires.next c.requires.shown.0)),
-    )
+pub enter_last-requires-clause-within : goal.enter_last-requires-clause-within
+enter_last-requires-clause-within c = next_symbol (grammar_of c.args.self.now) c.requires.ready.grammar c.args.at.item (Rule c.args.rule) c.requires.next
 
 pub enter_last-requires-clause-opened : goal.enter_last-requires-clause-opened
 enter_last-requires-clause-opened c =
     let w = c.args.self.now in
     let g = grammar_of w in
     let at = c.args.at in
-    let side = c.args.side.now in
     let back = back_of g (used_of w) (step_of w.road) w.token at.item in
-    λ on. (
-      next_symbol g c.requires.ready.grammar at.item (Rule c.args.rule) c.requires.next,
-      open_derives g (used_of w) (step_of w.road) w.token at.place c.args.rule (prefix_of side) back [] (rest_of side)
-          (subst (IsNullable w) c.back-back.ensures.symbols (c.in_ok-nullable.ensures.nullable.0 on))
-          (next_shown g (used_of w) (step_of w.road) w.token at.place at.item c.args.rule (prefix_of side) (rest_of side) c.requires.next c.requires.shown.0),
-    )
+    λ on prefix after h. open_derives g (used_of w) (step_of w.road) w.token at.place c.args.rule prefix back [] after
+    (subst (IsNullable w) c.back-back.ensures.symbols (c.in_ok-nullable.ensures.nullable.0 on))
+    (next_shown g (used_of w) (step_of w.road) w.token at.place at.item c.args.rule prefix after c.requires.next h.0)
 
 pub returns : goal.returns
 returns c =

@@ -4,7 +4,6 @@ use Rattle.cfgindex.specs.declared.idxnewtype.Symbol.{Symbol}
 use Rattle.cfgindex.specs.declared.idxnewtype.Symbol.TheVariants as symbols
 use Rattle.cfgrammar.specs.Derivation.{none}
 use Rattle.cfgrammar.specs.NumberedSymbols.{sym_of}
-use Rattle.conflict_examples.specs.Examples.{prefix_of, rest_of}
 use Rattle.conflict_examples.specs.Inner.Searches.{IsNullable, grammar_of, used_of}
 use Rattle.conflict_examples.specs.Inner.Tables.{step_of}
 use Rattle.conflict_examples.proofs.Showing.{below_all, below_more, below_none, below_stop, not_nullable, nullable_more, symbol_at}
@@ -13,11 +12,9 @@ use Rattle.conflict_examples.proofs.ways.Ways.show.Goals as goal
 
 pub show_first-requires-clause-opened : goal.show_first-requires-clause-opened
 show_first-requires-clause-opened c =
-    let w = c.args.self.now in (
-      c.requires.opened.0,
-      dropped_shown (grammar_of w) (used_of w) (step_of w.road) w.token c.args.place c.args.rule (prefix_of c.args.side.now) (map (sym_of (λ s. s)) c.args.symbols.now)
-          (rest_of c.args.side.now) c.loop-index.index c.loop-index.invariant.nullable c.requires.opened.1,
-    )
+    let w = c.args.self.now in
+    λ prefix after h. dropped_shown (grammar_of w) (used_of w) (step_of w.road) w.token c.args.place c.args.rule prefix (map (sym_of (λ s. s)) c.args.symbols.now) after
+    c.loop-index.index c.loop-index.invariant.nullable (c.requires.opened prefix after h)
 
 pub loop-index-init : goal.loop-index-init
 loop-index-init c =

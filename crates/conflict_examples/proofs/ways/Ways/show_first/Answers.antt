@@ -1,14 +1,13 @@
-use Rattle.std.proofs.Common.{◌≡◌, ◌+◌, ◌-◌, ◌<◌, ◌++◌, ◌∷◌, ℕ, List, ap, drop, length, map, slice_get, subst, sym, take, true, ◌∙◌}
-use Rattle.std.proofs.lemmas.List.{map-append}
+use Rattle.std.proofs.Common.{◌≡◌, ◌+◌, ◌-◌, ◌<◌, ◌++◌, ◌∷◌, ℕ, ap, drop, length, map, slice_get, subst, sym, take, true, ◌∙◌}
 use Rattle.std.proofs.lemmas.Result.{IfOk-weaker}
 use Rattle.cfgindex.specs.declared.idxnewtype.Symbol.{Symbol}
 use Rattle.cfgindex.specs.declared.idxnewtype.Symbol.TheVariants as symbols
 use Rattle.cfgrammar.specs.Accessors.{IsSymbolWithin}
-use Rattle.cfgrammar.specs.Grammar.{Sym, Rule, Token}
-use Rattle.conflict_examples.specs.Examples.{prefix_of, rest_of, token}
-use Rattle.conflict_examples.specs.Inner.Searches.{EntersBy, IsByNext, grammar_of, used_of}
+use Rattle.cfgrammar.specs.Grammar.{Rule, Token}
+use Rattle.conflict_examples.specs.Examples.{token}
+use Rattle.conflict_examples.specs.Inner.Searches.{EntersBy, IsByNext, IsOpenIn, grammar_of, used_of}
 use Rattle.conflict_examples.specs.Inner.Tables.{step_of}
-use Rattle.conflict_examples.specs.Inner.Ways.{IsOpen, opened_node}
+use Rattle.conflict_examples.specs.Inner.Ways.{opened_node}
 use Rattle.conflict_examples.proofs.Found.{finds_as, finds_none}
 use Rattle.conflict_examples.proofs.Showing.{f, symbol_at, tail_at, tail_of}
 use Rattle.conflict_examples.proofs.ways.Ways.show_first.Goals as goal
@@ -16,62 +15,37 @@ use Rattle.conflict_examples.proofs.ways.Ways.show_first.Goals as goal
 abbrev d : Symbol ℕ
 d = symbols.Rule (record { 0 = 0 })
 
--- the rest of a side with symbols before it
-front_is : (xs front rest : List (Symbol ℕ)) → xs ≡ front ++ rest → map f xs ≡ map f front ++ map f rest
-front_is xs front rest is = ap (map f) is ∙ map-append f front rest
-
 pub add-requires : goal.add-requires
 add-requires c =
     let w = c.args.self.now in
     let xs = c.args.symbols.now in
     let i = c.args.index in
-    let side = c.args.side.now in
     let first = c.in-Rule.first in
-    let after = c.in_ok-after-in-Rule.after in
-    let front = take (length xs - (i + 1)) (drop (i + 1) xs) in
-    let prefix : prefix_of after ≡ prefix_of side = ap (map f) c.in_ok-after-in-Rule.ensures.prefix in
-    let rest : rest_of after ≡ map f front ++ rest_of side = front_is after.rest.items front side.rest.items c.in_ok-after-in-Rule.ensures.rest in
-    let whole : drop i (map f xs) ++ rest_of side ≡ Rule c.from.result ∷ rest_of after =
-    ap (λ l. l ++ rest_of side) (tail_at i xs d (symbols.Rule first) c.requires.index c.in-Rule.is) ∙ ap (λ n. Rule n ∷ (map f front ++ rest_of side)) (sym c.from.ensures)
-    ∙ ap (λ l. Rule c.from.result ∷ l) (sym rest) in
-    let O : List Sym → List Sym → Type 0 = IsOpen (grammar_of w) (used_of w) (step_of w.road) w.token c.args.place c.args.rule in
+    let back = map f (take (length xs - (i + 1)) (drop (i + 1) xs)) in
     record {
-      shown = (
-        subst (λ l. O l (Rule c.from.result ∷ rest_of after)) (sym prefix) (subst (O (prefix_of side)) whole c.requires.opened.1),
-        c.requires.opened.0,
+      shown = λ prefix after h. (
+        subst (IsOpenIn w c.args.place c.args.rule prefix)
+            (ap (λ l. l ++ after) (tail_at i xs d (symbols.Rule first) c.requires.index c.in-Rule.is) ∙ ap (λ n. Rule n ∷ (back ++ after)) (sym c.from.ensures)) (c.requires.opened prefix after h),
+        c.requires.rule,
         subst (λ n. n < length w.grammar.now.rules) (sym c.from.ensures) (subst (IsSymbolWithin (λ s. s) w.grammar.now) c.in-Rule.is (c.requires.within i d c.requires.index)),
       );
     }
 
-pub enter-requires-clause-opened : goal.enter-requires-clause-opened
-enter-requires-clause-opened c =
+pub enter-requires-clause-next : goal.enter-requires-clause-next
+enter-requires-clause-next c =
     let w = c.args.self.now in
     let xs = c.args.symbols.now in
     let i = c.args.index in
-    let side = c.args.side.now in
-    let followed = c.in_ok-followed-in-Token.followed in
-    let front = take (length xs - i) (drop i xs) in
-    let prefix : prefix_of followed ≡ prefix_of side = ap (map f) c.in_ok-followed-in-Token.ensures.prefix in
-    let rest : rest_of followed ≡ drop i (map f xs) ++ rest_of side =
-    front_is followed.rest.items front side.rest.items c.in_ok-followed-in-Token.ensures.rest ∙ ap (λ l. l ++ rest_of side) (tail_of i xs) in
-    let O : List Sym → List Sym → Type 0 = IsOpen (grammar_of w) (used_of w) (step_of w.road) w.token c.args.place c.args.rule in
-    (c.requires.opened.0, subst (λ l. O l (rest_of followed)) (sym prefix) (subst (O (prefix_of side)) (sym rest) c.requires.opened.1))
-
-pub enter-requires-clause-follows : goal.enter-requires-clause-follows
-enter-requires-clause-follows c =
-    let xs = c.args.symbols.now in
-    let i = c.args.index in
-    let side = c.args.side.now in
-    let followed = c.in_ok-followed-in-Token.followed in
-    let front = take (length xs - i) (drop i xs) in
     let back = map f (take (length xs - (i + 1)) (drop (i + 1) xs)) in
-    let is : c.in-Token.token.0 ≡ c.args.self.now.token = sym c.from-in-Token-1.ensures ∙ c.if-from-self.true in
-    λ yes. token (back ++ rest_of side)
-    (front_is followed.rest.items front side.rest.items c.in_ok-followed-in-Token.ensures.rest ∙ ap (λ l. l ++ rest_of side) (tail_of i xs)
-    ∙ ap (λ l. l ++ rest_of side) (tail_at i xs d (symbols.Token c.in-Token.token) c.requires.index c.in-Token.is) ∙ ap (λ n. Token n ∷ (back ++ rest_of side)) is)
+    let is : c.in-Token.token.0 ≡ w.token = sym c.from-in-Token-1.ensures ∙ c.if-from-self.true in
+    λ prefix after h. (
+      subst (λ l. IsOpenIn w c.args.place c.args.rule prefix (l ++ after)) (sym (tail_of i xs)) (c.requires.opened prefix after h),
+      (λ yes. token (back ++ after)
+          (ap (λ l. l ++ after) (tail_of i xs) ∙ ap (λ l. l ++ after) (tail_at i xs d (symbols.Token c.in-Token.token) c.requires.index c.in-Token.is) ∙ ap (λ n. Token n ∷ (back ++ after)) is)),
+    )
 
-pub returns-in_ok-after-in-Rule : goal.returns-in_ok-after-in-Rule
-returns-in_ok-after-in-Rule c =
+pub returns-in-Rule : goal.returns-in-Rule
+returns-in-Rule c =
     let w = c.args.self.now in
     let q = c.args.place in
     let rule = c.args.rule in
@@ -81,8 +55,8 @@ returns-in_ok-after-in-Rule c =
     (λ n h. subst (λ o. IsByNext w q rule o n) at h ∙ ap (opened_node q rule) (sym c.from.ensures)) v)
     c.add.ensures
 
-pub returns-in_ok-followed-in-Token : goal.returns-in_ok-followed-in-Token
-returns-in_ok-followed-in-Token c =
+pub returns-in-Token : goal.returns-in-Token
+returns-in-Token c =
     let w = c.args.self.now in
     let q = c.args.place in
     let rule = c.args.rule in

@@ -1,22 +1,62 @@
-use Rattle.std.proofs.Common.{◌≡◌, IfSome, Option, None, Some, refl, sym, ◌∙◌}
-use Rattle.std.proofs.lemmas.Map.Views.{Contains-from_lookup}
-use Rattle.conflict_examples.specs.declared.Side.{Side}
-use Rattle.conflict_examples.specs.Inner.Searches.{Shows}
-use Rattle.conflict_examples.proofs.Compared.{nodes_same, none_known}
+use Rattle.std.proofs.Common.{◌++◌, Some, ap, map, refl, subst, sym, ◌∙◌}
+use Rattle.std.specs.Option.{option_copied}
+use Rattle.conflict_examples.specs.Inner.Searches.{grammar_of, used_of}
+use Rattle.conflict_examples.specs.Inner.Tables.{step_of}
+use Rattle.conflict_examples.specs.Inner.Ways.{parent_of}
+use Rattle.conflict_examples.proofs.Compared.{none_known}
+use Rattle.conflict_examples.proofs.Showing.{f}
+use Rattle.conflict_examples.proofs.Walked.{IsWalked, earlier, walked_all, walked_none, walked_open, walked_read}
 use Rattle.conflict_examples.proofs.ways.Ways.side.Goals as goal
+use Rattle.conflict_examples.proofs.ways.Ways.side.Goals.{in-Some+in-First, in_default}
 
-some_by : (P : Side → Type 0) (o : Option Side) → ((side : Side) → o ≡ Some side → P side) → IfSome o P
-some_by P None all = tt
-some_by P (Some side) all = all side refl
+pub loop-step-init : goal.loop-step-init
+loop-step-init c =
+    let w = c.args.self.now in
+    let es = c.args.found.now.entries in
+    let front = map f c.args.unread.now in
+    let rest = c.extend_from_slice.new.self.items in
+    subst (λ l. IsWalked (grammar_of w) (used_of w) (step_of w.road) w.token es c.args.node front c.args.node l rest) (sym c.new-prefix.ensures.items)
+    (walked_none (grammar_of w) (used_of w) (step_of w.road) w.token es c.args.node front c.requires.there rest (ap (map f) (c.in_ok-extend_from_slice.ensures.items ∙ ap (λ l. l ++ c.args.unread.now) c.new-rest.ensures.items)))
 
-pub returns-clause-shown : goal.returns-clause-shown
-returns-clause-shown c =
-    let node = c.args.node in
-    let es = c.in_ok-found.found.entries in
-    some_by (Shows c.args.self.now node) c.swap_remove.result
-    (λ side is. c.in_ok-found.ensures.shown node side (Contains-from_lookup nodes_same node side es (sym c.swap_remove.ensures.value ∙ is)))
+pub loop-step-smaller-in-Read : goal.loop-step-smaller-in-Read
+loop-step-smaller-in-Read c =
+    let w = c.args.self.now in
+    earlier (grammar_of w) (used_of w) (step_of w.road) w.token c.args.found.now.entries c.requires.known c.loop-step.last c.in-Read.parent c.in-Some.step.now
+    (sym c.in-Some.ensures.value) (ap parent_of c.in-Read.is)
 
-pub returns-clause-none : goal.returns-clause-none
-returns-clause-none c = λ none h.
-    let there = c.in_ok-found.ensures.has h in
-    none_known c.args.node there.0 c.in_ok-found.found.entries there.1 (sym c.swap_remove.ensures.value ∙ none)
+pub loop-step-preserved-in-Read : goal.loop-step-preserved-in-Read
+loop-step-preserved-in-Read c =
+    let w = c.args.self.now in
+    let es = c.args.found.now.entries in
+    let front = map f c.args.unread.now in
+    let l = c.loop-step in
+    subst (λ xs. IsWalked (grammar_of w) (used_of w) (step_of w.road) w.token es c.args.node front c.in-Read.parent xs l.rest.items) (sym c.in_ok-push-in-Read.ensures.items)
+    (walked_read (grammar_of w) (used_of w) (step_of w.road) w.token es c.requires.known c.args.node front l.last l.prefix.items l.rest.items l.invariant c.in-Read.parent c.in-Read.symbol
+    (sym c.in-Some.ensures.value ∙ ap Some c.in-Read.is))
+
+pub loop-step-smaller : goal.loop-step-smaller
+loop-step-smaller c =
+    let w = c.args.self.now in
+    earlier (grammar_of w) (used_of w) (step_of w.road) w.token c.args.found.now.entries c.requires.known c.loop-step.last c.in-Open.parent c.in-Some.step.now
+    (sym c.in-Some.ensures.value) (ap parent_of c.in-Open.is)
+
+pub loop-step-preserved : goal.loop-step-preserved
+loop-step-preserved c =
+    let w = c.args.self.now in
+    let es = c.args.found.now.entries in
+    let front = map f c.args.unread.now in
+    let l = c.loop-step in
+    subst (IsWalked (grammar_of w) (used_of w) (step_of w.road) w.token es c.args.node front c.in-Open.parent l.prefix.items) (sym c.in_ok-extend_from_slice-in-Open.ensures.items)
+    (walked_open (grammar_of w) (used_of w) (step_of w.road) w.token es c.requires.known c.args.node front l.last l.prefix.items l.rest.items l.invariant c.in-Open.parent c.in-Open.front
+    (sym c.in-Some.ensures.value ∙ ap Some c.in-Open.is))
+
+pub returns : goal.returns
+returns c =
+    let w = c.args.self.now in
+    let es = c.args.found.now.entries in
+    let l = c.loop-step in
+    elim c.match-get.branch [
+      | in-Some+in-First v ↦ walked_all (grammar_of w) (used_of w) (step_of w.road) w.token es c.requires.known c.args.node (map f c.args.unread.now) l.last l.prefix.items l.rest.items l.invariant
+          (sym v.in-Some.ensures.value ∙ ap Some v.in-First.is) (record { prefix = c.reverse.new.self; rest = l.rest }) c.reverse.ensures.items refl
+      | in_default v ↦ absurd (none_known l.last l.invariant.there.0 es l.invariant.there.1 (sym c.get.ensures.value ∙ ap option_copied v.in_default.is))
+    ]

@@ -1,9 +1,10 @@
-use Rattle.std.proofs.Common.{◌≡◌, ◌<◌, ℕ, List, arith, get_or, length, subst, sym, take}
+use Rattle.std.proofs.Common.{◌≡◌, ◌<◌, ℕ, List, Some, arith, get_or, length, subst, sym, take}
 use Rattle.std.proofs.lemmas.List.{get_or_default, length-map, take_all}
 use Rattle.cfgindex.specs.declared.idxnewtype.PIdx.{PIdx}
 use Rattle.cfgrammar.specs.Numbered.{production_core}
 use Rattle.cfgrammar.specs.Openings.{nth_production}
 use Rattle.conflict_examples.specs.declared.nodes.Node.{Node}
+use Rattle.conflict_examples.specs.declared.nodes.Node.TheVariants as nodes
 use Rattle.conflict_examples.specs.Inner.Searches.{FindsAll, UnfoldsBy, UnfoldsWith, grammar_of, used_of}
 use Rattle.conflict_examples.specs.Inner.Tables.{step_of}
 use Rattle.conflict_examples.proofs.Entering.{Among, among_all, among_more, position_is}
@@ -35,7 +36,7 @@ loop-production-preserved c =
     let lt : n < length all = omega (arith, c.loop-production-test.true) in
     among_more (grammar_of w) (used_of w) (step_of w.road) w.token (λ (p : PIdx ℕ). UnfoldsWith w c.args.at.place c.args.at.rule p.0) all n
     (get_or all n (record { 0 = 0 })) lt (get_or_default all n _ _ lt) _ _ _ c.loop-production.invariant
-    (subst (λ p. FindsAll w (UnfoldsWith w c.args.at.place c.args.at.rule p) c.loop-production.found.entries c.unfold_by.new.found.entries)
+    (subst (λ p. FindsAll w (Some (nodes.Opened c.args.at)) (UnfoldsWith w c.args.at.place c.args.at.rule p) c.loop-production.found.entries c.unfold_by.new.found.entries)
     c.from.ensures c.in_ok-unfold_by.ensures)
 
 pub returns : goal.returns
@@ -44,8 +45,8 @@ returns c =
     let g = grammar_of w in
     let all = c.productions_of-production-items.result.now in
     let F : ℕ → Node → Type 0 = UnfoldsWith w c.args.at.place c.args.at.rule in
-    let A : List (PIdx ℕ) → Node → Type 0 = Among g (used_of w) (step_of w.road) w.token (λ (p : PIdx ℕ). F p.0) in
+    let A : List (PIdx ℕ) → Node → Type 0 = Among (λ (p : PIdx ℕ). F p.0) in
     let whole : take c.loop-production.production-index all ≡ all = take_all c.loop-production.production-index all (omega (arith, c.loop-production-test.false)) in
     finds_as g (used_of w) (step_of w.road) w.token (A all) (UnfoldsBy w c.args.at.place c.args.at.rule c.args.at.first) _ _
-    (λ n h. among_all g (used_of w) (step_of w.road) w.token (λ (p : PIdx ℕ). p.0) F c.args.at.first all c.productions_of-production-items.ensures h.production h.used.within h.owner n (h.used, h.shows))
-    (subst (λ l. FindsAll w (A l) c.args.found.now.entries c.loop-production.found.entries) whole c.loop-production.invariant)
+    (λ n h. among_all (λ (p : PIdx ℕ). p.0) F g c.args.at.first all c.productions_of-production-items.ensures h.production h.used.within h.owner n (h.used, h.shows))
+    (subst (λ l. FindsAll w (Some (nodes.Opened c.args.at)) (A l) c.args.found.now.entries c.loop-production.found.entries) whole c.loop-production.invariant)

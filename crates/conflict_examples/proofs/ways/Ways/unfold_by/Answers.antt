@@ -1,10 +1,8 @@
 use Rattle.std.proofs.Common.{◌++◌, map, subst, sym, ◌∙◌, true≢false}
 use Rattle.cfgrammar.specs.NumberedSymbols.{sym_of}
 use Rattle.lr_states.proofs.Bits.{bit_read}
-use Rattle.conflict_examples.specs.Examples.{prefix_of, rest_of}
-use Rattle.conflict_examples.specs.Inner.Searches.{IsByShown, UnfoldsWith, grammar_of, used_of}
+use Rattle.conflict_examples.specs.Inner.Searches.{IsByShown, IsOpenIn, UnfoldsWith, grammar_of, used_of}
 use Rattle.conflict_examples.specs.Inner.Tables.{step_of}
-use Rattle.conflict_examples.specs.Inner.Ways.{IsOpen}
 use Rattle.conflict_examples.proofs.Found.{finds_as, finds_none}
 use Rattle.conflict_examples.proofs.Shown.{unfolded_shown}
 use Rattle.conflict_examples.proofs.ways.Ways.unfold_by.Goals as goal
@@ -14,13 +12,10 @@ show-requires-clause-opened c =
     let w = c.args.self.now in
     let g = grammar_of w in
     let p = c.args.production in
-    let side = c.args.side.now in
     let read = bit_read w.used.now p c.get.result c.unwrap_or.result c.get.ensures c.unwrap_or.ensures in
-    let used = (c.requires.ready.used p).0 (sym read ∙ c.if-unwrap_or.true) in (
-      c.requires.shown.1,
-      subst (λ l. IsOpen g (used_of w) (step_of w.road) w.token c.args.at.place c.args.at.rule (prefix_of side) (l ++ rest_of side)) (sym c.symbols_of.ensures.symbols)
-          (unfolded_shown g (used_of w) (step_of w.road) w.token c.args.at.place c.args.at.rule c.args.at.first p (prefix_of side) (rest_of side) used c.requires.owner c.requires.shown.0),
-    )
+    let used = (c.requires.ready.used p).0 (sym read ∙ c.if-unwrap_or.true) in
+    λ prefix after h. subst (λ l. IsOpenIn w c.args.at.place c.args.at.rule prefix (l ++ after)) (sym c.symbols_of-symbols.ensures.symbols)
+    (unfolded_shown g (used_of w) (step_of w.road) w.token c.args.at.place c.args.at.rule c.args.at.first p prefix after used c.requires.owner h.0)
 
 pub returns-in_ok-show : goal.returns-in_ok-show
 returns-in_ok-show c =
@@ -28,9 +23,9 @@ returns-in_ok-show c =
     let q = c.args.at.place in
     let rule = c.args.at.rule in
     let p = c.args.production in
-    let list = map (sym_of (λ s. s)) c.symbols_of.result.now in
+    let list = map (sym_of (λ s. s)) c.symbols_of-symbols.result.now in
     finds_as (grammar_of w) (used_of w) (step_of w.road) w.token (IsByShown w q rule list) (UnfoldsWith w q rule p) _ _
-    (λ n h. subst (λ l. IsByShown w q rule l n) (sym c.symbols_of.ensures.symbols) h.1) c.in_ok-show.ensures.found
+    (λ n h. subst (λ l. IsByShown w q rule l n) (sym c.symbols_of-symbols.ensures.symbols) h.1) c.in_ok-show.ensures.found
 
 pub returns-else-unwrap_or : goal.returns-else-unwrap_or
 returns-else-unwrap_or c =

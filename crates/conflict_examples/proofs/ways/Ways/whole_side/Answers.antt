@@ -1,21 +1,43 @@
-use Rattle.std.proofs.Common.{◌-◌, IfSome, ap, drop, length, map, subst, take, ◌∙◌}
-use Rattle.std.proofs.lemmas.List.{map-append}
+use Rattle.std.proofs.Common.{◌<◌, map, subst, sym, ◌∙◌}
+use Rattle.std.specs.Map.{lookup}
+use Rattle.std.proofs.lemmas.List.{length-map}
+use Rattle.cfgrammar.specs.Numbered.{production_core}
 use Rattle.conflict_examples.specs.declared.nodes.Node.TheVariants as nodes
-use Rattle.conflict_examples.specs.Inner.Searches.{Shows, grammar_of, used_of}
+use Rattle.conflict_examples.specs.contracts.nodes.NodePartialEq.TheImpl.{ghosts as compared}
+use Rattle.conflict_examples.specs.Inner.Searches.{grammar_of, used_of}
 use Rattle.conflict_examples.specs.Inner.Tables.{step_of}
-use Rattle.conflict_examples.proofs.Showing.{f, tail_of}
+use Rattle.conflict_examples.proofs.Compared.{is_absent, known_step, none_known}
+use Rattle.conflict_examples.proofs.Showing.{f}
 use Rattle.conflict_examples.proofs.Sides.{whole_shown}
+use Rattle.conflict_examples.proofs.Walked.{known_shown}
 use Rattle.conflict_examples.proofs.ways.Ways.whole_side.Goals as goal
 
-pub returns-in_ok-with_front-in-Some : goal.returns-in_ok-with_front-in-Some
-returns-in_ok-with_front-in-Some c =
+pub unread-requires-clause-within : goal.unread-requires-clause-within
+unread-requires-clause-within c =
     let w = c.args.self.now in
-    let at = c.args.at in
-    let side = c.in-Some.side in
-    let whole = c.in_ok-with_front-in-Some.field-0 in
-    let xs = c.symbols_of.result.now in
-    let unread = take (length xs - at.item.read) (drop at.item.read xs) in
-    whole_shown (grammar_of w) (used_of w) (step_of w.road) w.token at side whole (map f unread)
-    (subst (λ o. IfSome o (Shows w (nodes.Item at))) c.in-Some.is c.in_ok-side.ensures.shown)
-    (tail_of at.item.read xs ∙ ap (drop at.item.read) c.symbols_of.ensures.symbols) (ap (map f) c.in_ok-with_front-in-Some.ensures.prefix)
-    (ap (map f) c.in_ok-with_front-in-Some.ensures.rest ∙ map-append f unread side.rest.items)
+    let es = c.in_ok-found.found.entries in
+    let known = known_step (nodes.Item c.args.at) es (sym c.contains_key.ensures ∙ c.if-not-contains_key.false) in
+    let shown = known_shown (grammar_of w) (used_of w) (step_of w.road) w.token es c.in_ok-found.ensures.steps (nodes.Item c.args.at) known in
+    subst (λ n. c.args.at.item.production < n) (length-map w.grammar.now.productions production_core) shown.shown.0.used.within
+
+pub unread-requires-clause-read : goal.unread-requires-clause-read
+unread-requires-clause-read c =
+    let w = c.args.self.now in
+    let es = c.in_ok-found.found.entries in
+    let known = known_step (nodes.Item c.args.at) es (sym c.contains_key.ensures ∙ c.if-not-contains_key.false) in
+    (known_shown (grammar_of w) (used_of w) (step_of w.road) w.token es c.in_ok-found.ensures.steps (nodes.Item c.args.at) known).shown.0.read
+
+pub side-requires-clause-there : goal.side-requires-clause-there
+side-requires-clause-there c = known_step (nodes.Item c.args.at) c.in_ok-found.found.entries (sym c.contains_key.ensures ∙ c.if-not-contains_key.false)
+
+pub returns-then-not-contains_key : goal.returns-then-not-contains_key
+returns-then-not-contains_key c = λ reached.
+    let node = nodes.Item c.args.at in
+    let es = c.in_ok-found.found.entries in
+    let there = c.in_ok-found.ensures.has reached in
+    none_known node there.0 es there.1 (is_absent (lookup (compared.eq node) es) (sym c.contains_key.ensures ∙ c.if-not-contains_key.true))
+
+pub returns : goal.returns
+returns c =
+    let w = c.args.self.now in
+    whole_shown (grammar_of w) (used_of w) (step_of w.road) w.token c.args.at (map f c.unread.result.now) c.in_ok-side.field-0 c.unread.ensures c.in_ok-side.ensures
