@@ -1,3 +1,4 @@
 pub mod Within
 pub mod Sides
 pub mod Ranges
+pub mod Endings

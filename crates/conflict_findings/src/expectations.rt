@@ -1,6 +1,6 @@
 //! Expectations of conflicts.
 
-ghost use Rattle.std.specs.Prelude.{◌≡◌, ◌++◌, IfOk, OnOk, if◌then◌else◌};
+ghost use Rattle.std.specs.Prelude.{◌≡◌, ◌||◌, ◌++◌, IfOk, OnOk, if◌then◌else◌, is_some, not};
 ghost use Rattle.cfgrammar.specs.TreeView.{syntax};
 ghost use Rattle.conflict_findings.specs.Conflicts.{all_unmet, is_listed};
 ghost use Rattle.conflict_findings.specs.Shown.{unmet};
@@ -66,9 +66,16 @@ pub(crate) fn push_unmet(
     )?;
     let unmet = before < all.len();
     Ok(Listing {
-        shift_reduce: unmet || expect.is_none(),
-        reduce_reduce: unmet || expectrr.is_none(),
+        shift_reduce: is_listed(unmet, expect),
+        reduce_reduce: is_listed(unmet, expectrr),
     })
+}
+
+/// Whether conflicts are listed of which so many are expected: they are if any expectation isn't met.
+fn is_listed(unmet: bool, expected: &Option<(usize, Span)>) -> bool
+    ensures { result ≡ unmet || not (is_some expected.now) }
+{
+    unmet || expected.is_none()
 }
 
 /// Adds that there are so many conflicts, if another number is expected.

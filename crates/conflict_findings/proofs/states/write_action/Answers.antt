@@ -1,5 +1,4 @@
-use Rattle.std.proofs.Common.{◌≡◌, ℕ, Bool, cond, List, [], ◌++◌, IfSome, append_assoc, codes, length, rules, string_bytes, eq-eqb, sym, ap, subst, ◌∙◌}
-use Rattle.std.specs.Prelude.{Result, Ok, Err, OnOk, is_ok, if◌then◌else◌}
+use Rattle.std.proofs.Common.{◌≡◌, ℕ, Bool, cond, List, [], ◌++◌, IfSome, append_assoc, codes, length, string_bytes, eq-eqb, sym, ap, subst, ◌∙◌}
 use Rattle.std.proofs.lemmas.List.{length-map}
 use Rattle.std.proofs.lemmas.Result.{on_ok_weaker}
 use Rattle.cfgrammar.specs.Numbered.{Numbered}
@@ -8,6 +7,7 @@ use Rattle.lr_lookaheads.specs.Lookaheads.{tokens_of}
 use Rattle.lr_conflicts.specs.Conflicts.{ConflictTables}
 use Rattle.conflict_findings.specs.Shown.{symbols_of, tokens_text}
 use Rattle.conflict_findings.specs.States.{action_line, action_text, tokens_in}
+use Rattle.conflict_findings.proofs.Endings.{ended}
 use Rattle.conflict_findings.proofs.states.write_action.Goals as goal
 
 -- a text to which texts are added one by one
@@ -15,11 +15,6 @@ added : (t a b c d e : List ℕ) {ta tb tc td te : List ℕ} → ta ≡ t ++ a �
     → te ≡ t ++ (a ++ (b ++ (c ++ (d ++ e))))
 added t a b c d e at tokens colon action end =
     end ∙ ap (λ t. t ++ e) (action ∙ ap (λ t. t ++ d) (colon ∙ ap (λ t. t ++ c) (tokens ∙ ap (λ t. t ++ b) at))) ∙ simp append_assoc
-
--- the last one is added, if memory doesn't run out
-ended : {T E : Type 0} (r : Result T E) (text last after : List ℕ) → after ≡ (if is_ok r then text ++ last else text) → OnOk r (after ≡ text ++ last)
-ended (Ok x) text last after is = is
-ended (Err e) text last after is = search rules
 
 module _ (g : Numbered) (x : ConflictTables) (q : ℕ) (item : Item) (read : item.read ≡ length (symbols_of g item.production)) where
   abbrev line : List Bool → List ℕ
