@@ -149,16 +149,31 @@ fn aliases_of(alloc: Global, own: &[String], items: &[Item]) -> Result<Aliases, 
     if_added(aliases, given)
 }
 
+/// Adds the names of words to an empty list, by the names that they have by themselves.
+fn push_called(
+    alloc: Global,
+    names: &mut Vec<String>,
+    aliases: &Aliases,
+    own: &[String],
+) -> Result<(), AllocError>
+    requires { names.old.items ≡ [] }
+    ensures { OnOk result (map string_bytes names.new.items
+        ≡ map (called (aliases_view aliases.now)) (map string_bytes own.now)) }
+{
+    for name in own {
+        names.push(String::from_str(alloc, aliases.called(name.as_str()))?)?;
+    }
+    Ok(())
+}
+
 /// The names of words, by the names that they have by themselves.
 fn called(alloc: Global, aliases: &Aliases, own: &[String]) -> Result<Vec<String>, AllocError>
     ensures { IfOk result (λ names. map string_bytes names.items
         ≡ map (called (aliases_view aliases.now)) (map string_bytes own.now)) }
 {
     let mut names = Vec::new(alloc);
-    for name in own {
-        names.push(String::from_str(alloc, aliases.called(name.as_str()))?)?;
-    }
-    Ok(names)
+    let pushed = push_called(alloc, &mut names, aliases, own);
+    if_added(names, pushed)
 }
 
 /// The name of each word.

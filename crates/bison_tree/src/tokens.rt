@@ -70,11 +70,10 @@ fn push_of_part(tokens: &mut Vec<usize>, words: &[Word<'_>], part: Part) -> Resu
     ensures { OnOk result (tokens.new.items ≡ tokens.old.items ++ tokens_of_part (map word_view words.now) part) }
 {
     match part.kind {
-        PartKind::Symbol => push_itself(tokens, words, part.word)?,
-        PartKind::Precedence => tokens.push(part.last)?,
-        _ => {}
+        PartKind::Symbol => push_itself(tokens, words, part.word),
+        PartKind::Precedence => Ok(tokens.push(part.last)?),
+        _ => Ok(()),
     }
-    Ok(())
 }
 
 /// Adds the words of a production that are tokens.

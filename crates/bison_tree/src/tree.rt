@@ -123,7 +123,7 @@ impl<'a> Symbols<'a> {
             (expected_unused (words_in self.entry) (names_in self.entry) symbol)) }
     {
         if self.is_unneeded(symbol) {
-            builder.expect_unused_token(alloc, self.word(symbol))?;
+            return builder.expect_unused_token(alloc, self.word(symbol));
         }
         Ok(())
     }
@@ -283,10 +283,10 @@ impl<'a> Symbols<'a> {
         if let Some(word) = expect {
             builder.declare_expect(self.number(word))?;
         }
-        if let Some(word) = expect_reduce_reduce {
-            builder.declare_expect_rr(self.number(word))?;
+        match expect_reduce_reduce {
+            Some(word) => builder.declare_expect_rr(self.number(word)),
+            None => Ok(()),
         }
-        Ok(())
     }
 
     /// Adds everything but tokens.
