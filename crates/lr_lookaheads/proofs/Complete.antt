@@ -1,7 +1,7 @@
 -- Whatever token a node asks for is reached from it.
-use Rattle.std.proofs.Common.{◌≡◌, ℕ, zero, suc, ◌+◌, ◌<◌, ◌≤◌, cond, List, [], ◌∷◌, ◌++◌, Option, None, Some, Contains, append-nil, append_assoc, get_or, slice_get, drop, length, take, length-append, add-one, refl, sym, ap, subst, ◌∙◌, arith}
+use Rattle.std.proofs.Common.{◌≡◌, inl, inr, ℕ, zero, suc, ◌+◌, ◌<◌, ◌≤◌, cond, List, [], ◌∷◌, ◌++◌, Option, None, Some, Contains, append-nil, append_assoc, get_or, slice_get, drop, length, take, length-append, add-one, refl, sym, ap, subst, ◌∙◌, arith}
 use Rattle.std.proofs.lemmas.Bool.{ne_eqb}
-use Rattle.std.proofs.lemmas.List.{drop_at, length_push, take_at}
+use Rattle.std.proofs.lemmas.List.{drop_at, length-drop, length_push, take_at}
 use Rattle.search.specs.Reachable.{Reachable, led, seed}
 use Rattle.cfgrammar.specs.Grammar.{Grammar, IsGrammar, Sym, Rule, Token}
 use Rattle.cfgrammar.specs.Derivation.{Derives}
@@ -15,10 +15,23 @@ use Rattle.lr_states.specs.Viable.{AreStates, HasNext, IsStateOf, IsValid, IsVia
 use Rattle.lr_states.specs.Automaton.{AreGotos, Automaton, IsGoto, goto_of}
 use Rattle.lr_states.proofs.Spines.{more_read, slice_at}
 use Rattle.lr_states.proofs.Closed.{next_symbol}
-use Rattle.lr_lookaheads.specs.Lookaheads.{HasUsed, IsLookahead, MayBegin, Shows, begins, ends}
-use Rattle.lr_lookaheads.specs.Inner.Graph.{LeadsTo, Node, begun, next, node_at, rest_of, shown, token}
+use Rattle.lr_lookaheads.specs.Lookaheads.{HasUsed, IsLookahead, MayBegin, begins, ends}
+use Rattle.lr_lookaheads.specs.Inner.Graph.{LeadsTo, Node, begun, item_after, next, node_at, token, unread_of}
 use Rattle.lr_lookaheads.specs.Inner.Graph as graph
-use Rattle.lr_lookaheads.proofs.Firsts.{BeginsIn, SymbolBegins, begins_in, begins_none, begins_shows, first, second}
+use Rattle.lr_lookaheads.proofs.Firsts.{BeginsIn, begins_in, begins_none, first, second}
+use Rattle.lr_lookaheads.proofs.Sound.{unread_at}
+
+-- the next symbol of an item, by what isn't read of it
+unread_next : (g : Grammar) (item : Item) (symbol : Sym) (symbols : List Sym) → unread_of g item ≡ symbol ∷ symbols → HasNext g item symbol × (unread_of g (item_after item) ≡ symbols)
+unread_next g item symbol symbols is =
+    let all = (nth_production g item.production).symbols in
+    let long = ap length is in
+    let left = length-drop item.read all in
+    let within : item.read < length all = omega (arith, long, left) in
+    let (here, at) = element_at all item.read within in
+    let both : here ∷ unread_of g (item_after item) ≡ symbol ∷ symbols = sym (unread_at g item here at) ∙ is in
+    let same : here ≡ symbol = cc in
+    (at ∙ ap Some same, cc)
 
 -- one step more at the beginning
 pub led_first : {A : Type 0} {Leads : A → A → Type 0} {a b c : A} → Leads a b → Reachable (λ n. n ≡ b) Leads c → Reachable (λ n. n ≡ a) Leads c
@@ -36,30 +49,24 @@ module _ (g : Grammar) (Used : ℕ → Type 0) (x : Automaton) where
   abbrev ReachesFirst : ℕ → ℕ → Type 0
   ReachesFirst r t = Reaches (begun r) t
 
-  symbol_reaches : (symbol : Sym) (t : ℕ) → SymbolBegins ReachesFirst symbol t → Reaches (shown symbol) t
-  symbol_reaches (Rule r) t h = h
-  symbol_reaches (Token u) t h = seed (ap token (sym h))
+  -- the tokens that what isn't read of an item begins with are reached
+  rest_reaches : (symbols : List Sym) (item : Item) → Used item.production → unread_of g item ≡ symbols → (t : ℕ) → Begins (Nullable P) ReachesFirst symbols t → Reaches (graph.rest item) t
+  rest_reaches [] item used is t h = absurd h
+  rest_reaches (Token u ∷ symbols) item used is t h = led_first (graph.shows item used (Token u) (unread_next g item (Token u) symbols is).0) (seed (ap token (sym h)))
+  rest_reaches (Rule r ∷ symbols) item used is t (inl h) = led_first (graph.shows item used (Rule r) (unread_next g item (Rule r) symbols is).0) h
+  rest_reaches (Rule r ∷ symbols) item used is t (inr h) =
+      let (at, later) = unread_next g item (Rule r) symbols is in
+      led_first (graph.skips item used (Rule r) at h.0) (rest_reaches symbols (item_after item) used later t h.1)
 
   -- what rules reach is closed, so it is all that they begin with
   begun_reaches : (r : ℕ) (symbols : List Sym) → P r symbols → (t : ℕ) → Begins (Nullable P) ReachesFirst symbols t → ReachesFirst r t
-  begun_reaches r symbols has t h =
-      let w = begins_shows g Used ReachesFirst symbols t h in
-      subst (λ m. ReachesFirst m t) has.owner
-      (led_first (graph.begins has.index has.used w.symbol (subst (λ l. Shows g Used l w.symbol) (sym has.is) w.shows)) (symbol_reaches w.symbol t w.begins))
+  begun_reaches r symbols has t h = subst (λ m. ReachesFirst m t) has.owner (led_first (graph.begins has.index has.used) (rest_reaches symbols (item_at has.index 0) has.used has.is t h))
 
   reached_closed : IsClosed P (Nullable P) ReachesFirst
   reached_closed r symbols has = record { empty = (derived_closed P r symbols has).empty; first = begun_reaches r symbols has }
 
-  -- symbols that begin with the token show a symbol that reaches it
-  pub record ShowsReaching (symbols : List Sym) (t : ℕ) : Type 0 where
-    pub symbol : Sym
-    pub shows : Shows g Used symbols symbol
-    pub reaches : Reaches (shown symbol) t
-
-  pub first_reached : (symbols : List Sym) (t : ℕ) (rest : List Sym) → Derives P symbols (Token t ∷ rest) → ShowsReaching symbols t
-  first_reached symbols t rest d =
-      let w = begins_shows g Used ReachesFirst symbols t (begins_derived P (Nullable P) ReachesFirst reached_closed t d refl) in
-      record { symbol = w.symbol; shows = w.shows; reaches = symbol_reaches w.symbol t w.begins }
+  pub first_reached : (item : Item) → Used item.production → (t : ℕ) (back : List Sym) → Derives P (unread_of g item) (Token t ∷ back) → Reaches (graph.rest item) t
+  first_reached item used t back d = rest_reaches (unread_of g item) item used refl t (begins_derived P (Nullable P) ReachesFirst reached_closed t d refl)
 
 -- what comes after the symbol at the end of a list
 rest_at : (read rest : List Sym) (x : Sym) → drop (length read + 1) (read ++ x ∷ rest) ≡ rest
@@ -132,13 +139,13 @@ module _ (g : Grammar) (grammar : IsGrammar g) (Used : ℕ → Type 0) (x : Auto
       subst (λ n. Reaches g Used x (next n 0) t) (sym same) (led (seed refl) (graph.finish some t is))
 
   -- the rule that is next in an item, by what comes after it in its production, and after the item
-  next_reaches : (q : ℕ) → q < length x.states → (item : Item) → Contains (state_at q) item → (rule : ℕ) → HasNext g item (Rule rule)
-      → (rest after : List Sym) → rest_of g item ≡ rest
-      → (t : ℕ) → BeginsIn g Used rest after t → (MayBegin g Used after t → Reaches g Used x (node_at g q item) t) → Reaches g Used x (next q rule) t
-  next_reaches q within item among rule at rest after is t (first back d) later =
-      let w = first_reached g Used x rest t back d in
-      led_first (graph.comes q within item among rule at w.symbol (subst (λ l. Shows g Used l w.symbol) (sym is) w.shows)) w.reaches
-  next_reaches q within item among rule at rest after is t (second nullable comes) later =
+  next_reaches : (q : ℕ) → q < length x.states → (item : Item) → Contains (state_at q) item → Used item.production → (rule : ℕ) → HasNext g item (Rule rule)
+      → (back after : List Sym) → unread_of g (item_after item) ≡ back
+      → (t : ℕ) → BeginsIn g Used back after t → (MayBegin g Used after t → Reaches g Used x (node_at g q item) t) → Reaches g Used x (next q rule) t
+  next_reaches q within item among used rule at back after is t (first more d) later =
+      led_first (graph.comes q within item among rule at)
+      (first_reached g Used x (item_after item) used t more (subst (λ l. Derives (HasUsed g Used) l (Token t ∷ more)) (sym is) d))
+  next_reaches q within item among used rule at back after is t (second nullable comes) later =
       led_first (graph.ends q within item among rule at (subst (λ l. Derives (HasUsed g Used) l []) (sym is) nullable)) (later comes)
 
   -- whatever may come after the rule of a spine is reached from where the rule is next
@@ -151,7 +158,7 @@ module _ (g : Grammar) (grammar : IsGrammar g) (Used : ℕ → Type 0) (x : Auto
       let most : i ≤ length (symbols p) = let long = ap length split in let parts = length-append read (Rule rule ∷ rest) in omega (arith, long, parts) in
       let front : take i (symbols p) ≡ read = ap (take i) split ∙ take_at read (Rule rule ∷ rest) i refl in
       let here : IsStateOf g Used (before ++ take i (symbols p)) (state_at q) = subst (λ l. IsStateOf g Used (before ++ l) (state_at q)) (sym front) state in
-      next_reaches q within (item_at p i) ((here (item_at p i)).1 (valid_at before after p used mine i most)) rule
+      next_reaches q within (item_at p i) ((here (item_at p i)).1 (valid_at before after p used mine i most)) used rule
       (ap (λ l. slice_get l i) split ∙ slice_at read rest (Rule rule)) rest after (ap (drop (i + 1)) split ∙ rest_at read rest (Rule rule)) t (begins_in g Used rest after t comes)
       (λ comes. item_reaches before after p used mine t
       (λ r inside opened. subst (λ r'. Reaches g Used x (next r r') t) (sym own) (spine_reaches spine t comes r inside opened)) i most q within here)

@@ -5,12 +5,13 @@ pub mod Reaching
 pub mod Nullables
 pub mod Bounds
 pub mod Places
+pub mod Rests
 pub mod Numbering
 pub mod MadeEdges
 pub mod Ready
 pub mod Blocks
 pub mod Adds
-pub mod Shown
+pub mod NullableFrom
 pub mod Pushed
 pub mod Whole
 pub mod ComponentRows

@@ -2,6 +2,7 @@
 use Rattle.std.proofs.Common.{◌≡◌, ◌==◌, ◌↔◌, ◌⊎◌, inl, inr, ℕ, zero, suc, ◌+◌, ◌-◌, ◌<◌, Bool, true, false, cond, nat_lt, List, [], ◌∷◌, ◌++◌, Option, None, Some, Contains, drop, get_or, length, slice_get, take, append-nil, length-append, refl, sym, ap, subst, ◌∙◌, arith, lt-ltb, true≢false}
 use Rattle.std.proofs.lemmas.Bool.Decides.{Decides-eqb, Decides-ltb}
 use Rattle.std.proofs.lemmas.List.{take_at}
+use Rattle.std.proofs.lemmas.Option.{slice_get_within}
 use Rattle.search.specs.Reachable.{Reachable, led, seed}
 use Rattle.cfgrammar.specs.Grammar.{Grammar, IsGrammar, IsSymbolOf, Sym, Rule, Token}
 use Rattle.cfgrammar.specs.Derivation.{Derives}
@@ -14,14 +15,14 @@ use Rattle.lr_states.proofs.Closed.{next_symbol, next_within}
 use Rattle.lr_states.proofs.Spines.{read_back, read_one, slice_at}
 use Rattle.search.proofs.PathGroups.{contains_there}
 use Rattle.lr_states.proofs.Targets.{target_state}
-use Rattle.lr_lookaheads.specs.Lookaheads.{HasUsed, IsLookahead, Shows}
-use Rattle.lr_lookaheads.specs.Inner.Graph.{LeadsTo, Node, begun, next, node_at, read, rest_of, shown, token}
+use Rattle.lr_lookaheads.specs.Lookaheads.{HasUsed, IsLookahead}
+use Rattle.lr_lookaheads.specs.Inner.Graph.{LeadsTo, Node, begun, item_after, next, node_at, read, shown, token}
 use Rattle.lr_lookaheads.specs.Inner.Graph as graph
 use Rattle.lr_lookaheads.specs.Inner.Reached.{Leads}
 use Rattle.lr_lookaheads.specs.Inner.Numbers.{AreNumbers, IsNode, Numbers, at_place, at_start, block_of, by_target, item_number, next_number, number, place_of_item, shown_number}
-use Rattle.lr_lookaheads.specs.Inner.Edges.{IsEdge, ItemEdge, at_end, before_number, by_production, rule_at}
+use Rattle.lr_lookaheads.specs.Inner.Edges.{IsEdge, ItemEdge, RestEdge, at_end, before_number, by_production, rule_at}
 use Rattle.lr_lookaheads.specs.Inner.Edges as made
-use Rattle.lr_lookaheads.proofs.Bounds.{rest_within, rule_within, shown_within, symbols_within}
+use Rattle.lr_lookaheads.proofs.Bounds.{rule_within}
 use Rattle.lr_lookaheads.proofs.Reaching.{lookaheads_are_reached}
 use Rattle.lr_lookaheads.proofs.Numbering.{injective, number_within}
 use Rattle.lr_lookaheads.proofs.Places.{item_placed, place_holds, rule_placed, target_found}
@@ -99,6 +100,15 @@ module _ (g : Grammar) (grammar : IsGrammar g) (Used : ℕ → Type 0) (bound : 
       let goes = goes_on q within item among (Rule rule) at in
       let (place, is) = target_for q (Rule rule) goes.state goes.goes in
       (within, next_symbol g grammar item (Rule rule) at, by_target (record { symbol = rule; state = goes.state }) (contains_there (targets_at q) place _ is) refl)
+
+  -- what comes after an item's next symbol
+  pub after_node : (item : Item) (symbol : Sym) → HasNext g item symbol → IsNode g x (graph.rest (item_after item))
+  after_node item symbol at =
+      let low = slice_get_within (symbols_at item.production) item.read symbol at in
+      (next_within g item symbol at, omega (arith, low))
+
+  pub rest_node : (item : Item) (symbol : Sym) → HasNext g item symbol → IsNode g x (graph.rest item)
+  rest_node item symbol at = let (there, low) = after_node item symbol at in (there, omega (arith, low))
 
   pub symbol_node : (symbol : Sym) → IsSymbolOf g symbol → IsNode g x (shown symbol)
   symbol_node (Rule r) is = is
@@ -214,20 +224,19 @@ module _ (g : Grammar) (grammar : IsGrammar g) (Used : ℕ → Type 0) (bound : 
         second = second ∙ item_is q before (next_within g before m.symbol m.next);
         leads = subst (λ k. LeadsTo g Used x (read target.state (item_at item.production k)) (node_at g q before)) m.more (graph.back q within before m.among m.symbol m.next target.state m.goes);
       }
-  item_led q place target index item a b within at is some (made.comes node for shows) =
+  item_led q place target index item a b within at is some (made.comes node for first second) =
       let m = moves q place target index item within at is some in
       let before = item_at item.production (item.read - 1) in
       let rule = rule_is q place target node within at for in
       let next' : HasNext g before (Rule target.symbol) = subst (HasNext g before) (rule_symbol g.rules m.symbol target.symbol m.number rule.low) m.next in
-      let rest : Shows g Used (rest_of g before) shows.symbol = subst (λ k. Shows g Used (drop k (symbols_at item.production)) shows.symbol) (sym m.more) shows.shows in
       record {
         from = next q target.symbol;
-        to = shown shows.symbol;
+        to = graph.rest item;
         source = next_node q within before m.among target.symbol next';
-        dest = symbol_node shows.symbol (shown_within g grammar Used (rest_of g before) shows.symbol (rest_within g grammar before) rest);
-        first = shows.source ∙ rule.is;
-        second = shows.target ∙ shown_is n x shows.symbol;
-        leads = graph.comes q within before m.among target.symbol next' shows.symbol rest;
+        dest = subst (λ k. IsNode g x (graph.rest (item_at item.production k))) m.more (after_node before m.symbol m.next);
+        first = first ∙ rule.is;
+        second = second;
+        leads = subst (λ k. LeadsTo g Used x (next q target.symbol) (graph.rest (item_at item.production k))) m.more (graph.comes q within before m.among target.symbol next');
       }
   item_led q place target index item a b within at is some (made.ends node for nullable first second) =
       let m = moves q place target index item within at is some in
@@ -244,6 +253,26 @@ module _ (g : Grammar) (grammar : IsGrammar g) (Used : ℕ → Type 0) (bound : 
         leads = graph.ends q within before m.among target.symbol next' (subst (λ k. Derives (HasUsed g Used) (drop k (symbols_at item.production)) []) (sym m.more) nullable);
       }
 
+  rest_led : (item : Item) → Used item.production → (symbol : Sym) → HasNext g item symbol → (a b : ℕ) → RestEdge g Used n x item symbol a b → Led a b
+  rest_led item used symbol at a b (made.shows first second) = record {
+    from = graph.rest item;
+    to = shown symbol;
+    source = rest_node item symbol at;
+    dest = symbol_node symbol (next_symbol g grammar item symbol at);
+    first = first;
+    second = second ∙ shown_is n x symbol;
+    leads = graph.shows item used symbol at;
+  }
+  rest_led item used symbol at a b (made.skips nullable first second) = record {
+    from = graph.rest item;
+    to = graph.rest (item_after item);
+    source = rest_node item symbol at;
+    dest = after_node item symbol at;
+    first = first;
+    second = second;
+    leads = graph.skips item used symbol at nullable;
+  }
+
   led_of : (a b : ℕ) → IsEdge g Used n x a b → Led a b
   led_of a b (at_end e) = record {
     from = next 0 0;
@@ -254,15 +283,18 @@ module _ (g : Grammar) (grammar : IsGrammar g) (Used : ℕ → Type 0) (bound : 
     second = refl;
     leads = graph.finish e.some b e.target;
   }
-  led_of a b (by_production p within e) = record {
-    from = begun (nth_production g p).rule;
-    to = shown e.shows.symbol;
-    source = rule_within g grammar p;
-    dest = symbol_node e.shows.symbol (shown_within g grammar Used (symbols_at p) e.shows.symbol (symbols_within g grammar p) e.shows.shows);
-    first = e.shows.source;
-    second = e.shows.target ∙ shown_is n x e.shows.symbol;
-    leads = graph.begins p e.used e.shows.symbol e.shows.shows;
-  }
+  led_of a b (by_production p within e) = elim e.edge [
+    | inl h ↦ record {
+      from = begun (nth_production g p).rule;
+      to = graph.rest (item_at p 0);
+      source = rule_within g grammar p;
+      dest = (within, omega arith);
+      first = h.0;
+      second = h.1;
+      leads = graph.begins p e.used;
+    }
+    | inr k ↦ rest_led (item_at p k.index) e.used k.finds.symbol k.finds.at a b k.finds.edge
+  ]
   led_of a b (made.by_target q place within e) = item_led q place e.target e.index e.edge.item a b within e.at e.edge.is e.edge.some e.edge.edge
 
   -- an item's edges, by its target and the item after its next symbol
@@ -292,13 +324,24 @@ module _ (g : Grammar) (grammar : IsGrammar g) (Used : ℕ → Type 0) (bound : 
       let same : item.read ≡ item.read + 1 - 1 = omega arith in
       sym (item_is q item there) ∙ ap (λ k. item_number n x q (item_at item.production k)) same
 
+  rest_edge : (item : Item) → Used item.production → (symbol : Sym) → HasNext g item symbol → (a b : ℕ) → RestEdge g Used n x item symbol a b → IsEdge g Used n x a b
+  rest_edge item used symbol at a b edge = by_production item.production (bound item.production used) (record {
+    used = used;
+    edge = inr (record {
+      index = item.read;
+      below = slice_get_within (symbols_at item.production) item.read symbol at;
+      finds = record { symbol = symbol; at = at; edge = edge };
+    });
+  })
+
   edge_of : {a b : Node} → LeadsTo g Used x a b → IsEdge g Used n x (number n x a) (number n x b)
-  edge_of (graph.begins p used symbol shows) = by_production p (bound p used) (record { used = used; shows = record { source = refl; symbol = symbol; shows = shows; target = sym (shown_is n x symbol) } })
-  edge_of (graph.comes q within item among rule at symbol shows) =
+  edge_of (graph.begins p used) = by_production p (bound p used) (record { used = used; edge = inl (refl, refl) })
+  edge_of (graph.shows item used symbol at) = rest_edge item used symbol at _ _ (made.shows refl (sym (shown_is n x symbol)))
+  edge_of (graph.skips item used symbol at nullable) = rest_edge item used symbol at _ _ (made.skips nullable refl refl)
+  edge_of (graph.comes q within item among rule at) =
       let goes = goes_on q within item among (Rule rule) at in
       edge_by q within item (Rule rule) goes.state goes.goes goes.inside goes.holds _ _
-      (λ place is. made.comes (number n x (next q rule)) (rule_there q rule goes.state place within (next_symbol g grammar item (Rule rule) at) is)
-      (record { source = refl; symbol = symbol; shows = shows; target = sym (shown_is n x symbol) }))
+      (λ place is. made.comes (number n x (next q rule)) (rule_there q rule goes.state place within (next_symbol g grammar item (Rule rule) at) is) refl refl)
   edge_of (graph.ends q within item among rule at nullable) =
       let goes = goes_on q within item among (Rule rule) at in
       edge_by q within item (Rule rule) goes.state goes.goes goes.inside goes.holds _ _

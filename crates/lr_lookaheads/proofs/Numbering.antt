@@ -8,8 +8,9 @@ use Rattle.lr_states.specs.Automaton.{Automaton, HaveTargets}
 use Rattle.lr_states.specs.Viable.{AreSorted}
 use Rattle.search.proofs.PathGroups.{contains_at}
 use Rattle.lr_lookaheads.specs.declared.nodes.Block.{Block}
-use Rattle.lr_lookaheads.specs.Inner.Graph.{Node, begun, next, read, token}
+use Rattle.lr_lookaheads.specs.Inner.Graph.{Node, begun, next, read, rest, token}
 use Rattle.lr_lookaheads.specs.Inner.Numbers.{AreNumbers, IsBlock, IsNext, IsNode, Numbers, at_place, block_of, number, place_of_item, place_of_rule, at_start, by_target}
+use Rattle.lr_lookaheads.proofs.Rests.{rests_rise}
 use Rattle.lr_lookaheads.proofs.Places.{place_cases, place_holds, rule_placed}
 
 module _ (g : Grammar) (x : Automaton) (n : Numbers) (are : AreNumbers g x n) (ready : HaveTargets g x)
@@ -23,15 +24,39 @@ module _ (g : Grammar) (x : Automaton) (n : Numbers) (are : AreNumbers g x n) (r
   abbrev block : ℕ → Block
   block q = block_of n q
 
+  abbrev first_of : ℕ → ℕ
+  first_of p = get_or n.rests p 0
+
+  -- a production's nodes come before those of later ones
+  rest_before : (item : Item) → IsNode g x (rest item) → (r : ℕ) → item.production < r → r ≤ length g.productions → number n x (rest item) < first_of r
+  rest_before item (there, within) r less most =
+      let more = are.rests.each item.production there in
+      let later = rests_rise g (n.tokens + n.rules + 1) n.rests are.rests (item.production + 1) r (omega (arith, less)) most in
+      omega (arith, within, more, later)
+
+  -- those of productions come after those of tokens and rules
+  rests_after : (p : ℕ) → p ≤ length g.productions → n.tokens + n.rules < first_of p
+  rests_after p most = let first = are.rests.first in let later = rests_rise g (n.tokens + n.rules + 1) n.rests are.rests 0 p (omega arith) most in omega (arith, first, later)
+
+  rest_high : (item : Item) → IsNode g x (rest item) → n.tokens + n.rules < number n x (rest item)
+  rest_high item is = let there = is.0 in let after = rests_after item.production (omega (arith, there)) in omega (arith, after)
+
+  -- and before those of states
+  rest_end : (item : Item) → IsNode g x (rest item) → number n x (rest item) < first_of (length g.productions)
+  rest_end item is = rest_before item is (length g.productions) is.0 (omega arith)
+
   has_block : (q : ℕ) → q < length x.states → q < length n.blocks
   has_block q within = subst (λ m. q < m) (sym are.states) within
 
   pub block_is : (q : ℕ) → q < length x.states → IsBlock g.rules (items_at q) (targets_at q) (block q)
   block_is q within = are.blocks.each q (has_block q within)
 
+  block_first : (q : ℕ) → q < length x.states → first_of (length g.productions) ≤ (block q).items
+  block_first q within = are.blocks.after q (has_block q within)
+
   -- a state's nodes come after those of tokens and rules
-  pub block_after : (q : ℕ) → q < length x.states → n.tokens + n.rules < (block q).items
-  block_after q within = let after = are.blocks.after q (has_block q within) in omega (arith, after)
+  block_after : (q : ℕ) → q < length x.states → n.tokens + n.rules < (block q).items
+  block_after q within = let first = block_first q within in let rests = rests_after (length g.productions) (omega arith) in omega (arith, first, rests)
 
   pub block_before : (q : ℕ) → q < length x.states → (block q).end ≤ n.len
   block_before q within = are.blocks.before q (has_block q within)
@@ -92,6 +117,29 @@ module _ (g : Grammar) (x : Automaton) (n : Numbers) (are : AreNumbers g x n) (r
   read_high : (q : ℕ) (item : Item) → IsNode g x (read q item) → n.tokens + n.rules < number n x (read q item)
   read_high q item is = let after = block_after q is.0 in omega (arith, after)
 
+  rest_rest : (item other : Item) → IsNode g x (rest item) → IsNode g x (rest other) → number n x (rest item) ≡ number n x (rest other) → rest item ≡ rest other
+  rest_rest item other a b same = elim (cases_lt item.production other.production) [
+    | inl less ↦ let there = b.0 in let before = rest_before item a other.production less (omega (arith, there)) in absurd (omega (arith, before, same))
+    | inr most ↦ elim (cases_lt other.production item.production) [
+      | inl more ↦ let there = a.0 in let before = rest_before other b item.production more (omega (arith, there)) in absurd (omega (arith, before, same))
+      | inr least ↦
+          let productions : item.production ≡ other.production = omega (arith, most, least) in
+          let firsts = ap first_of productions in
+          let reads : item.read ≡ other.read = omega (arith, same, firsts) in
+          λ i. rest (record { production = productions i; read = reads i })
+    ]
+  ]
+
+  rest_read : (item : Item) (q : ℕ) (other : Item) → IsNode g x (rest item) → IsNode g x (read q other) → number n x (rest item) ≡ number n x (read q other) → ⊥
+  rest_read item q other a b same = let end = rest_end item a in let first = block_first q b.0 in omega (arith, same, end, first)
+
+  rest_next : (item : Item) (q rule : ℕ) → IsNode g x (rest item) → IsNode g x (next q rule) → number n x (rest item) ≡ number n x (next q rule) → ⊥
+  rest_next item q rule a b same = elim (next_at q rule b) [
+    | placed place target at for here end ↦
+        let last = rest_end item a in let start = block_first q b.0 in let first = (block_is q b.0).first in omega (arith, same, here, last, start, first)
+    | alone zero first here ↦ let high = rest_high item a in omega (arith, same, high, here)
+  ]
+
   read_read : (q : ℕ) (item : Item) (r : ℕ) (other : Item) → IsNode g x (read q item) → IsNode g x (read r other) → number n x (read q item) ≡ number n x (read r other) → read q item ≡ read r other
   read_read q item r other a b same =
       let here = read_at q item a in
@@ -149,6 +197,15 @@ module _ (g : Grammar) (x : Automaton) (n : Numbers) (are : AreNumbers g x n) (r
   injective (token t) (begun r) a b same = let less = low t a in absurd (omega (arith, less, same))
   injective (token t) (read q item) a b same = let less = low t a in let high = read_high q item b in absurd (omega (arith, less, same, high))
   injective (token t) (next q rule) a b same = let less = low t a in let high = next_high q rule b in absurd (omega (arith, less, same, high))
+  injective (token t) (rest item) a b same = let less = low t a in let high = rest_high item b in absurd (omega (arith, less, same, high))
+  injective (begun r) (rest item) a b same = let less = low_rule r a in let high = rest_high item b in absurd (omega (arith, less, same, high))
+  injective (rest item) (token t) a b same = let less = low t b in let high = rest_high item a in absurd (omega (arith, less, same, high))
+  injective (rest item) (begun r) a b same = let less = low_rule r b in let high = rest_high item a in absurd (omega (arith, less, same, high))
+  injective (rest item) (rest other) a b same = rest_rest item other a b same
+  injective (rest item) (read q other) a b same = absurd (rest_read item q other a b same)
+  injective (rest item) (next q rule) a b same = absurd (rest_next item q rule a b same)
+  injective (read q other) (rest item) a b same = absurd (rest_read item q other b a (sym same))
+  injective (next q rule) (rest item) a b same = absurd (rest_next item q rule b a (sym same))
   injective (begun r) (token t) a b same = let less = low t b in absurd (omega (arith, less, same))
   injective (begun r) (begun s) a b same = let rules : r ≡ s = omega (arith, same) in ap begun rules
   injective (begun r) (read q item) a b same = let less = low_rule r a in let high = read_high q item b in absurd (omega (arith, less, same, high))
@@ -162,12 +219,16 @@ module _ (g : Grammar) (x : Automaton) (n : Numbers) (are : AreNumbers g x n) (r
   injective (next q rule) (read r item) a b same = absurd (read_next r item q rule b a (sym same))
   injective (next q rule) (next r other) a b same = next_next q rule r other a b same
 
+  pub start_within : n.tokens + n.rules < n.len
+  start_within = let after = rests_after (length g.productions) (omega arith) in let upto = are.blocks.upto in omega (arith, after, upto)
+
   -- each node's number is one of the graph's
   pub number_within : (a : Node) → IsNode g x a → number n x a < n.len
-  number_within (token t) a = let less = low t a in let upto = are.blocks.upto in omega (arith, less, upto)
-  number_within (begun r) a = let less = low_rule r a in let upto = are.blocks.upto in omega (arith, less, upto)
+  number_within (token t) a = let less = low t a in let after = start_within in omega (arith, less, after)
+  number_within (begun r) a = let less = low_rule r a in let after = start_within in omega (arith, less, after)
+  number_within (rest item) a = let end = rest_end item a in let upto = are.blocks.upto in omega (arith, end, upto)
   number_within (read q item) a = let end = (read_at q item a).end in let before = block_before q a.0 in omega (arith, end, before)
   number_within (next q rule) a = elim (next_at q rule a) [
     | placed place target at same here end ↦ let before = block_before q a.0 in omega (arith, end, before)
-    | alone zero first here ↦ let upto = are.blocks.upto in omega (arith, here, upto)
+    | alone zero first here ↦ let after = start_within in omega (arith, here, after)
   ]

@@ -1,27 +1,63 @@
 -- The edges of items, targets and states, as they are pushed.
-use Rattle.std.proofs.Common.{◌≡◌, ◌↔◌, ◌⊎◌, inl, inr, ℕ, ◌+◌, ◌-◌, ◌<◌, ◌≤◌, Bool, true, false, IfSome, cond, nat_lt, List, [], Option, None, Some, Contains, get_or, length, replicate, slice_get, refl, sym, ap, subst, ◌∙◌, arith}
+use Rattle.std.proofs.Common.{◌≡◌, ◌↔◌, ◌⊎◌, inl, inr, ℕ, ◌+◌, ◌-◌, ◌<◌, ◌≤◌, Bool, true, false, IfSome, cond, nat_lt, List, [], ◌∷◌, Option, None, Some, Contains, get_or, length, replicate, slice_get, refl, sym, ap, subst, ◌∙◌, arith}
 use Rattle.std.proofs.lemmas.Bool.Decides.{Decides-ltb}
 use Rattle.std.proofs.lemmas.Option.{slice_get-get_or, slice_get_within}
 use Rattle.cfgrammar.proofs.Contained.{contains_none}
 use Rattle.cfgrammar.proofs.Elements.{get_or-replicate_default}
-use Rattle.cfgrammar.specs.Grammar.{Grammar}
+use Rattle.cfgrammar.specs.Grammar.{Grammar, Sym}
 use Rattle.cfgrammar.specs.Derivation.{Derives}
 use Rattle.cfgrammar.specs.Openings.{nth_production}
 use Rattle.lr_states.specs.declared.Item.{Item}
 use Rattle.lr_states.specs.declared.kernels.Target.{Target}
 use Rattle.lr_states.specs.Automaton.{Automaton, IsGoto, goto_of, symbol_number, target_of}
-use Rattle.lr_states.specs.Viable.{IsUsed, item_at}
+use Rattle.lr_states.specs.Viable.{HasNext, IsUsed, item_at}
 use Rattle.search.proofs.PathGroups.{contains_there}
 use Rattle.lr_states.proofs.Targets.{target_state}
 use Rattle.lr_lookaheads.specs.Lookaheads.{HasUsed}
-use Rattle.lr_lookaheads.specs.Inner.Numbers.{AreReady, IsBlock, Numbers, block_of}
-use Rattle.lr_lookaheads.specs.Inner.Edges.{AddsEdges, Below, EndEdge, IsEdge, ItemEdge, KernelEdge, ProductionEdge, ShowsFrom, StateEdge, TargetEdge, at_end, back, back_of, before_number, by_production, by_target, comes, ends, rule_at}
+use Rattle.lr_lookaheads.specs.Inner.Graph.{item_after, unread_of}
+use Rattle.lr_lookaheads.specs.Inner.Numbers.{AreReady, IsBlock, Numbers, block_of, rest_number, shown_number}
+use Rattle.lr_lookaheads.specs.Inner.Edges.{AddsEdges, Below, EndEdge, IsEdge, ItemEdge, KernelEdge, ProductionEdge, RestEdge, StateEdge, SymbolEdge, TargetEdge, at_end, back, before_number, by_production, by_target, comes, ends, rule_at, shows, skips}
 use Rattle.lr_lookaheads.specs.Inner.Reached.{Leads}
 use Rattle.lr_lookaheads.proofs.Adds.{IsOne, adds_as, adds_then}
 use Rattle.lr_lookaheads.proofs.MadeEdges.{moves}
 use Rattle.lr_lookaheads.proofs.Numbering.{block_before, block_is}
 use Rattle.lr_lookaheads.proofs.Ready.{production_within, used_within}
 
+-- the edges by an item's next symbol
+module _ (g : Grammar) (Used : ℕ → Type 0) (n : Numbers) (x : Automaton) (item : Item) (symbol : Sym) (node to : ℕ) (is : node ≡ rest_number n item) (shown : to ≡ shown_number n symbol) where
+  pub rest_shows : (Derives (HasUsed g Used) (symbol ∷ []) [] → ⊥) → (old new : List (List ℕ)) → AddsEdges (IsOne node to) old new → AddsEdges (RestEdge g Used n x item symbol) old new
+  rest_shows full old new w = adds_as (IsOne node to) (RestEdge g Used n x item symbol) old new (λ a b h. shows (h.0 ∙ is) (h.1 ∙ shown)) (λ a b e. go a b e) w
+    where
+      go : (a b : ℕ) → RestEdge g Used n x item symbol a b → IsOne node to a b
+      go a b (shows first second) = (first ∙ sym is, second ∙ sym shown)
+      go a b (skips nullable first second) = absurd (full nullable)
+
+  pub rest_skips : Derives (HasUsed g Used) (symbol ∷ []) [] → (more : ℕ) → more ≡ node + 1 → (old mid new : List (List ℕ)) → AddsEdges (IsOne node to) old mid → AddsEdges (IsOne node more) mid new
+      → AddsEdges (RestEdge g Used n x item symbol) old new
+  rest_skips nullable more more_is old mid new w v = adds_as (λ a b. IsOne node to a b ⊎ IsOne node more a b) (RestEdge g Used n x item symbol) old new
+      (λ a b h. elim h [ inl k ↦ shows (k.0 ∙ is) (k.1 ∙ shown) | inr k ↦ skips nullable (k.0 ∙ is) (k.1 ∙ onwards) ])
+      (λ a b e. go a b e)
+      (adds_then (IsOne node to) (IsOne node more) old mid new w v)
+    where
+      onwards : more ≡ rest_number n (item_after item)
+      onwards = omega (arith, more_is, is)
+
+      go : (a b : ℕ) → RestEdge g Used n x item symbol a b → IsOne node to a b ⊎ IsOne node more a b
+      go a b (shows first second) = inl (first ∙ sym is, second ∙ sym shown)
+      go a b (skips empty first second) = inr (first ∙ sym is, second ∙ sym onwards)
+
+-- one symbol more of a production
+pub symbol_one : (g : Grammar) (Used : ℕ → Type 0) (n : Numbers) (x : Automaton) (p index : ℕ) (symbol : Sym) → HasNext g (item_at p index) symbol → (old new : List (List ℕ))
+    → AddsEdges (RestEdge g Used n x (item_at p index) symbol) old new → AddsEdges (SymbolEdge g Used n x p index) old new
+symbol_one g Used n x p index symbol at old new w = adds_as (RestEdge g Used n x (item_at p index) symbol) (SymbolEdge g Used n x p index) old new
+    (λ a b e. record { symbol = symbol; at = at; edge = e })
+    (λ a b k.
+    let some : Some k.symbol ≡ Some symbol = sym k.at ∙ at in
+    let same : k.symbol ≡ symbol = cc in
+    subst (λ y. RestEdge g Used n x (item_at p index) y a b) same k.edge)
+    w
+
+-- the edges of an item before its last symbol was read
 module _ (g : Grammar) (Used : ℕ → Type 0) (n : Numbers) (x : Automaton) (q : ℕ) (item : Item) (after : ℕ) (node : ℕ) (is : node ≡ before_number g Used n x q item) where
   abbrev Edge : Option ℕ → ℕ → ℕ → Type 0
   Edge rule = ItemEdge g Used n x q item after rule
@@ -31,33 +67,33 @@ module _ (g : Grammar) (Used : ℕ → Type 0) (n : Numbers) (x : Automaton) (q 
     where
       go : (a b : ℕ) → Edge rule a b → IsOne after node a b
       go a b (back first second) = (first, second ∙ sym is)
-      go a b (comes m some shows) = absurd (cc)
+      go a b (comes m some first second) = absurd (cc)
       go a b (ends m some nullable first second) = absurd (cc)
 
-  module _ (m : ℕ) (rule : Option ℕ) (some : rule ≡ Some m) (old mid new : List (List ℕ)) (w : AddsEdges (IsOne after node) old mid) (v : AddsEdges (ShowsFrom g Used n x m (back_of g Used n x item)) mid new) where
-    pub item_shows : (Derives (HasUsed g Used) (back_of g Used n x item) [] → ⊥) → AddsEdges (Edge rule) old new
-    item_shows full = adds_as (λ a b. IsOne after node a b ⊎ ShowsFrom g Used n x m (back_of g Used n x item) a b) (Edge rule) old new
-        (λ a b h. elim h [ inl k ↦ back k.0 (k.1 ∙ is) | inr k ↦ comes m some k ]) (λ a b e. go a b e)
-        (adds_then (IsOne after node) (ShowsFrom g Used n x m (back_of g Used n x item)) old mid new w v)
+  module _ (m : ℕ) (rule : Option ℕ) (some : rule ≡ Some m) (rest : ℕ) (rest_is : rest ≡ rest_number n item) (old mid new : List (List ℕ))
+      (w : AddsEdges (IsOne after node) old mid) (v : AddsEdges (IsOne m rest) mid new) where
+    pub item_comes : (Derives (HasUsed g Used) (unread_of g item) [] → ⊥) → AddsEdges (Edge rule) old new
+    item_comes full = adds_as (λ a b. IsOne after node a b ⊎ IsOne m rest a b) (Edge rule) old new
+        (λ a b h. elim h [ inl k ↦ back k.0 (k.1 ∙ is) | inr k ↦ comes m some k.0 (k.1 ∙ rest_is) ]) (λ a b e. go a b e)
+        (adds_then (IsOne after node) (IsOne m rest) old mid new w v)
       where
-        go : (a b : ℕ) → Edge rule a b → IsOne after node a b ⊎ ShowsFrom g Used n x m (back_of g Used n x item) a b
+        go : (a b : ℕ) → Edge rule a b → IsOne after node a b ⊎ IsOne m rest a b
         go a b (back first second) = inl (first, second ∙ sym is)
-        go a b (comes k other shows) = let same : k ≡ m = cc in inr (subst (λ l. ShowsFrom g Used n x l (back_of g Used n x item) a b) same shows)
+        go a b (comes k other first second) = let same : k ≡ m = cc in inr (first ∙ same, second ∙ sym rest_is)
         go a b (ends k other nullable first second) = absurd (full nullable)
 
-    pub item_ends : Derives (HasUsed g Used) (back_of g Used n x item) [] → (last : List (List ℕ)) → AddsEdges (IsOne m node) new last → AddsEdges (Edge rule) old last
-    item_ends empty last u = adds_as (λ a b. (IsOne after node a b ⊎ ShowsFrom g Used n x m (back_of g Used n x item) a b) ⊎ IsOne m node a b) (Edge rule) old last
+    pub item_ends : Derives (HasUsed g Used) (unread_of g item) [] → (last : List (List ℕ)) → AddsEdges (IsOne m node) new last → AddsEdges (Edge rule) old last
+    item_ends empty last u = adds_as (λ a b. (IsOne after node a b ⊎ IsOne m rest a b) ⊎ IsOne m node a b) (Edge rule) old last
         (λ a b h. elim h [
-          | inl k ↦ elim k [ inl j ↦ back j.0 (j.1 ∙ is) | inr j ↦ comes m some j ]
+          | inl k ↦ elim k [ inl j ↦ back j.0 (j.1 ∙ is) | inr j ↦ comes m some j.0 (j.1 ∙ rest_is) ]
           | inr k ↦ ends m some empty k.0 (k.1 ∙ is)
         ])
         (λ a b e. go a b e)
-        (adds_then (λ a b. IsOne after node a b ⊎ ShowsFrom g Used n x m (back_of g Used n x item) a b) (IsOne m node) old new last
-        (adds_then (IsOne after node) (ShowsFrom g Used n x m (back_of g Used n x item)) old mid new w v) u)
+        (adds_then (λ a b. IsOne after node a b ⊎ IsOne m rest a b) (IsOne m node) old new last (adds_then (IsOne after node) (IsOne m rest) old mid new w v) u)
       where
-        go : (a b : ℕ) → Edge rule a b → (IsOne after node a b ⊎ ShowsFrom g Used n x m (back_of g Used n x item) a b) ⊎ IsOne m node a b
+        go : (a b : ℕ) → Edge rule a b → (IsOne after node a b ⊎ IsOne m rest a b) ⊎ IsOne m node a b
         go a b (back first second) = inl (inl (first, second ∙ sym is))
-        go a b (comes k other shows) = let same : k ≡ m = cc in inl (inr (subst (λ l. ShowsFrom g Used n x l (back_of g Used n x item) a b) same shows))
+        go a b (comes k other first second) = let same : k ≡ m = cc in inl (inr (first ∙ same, second ∙ sym rest_is))
         go a b (ends k other nullable first second) = let same : k ≡ m = cc in inr (first ∙ same, second ∙ sym is)
 
 -- a target of a state

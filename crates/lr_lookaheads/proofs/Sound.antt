@@ -1,19 +1,21 @@
 -- What the nodes of the graph mean, and that whatever is reached from a node is among its tokens.
 use Rattle.std.proofs.Common.{◌≡◌, ◌==◌, ℕ, ◌+◌, Bool, true, false, cond, List, [], ◌∷◌, ◌++◌, Contains, append-nil, get_or, take, refl, sym, ap, subst, ◌∙◌, arith}
 use Rattle.std.proofs.lemmas.Bool.Decides.{Decides-eqb}
+use Rattle.std.proofs.lemmas.List.{drop_more}
+use Rattle.std.proofs.lemmas.Option.{get_or_from_slice_get, slice_get_within}
 use Rattle.search.specs.Reachable.{Reachable, led, seed}
 use Rattle.cfgrammar.specs.Grammar.{Grammar, IsGrammar, Sym, Rule, Token}
 use Rattle.cfgrammar.specs.First.{First}
-use Rattle.cfgrammar.specs.Derivation.{none}
+use Rattle.cfgrammar.specs.Derivation.{Derives, none}
 use Rattle.derivation.proofs.Concatenation.{derives_production, derives_right, derives_trans}
 use Rattle.cfgrammar.specs.Openings.{nth_production}
 use Rattle.lr_states.specs.declared.Item.{Item}
-use Rattle.lr_states.specs.Viable.{AreStates, IsStateOf, Spine, start}
+use Rattle.lr_states.specs.Viable.{AreStates, HasNext, IsStateOf, Spine, start}
 use Rattle.lr_states.specs.Automaton.{AreGotos, Automaton, IsGoto}
 use Rattle.lr_states.proofs.Spines.{more_read, spine_next, within_at}
 use Rattle.lr_states.proofs.Closed.{next_symbol}
 use Rattle.lr_lookaheads.specs.Lookaheads.{HasUsed, IsLookahead, MayBegin, begins, ends}
-use Rattle.lr_lookaheads.specs.Inner.Graph.{LeadsTo, Node, next, node_at, read, rest_of, shown, token, begun}
+use Rattle.lr_lookaheads.specs.Inner.Graph.{LeadsTo, Node, begun, item_after, next, node_at, read, rest, shown, token, unread_of}
 use Rattle.lr_lookaheads.specs.Inner.Graph as graph
 use Rattle.lr_lookaheads.proofs.Firsts.{SymbolBegins, nullable_begins, shows_derives}
 
@@ -25,10 +27,18 @@ pub record ComesAfter (g : Grammar) (Used : ℕ → Type 0) (items : List Item) 
   pub spine : Spine g Used prefix rule after
   pub comes : MayBegin g Used after t
 
+-- what isn't read of an item begins with its next symbol
+pub unread_at : (g : Grammar) (item : Item) (symbol : Sym) → HasNext g item symbol → unread_of g item ≡ symbol ∷ unread_of g (item_after item)
+unread_at g item symbol at =
+    let symbols = (nth_production g item.production).symbols in
+    drop_more symbols item.read symbol (slice_get_within symbols item.read symbol at)
+    ∙ ap (λ y. y ∷ unread_of g (item_after item)) (get_or_from_slice_get symbols item.read symbol symbol at)
+
 -- the token is one of those that the node asks for
 abbrev pub Means : Grammar → (ℕ → Type 0) → Automaton → Node → ℕ → Type 0
 Means g Used x (token u) t = u ≡ t
 Means g Used x (begun r) t = First (HasUsed g Used) r t
+Means g Used x (rest item) t = (back : List Sym) × Derives (HasUsed g Used) (unread_of g item) (Token t ∷ back)
 Means g Used x (read q item) t = IsLookahead g Used (get_or x.states q []) item t
 Means g Used x (next q rule) t = ComesAfter g Used (get_or x.states q []) rule t
 
@@ -64,29 +74,37 @@ module _ (g : Grammar) (grammar : IsGrammar g) (Used : ℕ → Type 0) (x : Auto
 
   -- a node has the tokens of the nodes that it leads to
   step_means : {a b : Node} → LeadsTo g Used x a b → (t : ℕ) → Means g Used x b t → Means g Used x a t
-  step_means (graph.begins p used symbol shows) t m =
-      let production = nth_production g p in
-      let (rest, d) = shows_derives g Used production.symbols symbol t shows (symbol_means symbol t m) in
-      (rest, derives_trans (HasUsed g Used) (derives_production (HasUsed g Used) production.rule production.symbols (record { index = p; used = used; owner = refl; is = refl })) d)
-  step_means (graph.comes q within item h rule at symbol shows) t m =
+  step_means (graph.begins p used) t m =
+      let production = nth_production g p in (
+        m.0,
+        derives_trans (HasUsed g Used) (derives_production (HasUsed g Used) production.rule production.symbols (record { index = p; used = used; owner = refl; is = refl })) m.1,
+      )
+  step_means (graph.shows item used symbol at) t m =
+      shows_derives g Used (unread_of g item) symbol t (record { before = []; after = unread_of g (item_after item); nullable = none; is = unread_at g item symbol at })
+      (symbol_means symbol t m)
+  step_means (graph.skips item used symbol at nullable) t m = (
+    m.0,
+    subst (λ l. Derives (HasUsed g Used) l (Token t ∷ m.0)) (sym (unread_at g item symbol at))
+        (derives_trans (HasUsed g Used) (derives_right (HasUsed g Used) (unread_of g (item_after item)) nullable) m.1),
+  )
+  step_means (graph.comes q within item h rule at) t m =
       let (prefix, viable, state) = are.only q within in
       let v = (state item).0 h in
-      let (rest, d) = shows_derives g Used (rest_of g item) symbol t shows (symbol_means symbol t m) in
       record {
         prefix = prefix;
         state = state;
-        after = rest_of g item ++ v.after;
+        after = unread_of g (item_after item) ++ v.after;
         spine = spine_next g Used prefix v.before v.after item rule v.spine v.used v.is at;
-        comes = begins (rest ++ v.after) (derives_right (HasUsed g Used) v.after d);
+        comes = begins (m.0 ++ v.after) (derives_right (HasUsed g Used) v.after m.1);
       }
   step_means (graph.ends q within item h rule at nullable) t m =
       let l = node_means q item h t m in
       record {
         prefix = l.prefix;
         state = l.state;
-        after = rest_of g item ++ l.after;
+        after = unread_of g (item_after item) ++ l.after;
         spine = spine_next g Used l.prefix l.before l.after item rule l.spine l.used l.is at;
-        comes = nullable_begins g Used (rest_of g item) l.after t nullable l.comes;
+        comes = nullable_begins g Used (unread_of g (item_after item)) l.after t nullable l.comes;
       }
   step_means (graph.back q within item h symbol at r goes) t m =
       let l = node_means q item h t m in

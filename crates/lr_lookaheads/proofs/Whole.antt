@@ -14,6 +14,7 @@ use Rattle.lr_lookaheads.specs.Inner.Numbers.{AreReady, Numbers, item_number, pl
 use Rattle.lr_lookaheads.specs.Inner.Edges.{IsEdge}
 use Rattle.lr_lookaheads.specs.Inner.Reached.{AreWithin, HasReached, IsOn, Leads}
 use Rattle.lr_lookaheads.proofs.MadeEdges.{edge_within, item_reaches}
+use Rattle.lr_lookaheads.proofs.Numbering.{start_within}
 use Rattle.lr_lookaheads.proofs.Places.{place_holds}
 use Rattle.lr_lookaheads.proofs.Ready.{is_item_number, item_low, used_within}
 
@@ -38,7 +39,7 @@ module _ (g : Grammar) (x : Automaton) (n : Numbers) (r : AreReady g x n) (edges
   edges_within a b h = subst (λ m. b < m) (sym count) (edge_within g r.grammar (IsUsed g) (used_within g x n r) x n r.numbers r.targets r.states r.gotos a b ((all a b).0 h))
 
   pub tokens_within : n.tokens ≤ length edges
-  tokens_within = let upto = r.numbers.blocks.upto in omega (arith, upto, count)
+  tokens_within = let start = start_within g x n r.numbers r.targets r.states.sorted in omega (arith, start, count)
 
   pub tokens_there : (rows : List (List Bool)) (q : ℕ) → q < length x.states → (item : Item) → Contains (get_or x.states q []) item
       → tokens_of (record { automaton = x; rows = rows_of n x rows }) q item ≡ get_or rows (item_number n x q item) []

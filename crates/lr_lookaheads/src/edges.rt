@@ -1,21 +1,19 @@
 //! The edges of a graph in which a node leads to the tokens that may come after it.
 
-ghost use Rattle.std.specs.Prelude.{◌≡◌, ◌↔◌, ◌-◌, ◌<◌, ◌≤◌, ◌∷◌, ℕ, [], Some, All};
-ghost use Rattle.std.specs.Prelude.{Contains, IfOk, IfSome, IsTrue, OnOk, get_or, length, map, slice_get};
-ghost use Rattle.cfgrammar.specs.Accessors.{IsSymbolWithin};
-ghost use Rattle.cfgrammar.specs.Derivation.{Derives};
+ghost use Rattle.std.specs.Prelude.{◌≡◌, ◌↔◌, ◌-◌, ◌<◌, ◌≤◌, ℕ, [], Some};
+ghost use Rattle.std.specs.Prelude.{Contains, IfOk, IfSome, OnOk, get_or, length, slice_get};
 ghost use Rattle.cfgrammar.specs.Numbered.{core};
 ghost use Rattle.cfgrammar.specs.NumberedSymbols.{sym_of};
 ghost use Rattle.cfgrammar.specs.Openings.{nth_production};
-ghost use Rattle.lr_states.specs.Viable.{IsUsed, item_at};
+ghost use Rattle.lr_states.specs.Viable.{HasNext, IsUsed, item_at};
 ghost use Rattle.lr_states.specs.declared.kernels.Target.{Target};
-ghost use Rattle.lr_lookaheads.specs.Lookaheads.{HasUsed};
 ghost use Rattle.lr_lookaheads.specs.Inner.Edges.{AddsEdges, EndEdge, IsEdge, IsGraph, ItemEdge};
-ghost use Rattle.lr_lookaheads.specs.Inner.Edges.{ProductionEdge, ShowsFrom, StateEdge, TargetEdge, rule_at};
+ghost use Rattle.lr_lookaheads.specs.Inner.Edges.{ProductionEdge, RestEdge, StateEdge, TargetEdge, rule_at};
 ghost use Rattle.lr_lookaheads.specs.Inner.Numbers.{numbers_of};
 ghost use Rattle.lr_lookaheads.specs.Inner.Reached.{Leads};
 
 use crate::nodes::Nodes;
+use crate::nullable::is_nullable;
 use cfgindex::ListTable;
 use cfgrammar::yacc::YaccGrammar;
 use cfgrammar::yacc::firsts::YaccFirsts;
@@ -31,6 +29,7 @@ pub(crate) struct Graph<'a> {
     pub(crate) states: &'a States,
     pub(crate) nodes: &'a Nodes,
     pub(crate) firsts: &'a YaccFirsts<u32>,
+    pub(crate) nullable_from: &'a [usize],
     pub(crate) used: &'a Vob,
 }
 
@@ -42,7 +41,7 @@ impl<'a> Graph<'a> {
     /// Out of memory.
     pub(crate) fn edges(&self, alloc: Global) -> Result<ListTable<usize>, AllocError>
         requires graph { IsGraph (core self.now.grammar.now) self.now.states.now (numbers_of self.now.nodes.now)
-            self.now.firsts.now self.now.used.now }
+            self.now.firsts.now self.now.nullable_from.now self.now.used.now }
         ensures nodes { IfOk result (λ edges. length edges ≡ self.now.nodes.now.len) }
         ensures edges { IfOk result (λ edges. (a b : ℕ) → Leads edges a b
             ↔ IsEdge (core self.now.grammar.now) (IsUsed (core self.now.grammar.now)) (numbers_of self.now.nodes.now)
@@ -62,7 +61,7 @@ impl<'a> Graph<'a> {
     /// The end token may come after the start rule in the first state.
     fn push_end(&self, edges: &mut ListTable<usize>) -> Result<(), AllocError>
         requires graph { IsGraph (core self.now.grammar.now) self.now.states.now (numbers_of self.now.nodes.now)
-            self.now.firsts.now self.now.used.now }
+            self.now.firsts.now self.now.nullable_from.now self.now.used.now }
         requires nodes { length edges.old ≡ self.now.nodes.now.len }
         ensures { OnOk result (AddsEdges (EndEdge (core self.now.grammar.now) (IsUsed (core self.now.grammar.now))
             (numbers_of self.now.nodes.now) self.now.states.now) edges.old edges.new) }
@@ -82,7 +81,7 @@ impl<'a> Graph<'a> {
         production: usize,
     ) -> Result<(), AllocError>
         requires graph { IsGraph (core self.now.grammar.now) self.now.states.now (numbers_of self.now.nodes.now)
-            self.now.firsts.now self.now.used.now }
+            self.now.firsts.now self.now.nullable_from.now self.now.used.now }
         requires nodes { length edges.old ≡ self.now.nodes.now.len }
         requires production { production < length self.now.grammar.now.productions }
         ensures { OnOk result (AddsEdges (ProductionEdge (core self.now.grammar.now) (IsUsed (core self.now.grammar.now))
@@ -92,14 +91,45 @@ impl<'a> Graph<'a> {
             return Ok(());
         }
         let rule = self.nodes.begun(rule_of(self.grammar, production));
-        self.push_shown(edges, rule, symbols_of(self.grammar, production))?;
+        let whole = Item {
+            production,
+            read: 0,
+        };
+        edges.push(rule, self.nodes.rest(whole))?;
+        let symbols = symbols_of(self.grammar, production);
+        for (read, symbol) in symbols.iter().enumerate() {
+            self.push_rest(edges, Item { production, read }, *symbol)?;
+        }
+        Ok(())
+    }
+
+    /// What isn't read of an item begins with its next symbol; and with what comes after that if it is nullable.
+    fn push_rest(
+        &self,
+        edges: &mut ListTable<usize>,
+        item: Item,
+        symbol: Symbol<u32>,
+    ) -> Result<(), AllocError>
+        requires graph { IsGraph (core self.now.grammar.now) self.now.states.now (numbers_of self.now.nodes.now)
+            self.now.firsts.now self.now.nullable_from.now self.now.used.now }
+        requires nodes { length edges.old ≡ self.now.nodes.now.len }
+        requires next { HasNext (core self.now.grammar.now) item (sym_of (λ s. s) symbol) }
+        ensures { OnOk result (AddsEdges (RestEdge (core self.now.grammar.now) (IsUsed (core self.now.grammar.now))
+            (numbers_of self.now.nodes.now) self.now.states.now item (sym_of (λ s. s) symbol)) edges.old edges.new) }
+    {
+        let _len = self.nodes.len;
+        let node = self.nodes.rest(item);
+        edges.push(node, self.nodes.shown(symbol))?;
+        if is_nullable(self.firsts, symbol) {
+            edges.push(node, node + 1)?;
+        }
         Ok(())
     }
 
     /// The edges of a state's items.
     fn push_state(&self, edges: &mut ListTable<usize>, state: usize) -> Result<(), AllocError>
         requires graph { IsGraph (core self.now.grammar.now) self.now.states.now (numbers_of self.now.nodes.now)
-            self.now.firsts.now self.now.used.now }
+            self.now.firsts.now self.now.nullable_from.now self.now.used.now }
         requires nodes { length edges.old ≡ self.now.nodes.now.len }
         requires state { state < length self.now.states.now.states }
         ensures { OnOk result (AddsEdges (StateEdge (core self.now.grammar.now) (IsUsed (core self.now.grammar.now))
@@ -119,7 +149,7 @@ impl<'a> Graph<'a> {
         place: usize,
     ) -> Result<(), AllocError>
         requires graph { IsGraph (core self.now.grammar.now) self.now.states.now (numbers_of self.now.nodes.now)
-            self.now.firsts.now self.now.used.now }
+            self.now.firsts.now self.now.nullable_from.now self.now.used.now }
         requires nodes { length edges.old ≡ self.now.nodes.now.len }
         requires state { state < length self.now.states.now.states }
         requires place { place < length (get_or self.now.states.now.targets state []) }
@@ -139,7 +169,7 @@ impl<'a> Graph<'a> {
     /// The node of the rule that a target is for.
     fn next_at(&self, state: usize, place: usize) -> Option<usize>
         requires graph { IsGraph (core self.now.grammar.now) self.now.states.now (numbers_of self.now.nodes.now)
-            self.now.firsts.now self.now.used.now }
+            self.now.firsts.now self.now.nullable_from.now self.now.used.now }
         requires state { state < length self.now.states.now.states }
         requires place { place < length (get_or self.now.states.now.targets state []) }
         ensures { (target : Target) → slice_get (get_or self.now.states.now.targets state []) place ≡ Some target
@@ -164,7 +194,7 @@ impl<'a> Graph<'a> {
         next: Option<usize>,
     ) -> Result<(), AllocError>
         requires graph { IsGraph (core self.now.grammar.now) self.now.states.now (numbers_of self.now.nodes.now)
-            self.now.firsts.now self.now.used.now }
+            self.now.firsts.now self.now.nullable_from.now self.now.used.now }
         requires nodes { length edges.old ≡ self.now.nodes.now.len }
         requires state { state < length self.now.states.now.states }
         requires item { item.production < length self.now.grammar.now.productions }
@@ -186,51 +216,10 @@ impl<'a> Graph<'a> {
         let Some(next) = next else {
             return Ok(());
         };
-        let (_, rest) = symbols_of(self.grammar, item.production).split_at(item.read);
-        if self.push_shown(edges, next, rest)? {
+        edges.push(next, self.nodes.rest(item))?;
+        if self.nullable_from[item.production] <= item.read {
             edges.push(next, node)?;
         }
         Ok(())
-    }
-
-    /// A node leads to each symbol up to the first that isn't a nullable rule. Returns whether there is none such.
-    fn push_shown(
-        &self,
-        edges: &mut ListTable<usize>,
-        node: usize,
-        symbols: &[Symbol<u32>],
-    ) -> Result<bool, AllocError>
-        requires graph { IsGraph (core self.now.grammar.now) self.now.states.now (numbers_of self.now.nodes.now)
-            self.now.firsts.now self.now.used.now }
-        requires nodes { length edges.old ≡ self.now.nodes.now.len }
-        requires node { node < self.now.nodes.now.len }
-        requires symbols { All (IsSymbolWithin (λ s. s) self.now.grammar.now) symbols.now }
-        ensures edges { OnOk result (AddsEdges (ShowsFrom (core self.now.grammar.now)
-            (IsUsed (core self.now.grammar.now)) (numbers_of self.now.nodes.now) self.now.states.now node
-            (map (sym_of (λ s. s)) symbols.now)) edges.old edges.new) }
-        ensures nullable { IfOk result (λ nullable. IsTrue nullable
-            ↔ Derives (HasUsed (core self.now.grammar.now) (IsUsed (core self.now.grammar.now)))
-            (map (sym_of (λ s. s)) symbols.now) []) }
-    {
-        for symbol in symbols {
-            edges.push(node, self.nodes.shown(*symbol))?;
-            if !self.is_nullable(*symbol) {
-                return Ok(false);
-            }
-        }
-        Ok(true)
-    }
-
-    /// Whether the symbol is a nullable rule.
-    fn is_nullable(&self, symbol: Symbol<u32>) -> bool
-        requires graph { IsGraph (core self.now.grammar.now) self.now.states.now (numbers_of self.now.nodes.now)
-            self.now.firsts.now self.now.used.now }
-        ensures { IsTrue result ↔ Derives (HasUsed (core self.now.grammar.now) (IsUsed (core self.now.grammar.now)))
-            (sym_of (λ s. s) symbol ∷ []) [] }
-    {
-        match symbol {
-            Symbol::Rule(rule) => self.firsts.is_epsilon_set(rule),
-            Symbol::Token(_) => false,
-        }
     }
 }

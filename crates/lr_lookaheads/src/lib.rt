@@ -4,6 +4,7 @@
 
 mod edges;
 mod nodes;
+mod nullable;
 mod reached;
 
 ghost use Rattle.std.specs.Prelude.{◌≡◌, ◌↔◌, ◌<◌, ℕ, [], None, Contains, IfOk, IfSome, IsTrue};
@@ -15,6 +16,7 @@ ghost use Rattle.lr_lookaheads.specs.Lookaheads.{AreLookaheads, tokens_of};
 
 use crate::edges::Graph;
 use crate::nodes::{Nodes, place_of_item};
+use crate::nullable::nullable_from;
 use crate::reached::Reached;
 use cfgrammar::Vob;
 use cfgrammar::yacc::YaccGrammar;
@@ -61,12 +63,14 @@ impl Lookaheads {
         let states = States::of(alloc, grammar)?;
         let nodes = Nodes::of(alloc, grammar, &states)?;
         let firsts = grammar.firsts(alloc)?;
+        let nullable_from = nullable_from(alloc, grammar, &firsts)?;
         let used = used_productions(alloc, grammar)?;
         let graph = Graph {
             grammar,
             states: &states,
             nodes: &nodes,
             firsts: &firsts,
+            nullable_from: &nullable_from,
             used: &used,
         };
         let edges = graph.edges(alloc)?;

@@ -1,5 +1,5 @@
 //! The numbers of the nodes of a graph: those of the tokens come first, then those of the rules, then one for the start
-//! rule in the first state, and then those of each state.
+//! rule in the first state, then those of each production, and then those of each state.
 
 ghost use Rattle.std.specs.Prelude.{◌≡◌, ◌↔◌, ◌+◌, ◌<◌, ◌≤◌, ℕ, [], Some, Contains, IfOk, IfSome, get_or, length};
 ghost use Rattle.std.specs.Prelude.{position, slice_get};
@@ -13,13 +13,13 @@ ghost use Rattle.lr_states.specs.declared.Item.{Item};
 ghost use Rattle.lr_states.specs.declared.kernels.Target.{Target};
 ghost use Rattle.lr_lookaheads.specs.Lookaheads.{is_item};
 ghost use Rattle.lr_lookaheads.specs.Inner.Graph.{next};
-ghost use Rattle.lr_lookaheads.specs.Inner.Numbers.{AreNumbers, AreOfGrammar, AreReady, IsBlock, IsNode, block_of};
-ghost use Rattle.lr_lookaheads.specs.Inner.Numbers.{is_before, item_number, number, numbers_of};
-ghost use Rattle.lr_lookaheads.specs.Inner.Numbers.{place_of_rule, shown_number};
+ghost use Rattle.lr_lookaheads.specs.Inner.Numbers.{AreNumbers, AreOfGrammar, AreReady, AreRests, IsBlock, IsNode};
+ghost use Rattle.lr_lookaheads.specs.Inner.Numbers.{block_of, is_before, item_number, number, numbers_of};
+ghost use Rattle.lr_lookaheads.specs.Inner.Numbers.{place_of_rule, rest_number, shown_number};
 
 use cfgrammar::Symbol;
 use cfgrammar::yacc::YaccGrammar;
-use lr_states::tables::rule_of;
+use lr_states::tables::{rule_of, symbols_of};
 use lr_states::{Item, States, Target};
 use std::alloc::{AllocError, Global};
 
@@ -43,6 +43,8 @@ pub(crate) struct Nodes {
     pub(crate) rules: usize,
     /// For each production its rule.
     owners: Vec<usize>,
+    /// For each production its first node, and then the first node after all of these.
+    rests: Vec<usize>,
     /// For each state its nodes.
     blocks: Vec<Block>,
     /// How many nodes there are.
@@ -66,8 +68,9 @@ impl Nodes {
     {
         let tokens = usize::from(grammar.tokens_len());
         let rules = usize::from(grammar.rules_len());
+        let rests = rests(alloc, grammar, tokens + rules + 1)?;
         let mut blocks = Vec::with_capacity(alloc, states.len())?;
-        let mut len = tokens + rules + 1;
+        let mut len = rests[usize::from(grammar.prods_len())];
         for state in 0..states.len() {
             let block = block_at(len, states.items(state), states.targets(state), rules).ok_or(
                 AllocError,
@@ -79,6 +82,7 @@ impl Nodes {
             tokens,
             rules,
             owners: owners(alloc, grammar)?,
+            rests,
             blocks,
             len,
         })
@@ -109,6 +113,16 @@ impl Nodes {
         ensures { result ≡ self.now.tokens + rule }
     {
         self.tokens + rule
+    }
+
+    /// The node for the symbols of an item that aren't read.
+    pub(crate) fn rest(&self, item: Item) -> usize
+        requires production { item.production < length self.now.rests.items }
+        requires node { rest_number (numbers_of self.now) item < self.now.len }
+        ensures { result ≡ rest_number (numbers_of self.now) item }
+    {
+        let _len = self.len;
+        self.rests[item.production] + item.read
     }
 
     /// The node of a rule that is next in a state.
@@ -150,6 +164,22 @@ fn owners(alloc: Global, grammar: &YaccGrammar<u32>) -> Result<Vec<usize>, Alloc
         owners.push(rule_of(grammar, production))?;
     }
     Ok(owners)
+}
+
+/// For each production its first node, from this one on, and then the first node after all of these. A production has
+/// a node for each of its symbols, and one for none of them.
+fn rests(alloc: Global, grammar: &YaccGrammar<u32>, first: usize) -> Result<Vec<usize>, AllocError>
+    ensures { IfOk result (λ rests. AreRests (core grammar.now) first rests.items) }
+{
+    let mut rests = Vec::new(alloc);
+    let mut end = first;
+    rests.push(end)?;
+    for production in 0..usize::from(grammar.prods_len()) {
+        let count = symbols_of(grammar, production).len() + 1;
+        end = end.checked_add(count).ok_or(AllocError)?;
+        rests.push(end)?;
+    }
+    Ok(rests)
 }
 
 /// The nodes of a state with these items and targets, from this one on. There are so many rules.

@@ -10,18 +10,19 @@ use Rattle.lr_states.specs.Viable.{AreStates, IsUsed}
 use Rattle.lr_lookaheads.specs.Lookaheads.{is_item}
 use Rattle.lr_lookaheads.specs.declared.nodes.Block.{Block}
 use Rattle.lr_lookaheads.specs.declared.nodes.Nodes.{Nodes}
-use Rattle.lr_lookaheads.specs.Inner.Graph.{Node, begun, next, read, token}
+use Rattle.lr_lookaheads.specs.Inner.Graph.{Node, begun, next, read, rest, token}
 
--- how many tokens and rules there are; for each production its rule; for each state its nodes; and how many nodes there are
+-- how many tokens and rules there are; for each production its rule and its first node; for each state its nodes; and how many nodes there are
 pub record Numbers : Type 0 where
   pub tokens : ℕ
   pub rules : ℕ
   pub owners : List ℕ
+  pub rests : List ℕ
   pub blocks : List Block
   pub len : ℕ
 
 abbrev pub numbers_of : Nodes → Numbers
-numbers_of x = record { tokens = x.tokens; rules = x.rules; owners = x.owners.items; blocks = x.blocks.items; len = x.len }
+numbers_of x = record { tokens = x.tokens; rules = x.rules; owners = x.owners.items; rests = x.rests.items; blocks = x.blocks.items; len = x.len }
 
 abbrev pub nth_block : List Block → ℕ → Block
 nth_block blocks q = get_or blocks q (record { items = 0; rules = 0; end = 0 })
@@ -53,6 +54,10 @@ abbrev pub shown_number : Numbers → Sym → ℕ
 shown_number n (Rule r) = n.tokens + r
 shown_number n (Token t) = t
 
+-- the number of the node for the symbols of an item that aren't read
+abbrev pub rest_number : Numbers → Item → ℕ
+rest_number n item = get_or n.rests item.production 0 + item.read
+
 -- the number of an item's node
 abbrev pub item_number : Numbers → Automaton → ℕ → Item → ℕ
 item_number n x q item = cond (item.read == 0) (next_number n x q (get_or n.owners item.production 0))
@@ -61,6 +66,7 @@ item_number n x q item = cond (item.read == 0) (next_number n x q (get_or n.owne
 abbrev pub number : Numbers → Automaton → Node → ℕ
 number n x (token t) = t
 number n x (begun r) = n.tokens + r
+number n x (rest item) = rest_number n item
 number n x (read q item) = (block_of n q).items + place_of_item (get_or x.states q []) item
 number n x (next q rule) = next_number n x q rule
 
@@ -73,8 +79,16 @@ pub data IsNext (x : Automaton) (q rule : ℕ) : Type 0 where
 abbrev pub IsNode : Grammar → Automaton → Node → Type 0
 IsNode g x (token t) = t < g.tokens
 IsNode g x (begun r) = r < g.rules
+IsNode g x (rest item) = (item.production < length g.productions) × (item.read ≤ length (nth_production g item.production).symbols)
 IsNode g x (read q item) = (q < length x.states) × (0 < item.read) × Contains (get_or x.states q []) item
 IsNode g x (next q rule) = (q < length x.states) × (rule < g.rules) × IsNext x q rule
+
+-- for each production its first node, from this one on, and then the first one after all: a production has a node for each of its symbols, and one
+-- for none of them
+pub record AreRests (g : Grammar) (from : ℕ) (rests : List ℕ) : Type 0 where
+  pub count : length rests ≡ length g.productions + 1
+  pub first : get_or rests 0 0 ≡ from
+  pub each : (p : ℕ) → p < length g.productions → get_or rests (p + 1) 0 ≡ get_or rests p 0 + length (nth_production g p).symbols + 1
 
 -- the nodes of a state with these items and targets: of the items with symbols read, which are the first ones, and of the targets for rules
 pub record IsBlock (rules : ℕ) (items : List Item) (targets : List Target) (block : Block) : Type 0 where
@@ -98,8 +112,9 @@ pub record AreNumbers (g : Grammar) (x : Automaton) (n : Numbers) : Type 0 where
   pub rules : n.rules ≡ g.rules
   pub productions : length n.owners ≡ length g.productions
   pub owners : (p : ℕ) → p < length g.productions → get_or n.owners p 0 ≡ (nth_production g p).rule
+  pub rests : AreRests g (n.tokens + n.rules + 1) n.rests
   pub states : length n.blocks ≡ length x.states
-  pub blocks : AreBlocks g.rules x (n.tokens + n.rules + 1) n.blocks n.len
+  pub blocks : AreBlocks g.rules x (get_or n.rests (length g.productions) 0) n.blocks n.len
 
 -- the states and the numbers of their nodes are those of the grammar
 pub record AreReady (g : Grammar) (x : Automaton) (n : Numbers) : Type 0 where

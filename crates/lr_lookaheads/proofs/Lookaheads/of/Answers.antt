@@ -1,6 +1,6 @@
 use Rattle.cfgrammar.specs.Numbered.{core}
 use Rattle.lr_lookaheads.specs.Inner.Numbers.{AreReady, numbers_of}
-use Rattle.lr_lookaheads.proofs.Whole.{are_lookaheads, edges_within}
+use Rattle.lr_lookaheads.proofs.Whole.{are_lookaheads, edges_within, tokens_within}
 use Rattle.lr_lookaheads.proofs.Lookaheads.of.Goals.{In_ok-nodes}
 use Rattle.lr_lookaheads.proofs.Lookaheads.of.Goals as goal
 
@@ -16,6 +16,11 @@ ready c = record {
 pub of-requires-3-clause-within : goal.of-requires-3-clause-within
 of-requires-3-clause-within c =
     edges_within (core c.args.grammar.now) c.in_ok-states.states (numbers_of c.in_ok-nodes.nodes) (ready (goal.at.of-requires-3-clause-within c).In_ok-nodes)
+    c.in_ok-edges.edges c.in_ok-edges.ensures.nodes c.in_ok-edges.ensures.edges
+
+pub of-requires-3-clause-bound : goal.of-requires-3-clause-bound
+of-requires-3-clause-bound c =
+    tokens_within (core c.args.grammar.now) c.in_ok-states.states (numbers_of c.in_ok-nodes.nodes) (ready (goal.at.of-requires-3-clause-bound c).In_ok-nodes)
     c.in_ok-edges.edges c.in_ok-edges.ensures.nodes c.in_ok-edges.ensures.edges
 
 pub returns-clause-lookaheads : goal.returns-clause-lookaheads

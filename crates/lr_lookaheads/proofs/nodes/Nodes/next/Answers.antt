@@ -2,8 +2,15 @@ use Rattle.std.proofs.Common.{◌≡◌, ◌+◌, Some, ap, arith, subst, sym}
 use Rattle.lr_lookaheads.specs.Inner.Graph.{next}
 use Rattle.lr_lookaheads.specs.Inner.Numbers.{at_place, block_of, number, numbers_of, place_of_rule}
 use Rattle.lr_lookaheads.specs.declared.nodes.Block.{Block}
+use Rattle.lr_lookaheads.proofs.Numbering.{start_within}
 use Rattle.lr_lookaheads.proofs.Ready.{next_low}
 use Rattle.lr_lookaheads.proofs.nodes.Nodes.next.Goals as goal
+
+pub overflow_add-result-in-None : goal.overflow_add-result-in-None
+overflow_add-result-in-None c =
+    let (g, r, is) = c.requires in
+    let low = start_within g c.args.states.now (numbers_of c.args.self.now) r.numbers r.targets r.states.sorted in
+    omega (arith, low)
 
 pub overflow_add-result : goal.overflow_add-result
 overflow_add-result c =

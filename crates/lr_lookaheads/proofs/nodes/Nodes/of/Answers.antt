@@ -1,5 +1,5 @@
 use Rattle.std.proofs.Common.{◌≡◌, ◌+◌, ◌<◌, [], List, Some, IfSome, ap, arith, get_or, length, subst, sym, ◌∙◌}
-use Rattle.std.proofs.lemmas.List.{length-map, length_push}
+use Rattle.std.proofs.lemmas.List.{get_or_default, length-map, length_push}
 use Rattle.cfgrammar.specs.Numbered.{core, production_core}
 use Rattle.lr_lookaheads.specs.declared.nodes.Block.{Block}
 use Rattle.lr_lookaheads.specs.Inner.Numbers.{AreBlocks, IsBlock}
@@ -8,7 +8,7 @@ use Rattle.lr_lookaheads.proofs.nodes.Nodes.of.Goals as goal
 
 pub loop-state-init : goal.loop-state-init
 loop-state-init c =
-    let from = c.from-tokens.result + c.from-rules.result + 1 in
+    let from = c.index-len.result.now in
     let none : c.in_ok-blocks.blocks.items ≡ [] = c.in_ok-blocks.ensures.items in
     record {
       count = ap length none;
@@ -20,7 +20,7 @@ loop-state-preserved c =
     let x = c.args.states.now in
     let q = c.loop-state.state in
     let rules = c.from-rules.result in
-    let from = c.from-tokens.result + rules + 1 in
+    let from = c.index-len.result.now in
     let old = c.loop-state.blocks.items in
     let block = c.in_ok-block.block in
     let count = c.loop-state.invariant.count in
@@ -41,11 +41,18 @@ returns c =
     let rules = c.from-rules.ensures ∙ c.rules_len.ensures in
     let products = length-map c.args.grammar.now.productions production_core in
     let end : c.loop-state.state ≡ length c.args.states.now.states = omega (arith, c.loop-state-test.false, c.loop-state.auto.state-end, c.len-state-end.ensures) in
+    let rests = c.in_ok-rests.rests.items in
+    let last : c.from.result ≡ length g.productions = c.from.ensures ∙ c.prods_len.ensures ∙ sym products in
+    let count = c.in_ok-rests.ensures.count in
+    let first : c.index-len.result.now ≡ get_or rests (length g.productions) 0 =
+    c.index-len.ensures ∙ get_or_default rests c.from.result c.index-len.result.now 0 (omega (arith, last, count)) ∙ ap (λ k. get_or rests k 0) last in
     record {
       tokens = tokens;
       rules = rules;
       productions = c.in_ok-owners.ensures.count ∙ sym products;
       owners = λ p low. c.in_ok-owners.ensures.owners p (subst (λ n. p < n) products low);
+      rests = c.in_ok-rests.ensures;
       states = c.loop-state.invariant.count ∙ end;
-      blocks = subst (λ r. AreBlocks r c.args.states.now (c.from-tokens.result + c.from-rules.result + 1) c.loop-state.blocks.items c.loop-state.len) rules c.loop-state.invariant.blocks;
+      blocks = subst (λ k. AreBlocks g.rules c.args.states.now k c.loop-state.blocks.items c.loop-state.len) first
+          (subst (λ r. AreBlocks r c.args.states.now c.index-len.result.now c.loop-state.blocks.items c.loop-state.len) rules c.loop-state.invariant.blocks);
     }

@@ -1,4 +1,4 @@
-use Rattle.std.proofs.Common.{◌≡◌, ◌+◌, length}
+use Rattle.std.proofs.Common.{◌≡◌, length}
 use Rattle.lr_lookaheads.specs.Inner.Numbers.{AreBlocks}
 use Rattle.lr_lookaheads.proofs.nodes.Nodes.of.Given as goal
 
@@ -6,5 +6,5 @@ use Rattle.lr_lookaheads.proofs.nodes.Nodes.of.Given as goal
 abbrev pub invariant-loop-state : goal.invariant-loop-state
 invariant-loop-state l = record {
   count : length l.blocks.items ≡ l.state;
-  blocks : AreBlocks l.rules l.states (l.tokens + l.rules + 1) l.blocks.items l.len;
+  blocks : AreBlocks l.rules l.states l.initial.len l.blocks.items l.len;
 }
