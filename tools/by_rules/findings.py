@@ -46,7 +46,7 @@ def findings_of(t, tree, grammar, is_printed):
              + idle(tree) + declared_again(tree) + overridden(tree) + glued(t, tree) + needless(tree, grammar) + escapes(tree)
              + implicitly_empty(t, tree) + [Finding(*it) for it in conflict_findings(tree)] + undefined_precedences(tree)
              + missing_empty(t, tree) + swallowed(tree) + unknown_keys(t) + unknown_references(t, tree)
-             + misspelled_defines(t))
+             + unread_values(tree) + misspelled_defines(t) + repeated_aliases(t) + stray_commas(t))
     return sorted(found, key=lambda finding: finding.spans[0][0])
 
 
@@ -259,10 +259,12 @@ def unknown_keys(t):
             for key, (span, _) in values.items() if key not in KEYS and not errors]
 
 
+SKIPPED = rb'//[^\n]*|/\*(?:(?!\*/).)*(?:\*/)?|"(?:\\.|[^"\\])*["\\]?|\'(?:\\.|[^\'\\])*[\'\\]?'
+
+
 def references(code):
     """The references of an action's code: where each begins, and its number."""
-    skipped = rb'//[^\n]*|/\*(?:(?!\*/).)*(?:\*/)?|"(?:\\.|[^"\\])*["\\]?|\'(?:\\.|[^\'\\])*[\'\\]?'
-    found = re.finditer(skipped + rb'|(?P<sign>[$@])(?=(?:<[^>]*>)?(?P<number>[0-9]+))|.', code, re.S)
+    found = re.finditer(SKIPPED + rb'|(?P<sign>[$@])(?=(?:<[^>]*>)?(?P<number>[0-9]+))|.', code, re.S)
     return [(it.start(), min(int(it['number']), 2 ** 64 - 1)) for it in found if it['sign']]
 
 
@@ -289,6 +291,33 @@ def unknown_references(t, tree):
     return found
 
 
+def values(code):
+    """What the references to values in code name: `$`, a number, a minus, or a name, of which the first byte counts."""
+    found = re.finditer(SKIPPED + rb'|[$](?=(?:<[^>]*>)?(?P<what>[$A-Za-z_\[-]|[0-9]+))|.', code, re.S)
+    return {int(it['what']) if it['what'].isdigit() else chr(it['what'][0]) for it in found if it['what']}
+
+
+def unread_values(tree):
+    """Actions inside of productions that set `$$`, where none of those after it in the production reads the value, or has a name. There are
+    none in a file where an action refers to a value from before its production."""
+    rules = {index: name for name, rule in tree.rules.items() for index in rule.productions}
+    actions = [values(p.action[0] if isinstance(p.action[0], bytes) else p.action[0].encode()) if p.action else set() for p in tree.productions]
+    if any({'-', 0} & refers for refers in actions):
+        return []
+    places = {name: (index, place) for index, p in enumerate(tree.productions)
+              for place, (is_token, name, _) in enumerate(p.symbols, 1) if not is_token}
+    found = []
+    for index, p in enumerate(tree.productions):
+        if not rules[index].startswith('$@') or '$' not in actions[index]:
+            continue
+        whole, place = places[rules[index]]
+        read = set().union(*actions[index + 1:whole + 1])
+        if not any(it == place or isinstance(it, str) and it not in '$-' for it in read):
+            found.append(Finding('UnreadValue', [p.span], "Unread value '$$': no later action has '$%d'" % place,
+                                 "a '|' may be missing after this action"))
+    return found
+
+
 def misspelled_defines(t):
     """Each `%define` with a variable, or else a value, that Bison doesn't know, but near to one that it knows."""
     words, found = Scanner(t).read().words, []
@@ -301,4 +330,28 @@ def misspelled_defines(t):
         note = nearest(wrong.value, names) if wrong.kind == 'identifier' and wrong.value not in names else None
         if note:
             found.append(Finding('MisspelledDefine', [wrong.span], "Misspelled %%define: '%s' is unknown" % wrong.value, note))
+    return found
+
+
+def repeated_aliases(t):
+    """Each string in a `%token` list that such a list has before."""
+    found, known, is_listed = [], set(), False
+    for word in Scanner(t).read().words:
+        if word.kind.startswith('%') or word.kind == ';':
+            is_listed = word.kind in ('%token', '%term')
+        elif is_listed and word.kind in ('string', 'translatable'):
+            name, _ = word.value
+            if name in known:
+                found.append(Finding('RepeatedAlias', [word.span], 'Repeated alias "%s": a token has it already' % name))
+            known.add(name)
+    return found
+
+
+def stray_commas(t):
+    """Each comma that follows a word other than `%%`, maybe after white space."""
+    found = []
+    for word in Scanner(t).read().words:
+        comma = re.compile(rb'[ \t-\r]*(?=,)').match(t, word.span[1])
+        if comma and word.kind != '%%':
+            found.append(Finding('StrayComma', [(comma.end(), comma.end() + 1)], "Stray ',': it is read as a blank"))
     return found

@@ -75,7 +75,10 @@ and the others are warnings. If a finding is given to several of these options, 
   swallowed-rule          a rule whose type goes on to the type of the next one
   unknown-key             a key of a section that nothing looks for
   unknown-reference       an action's $6 or @6 where fewer symbols come before it: an error
+  unread-value            an action inside of a production that sets $$, which no later action reads
   misspelled-define       a %define whose variable or value is near to one that Bison knows
+  repeated-alias          an alias of a %token list that a token has already
+  stray-comma             a comma between words of a Bison file, where it is a blank
 
 --kind=KIND is --kind KIND, and so on.
 
@@ -91,7 +94,7 @@ FINDINGS = ('unused-rule', 'unused-token', 'shadowed-rule', 'start-without-sente
             'unusable-production', 'useless-symbol', 'cyclic-rule', 'repeated-production', 'unused-precedence',
             'repeated-token', 'overridden-precedence', 'glued-keyword', 'needless-expect-unused', 'escaped-token', 'implicit-empty',
             'shift-reduce', 'reduce-reduce', 'unmet-expect', 'undefined-precedence', 'missing-empty', 'swallowed-rule', 'unknown-key',
-            'unknown-reference', 'misspelled-define')
+            'unknown-reference', 'unread-value', 'misspelled-define', 'repeated-alias', 'stray-comma')
 RULES = (*FINDINGS,
          'illegal-integer', 'illegal-name', 'illegal-string', 'incomplete-rule', 'incomplete-comment',
          'incomplete-action', 'missing-colon', 'missing-right-arrow', 'mismatched-brace', 'non-empty-production',
@@ -103,6 +106,9 @@ RULES = (*FINDINGS,
          'missing-section', 'section-illegal-name', 'section-expected-token', 'section-unexpected-token',
          'section-duplicate-entry', 'section-invalid-entry', 'section-conversion')
 RULES = tuple(dict.fromkeys((*RULES, *(word for _, word in TEXTS.values()), 'unreadable-file', 'invalid-encoding')))
+# Files of Bison have no %expect-unused: only tokens that no production needs are expected to be unused there. In other files a string in
+# a %token list is a token, and a comma is no blank.
+NOT_OF_BISON, OF_BISON = ('NeedlessExpectUnused',), ('RepeatedAlias', 'StrayComma')
 ALLOWED = ('unusable-rule', 'unusable-production', 'useless-symbol', 'escaped-token', 'implicit-empty')
 DENIED = ('start-without-sentence', 'unmet-expect', 'unknown-reference')
 LEVELS = {'--allow': None, '--warn': 'warning', '--deny': 'error'}
@@ -230,8 +236,7 @@ class Tally:
         if not grammar.fits(GREATEST):
             return self.add_errors(options, name, t, [Fault('StorageTooSmall', (0, 0))], tree)
         for finding in findings_of(t, tree, grammar, is_printed):
-            # Files of Bison have no %expect-unused: only tokens that no production needs are expected to be unused there.
-            if word != 'bison' or finding.kind != 'NeedlessExpectUnused':
+            if finding.kind not in (NOT_OF_BISON if word == 'bison' else OF_BISON):
                 self.add_finding(options, name, t, finding)
         if options.shows_states and options.format == 'text':
             self.add_lines(states_text(tree))

@@ -24,6 +24,7 @@ use Rattle.text_findings.specs.Glued.{ReportsGlued}
 use Rattle.text_findings.specs.Escapes.{ReportsEscaped}
 use Rattle.text_findings.specs.Empty.{ReportsImplicitlyEmpty}
 use Rattle.text_findings.specs.File.{AreFileFindings}
+use Rattle.bison_findings.specs.Found.{AreBisonFindings}
 pub use Rattle.text_findings.specs.Reports.{ReportsBelow, none, reported, left}
 use Rattle.conflict_findings.specs.Conflicts.{AreConflictFindings}
 use Rattle.cfgfindings.specs.Needless.{ReportsUsedSymbol}
@@ -241,6 +242,7 @@ pub record AreReportedInTurn (text : List ℕ) (s : Syntax) (g : Numbered) (asso
   pub empty : List ShownFinding
   pub conflicts : List ShownFinding
   pub of_file : List ShownFinding
+  pub of_bison : List ShownFinding
   pub are_unused_rules : ReportsBelow (ReportsUnusedRule s) (length s.rules) unused_rules
   pub are_unused_tokens : ReportsBelow (ReportsUnusedToken s) (length s.tokens) unused_tokens
   pub are_shadowed : ReportsBelow (ReportsShadowedRule s) (length s.rules) shadowed
@@ -260,10 +262,11 @@ pub record AreReportedInTurn (text : List ℕ) (s : Syntax) (g : Numbered) (asso
   pub are_empty : ReportsBelow (ReportsImplicitlyEmpty text s) (length s.productions) empty
   pub are_conflicts : AreConflictFindings g associativities s.settings conflicts
   pub are_of_file : AreFileFindings text s of_file
+  pub are_of_bison : AreBisonFindings text of_bison
   pub is : reported ≡ unused_rules ++ (unused_tokens ++ (shadowed
       ++ (unproductive_rules ++ (unusable_rules ++ (unusable_productions ++ (useless_rules ++ (useless_tokens ++ (cycles ++ (repeats
       ++ (precedences ++ ((map repeated_token s.repeated_tokens ++ map overridden_precedence s.overridden_precedences)
-      ++ (glued_tokens ++ (glued_precedences ++ (glued_repeated_tokens ++ (needless ++ (escapes ++ (empty ++ (conflicts ++ of_file))))))))))))))))))
+      ++ (glued_tokens ++ (glued_precedences ++ (glued_repeated_tokens ++ (needless ++ (escapes ++ (empty ++ (conflicts ++ (of_file ++ of_bison)))))))))))))))))))
 
 -- the same findings sorted by offset; those at the same offset stay in their order
 pub record AreByOffset (reported all : List ShownFinding) : Type 0 where

@@ -13,6 +13,7 @@ use crate::sentences::{Unproductive, push_unusable};
 use crate::unproductive_rules::push_unproductive;
 use crate::unused::push_unused;
 use crate::useless::push_useless;
+use bison_findings::push_bison_findings;
 use cfgrammar::bison::Associativity;
 use cfgrammar::yacc::YaccGrammar;
 use cfgrammar::yacc::ast::GrammarAST;
@@ -22,7 +23,8 @@ use text_findings::{Finding, push_escaped, push_file_findings, push_glued, push_
 
 /// The findings about a grammar without errors, by offset; those at the same offset are in the order of
 /// [`FindingKind`](crate::FindingKind). `ast` is the tree of the text, and `grammar` its numbers. Where the two say
-/// nothing, as of the words of the file, the text decides. `associativities` says how the operators of each level of
+/// nothing, as of the words of the file, the text decides, read as a file of its kind or, for what only Bison files
+/// have, as one of those. `associativities` says how the operators of each level of
 /// precedences associate, as a `BisonFile` does; of a level that isn't in the list, the tokens themselves say it.
 ///
 /// # Errors
@@ -54,6 +56,7 @@ pub fn findings(
     push_implicitly_empty(alloc, &mut all, text, ast)?;
     push_conflicts(alloc, &mut all, ast, grammar, associativities)?;
     push_file_findings(alloc, &mut all, text, ast)?;
+    push_bison_findings(alloc, &mut all, text)?;
     all.sort_by_key(|finding| finding.offset())?;
     Ok(all)
 }

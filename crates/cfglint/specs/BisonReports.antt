@@ -5,14 +5,11 @@ use Rattle.cfgrammar.specs.BisonParsedFile.{IsParsedFile, ParsedFile}
 use Rattle.cfgrammar.specs.Errors.{GrammarError, StorageTooSmall, error_at}
 use Rattle.cfgrammar.specs.Fits.{Fits}
 use Rattle.cfgdriver.specs.ReadText.{greatest}
-use Rattle.finding_kinds.specs.declared.finding_kind.FindingKind.TheVariants.{NeedlessExpectUnused}
-use Rattle.finding_kinds.specs.declared.levels.Level.TheVariants.{Allow}
-use Rattle.finding_kinds.specs.declared.levels.Levels.{Levels}
-use Rattle.finding_kinds.specs.FindingKinds.{with_level}
 use Rattle.cfglint_shell.specs.declared.file_kind.FileKind.TheVariants.{Bison}
 use Rattle.cfglint_shell.specs.declared.linter.LintOptions.{LintOptions}
 use Rattle.cfglint_shell.specs.Tally.{Printed}
 use Rattle.cfglint.specs.BisonNotes.{noted_bison_errors}
+use Rattle.cfglint.specs.FileLevels.{bison_levels}
 use Rattle.cfglint.specs.ReportedErrors.{noted_as}
 use Rattle.cfglint.specs.ReportedLines.{AreErrorLines, ReportsFindings, ReportsNoted}
 use Rattle.cfglint.specs.Suggestions.{names_of}
@@ -20,10 +17,6 @@ use Rattle.cfglint.specs.Suggestions.{names_of}
 -- the error that a grammar is too large, which has no note
 abbrev pub too_large_error : GrammarError
 too_large_error = error_at StorageTooSmall (record { start = 0; end = 0 })
-
--- In a Bison file only the tokens that are the end of the text are expected to be unused, and they may be used.
-abbrev pub levels_of : Levels → Levels
-levels_of levels = with_level levels NeedlessExpectUnused Allow
 
 module _ (options : LintOptions) (name text : List ℕ) where
   -- the errors of a file, each with its note
@@ -41,7 +34,7 @@ module _ (options : LintOptions) (name text : List ℕ) where
     refused : (file.errors ≡ [] → ⊥) → ReportsBisonErrors file reported → ReportsBison file reported
     too_large : file.errors ≡ [] → (Fits greatest (bison_numbers file) → ⊥) → ReportsTooLarge reported → ReportsBison file reported
     found : file.errors ≡ [] → Fits greatest (bison_numbers file)
-        → ReportsFindings options.format options.columns options.colors name text options.shows_states (levels_of options.levels) file.syntax (bison_numbers file) file.levels reported
+        → ReportsFindings options.format options.columns options.colors name text options.shows_states (bison_levels options.levels) file.syntax (bison_numbers file) file.levels reported
         → ReportsBison file reported
 
   -- the same of what the text says, and as what it was read

@@ -9,6 +9,7 @@ pub mod Allowed
 pub mod ReportedFindings
 pub mod ReportedLines
 pub mod Readings
+pub mod FileLevels
 pub mod YaccReports
 pub mod BisonReports
 pub mod Reported

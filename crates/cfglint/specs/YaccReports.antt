@@ -9,6 +9,7 @@ use Rattle.cfgdriver.specs.ReadText.{IsFound, IsMadeOf, kind_read}
 use Rattle.cfglint_shell.specs.declared.file_kind.FileKind.TheVariants.{Yacc}
 use Rattle.cfglint_shell.specs.declared.linter.LintOptions.{LintOptions}
 use Rattle.cfglint_shell.specs.Tally.{Printed}
+use Rattle.cfglint.specs.FileLevels.{yacc_levels}
 use Rattle.cfglint.specs.ReportedLines.{ReportsErrors, ReportsFindings}
 use Rattle.cfglint.specs.declared.yacc.Outcome.{Outcome}
 
@@ -17,7 +18,7 @@ module _ (options : LintOptions) (name text : List ℕ) where
   abbrev pub ReportsYacc : KindArg → Printed → Type 0
   ReportsYacc kind reported = (found : Found) × IsFound kind text found
       × IsMadeOf (ReportsErrors options.format options.columns options.colors name text)
-      (λ s g. ReportsFindings options.format options.columns options.colors name text options.shows_states options.levels s g []) found reported
+      (λ s g. ReportsFindings options.format options.columns options.colors name text options.shows_states (yacc_levels options.levels) s g []) found reported
       × (reported.kind ≡ option_map Yacc (kind_read found))
 
   -- what the code makes of errors and of a grammar: the same, and whether the text is refused
@@ -27,7 +28,7 @@ module _ (options : LintOptions) (name text : List ℕ) where
 
   abbrev pub IsFoundOutcome : Syntax → Numbered → Outcome → Type 0
   IsFoundOutcome s g outcome =
-      ReportsFindings options.format options.columns options.colors name text options.shows_states options.levels s g [] outcome.report × (outcome.is_refused ≡ false)
+      ReportsFindings options.format options.columns options.colors name text options.shows_states (yacc_levels options.levels) s g [] outcome.report × (outcome.is_refused ≡ false)
 
   abbrev pub IsOutcome : KindArg → Outcome → Type 0
   IsOutcome kind outcome = (found : Found) × IsFound kind text found × IsMadeOf IsRefusedOutcome IsFoundOutcome found outcome

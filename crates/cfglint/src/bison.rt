@@ -1,19 +1,18 @@
 //! What is reported of a text as a Bison file.
 
-ghost use Rattle.std.specs.Prelude.{◌≡◌, All, IfOk};
+ghost use Rattle.std.specs.Prelude.{All, IfOk};
 ghost use Rattle.cfgrammar.specs.BisonErrorPlaces.{IsErrorAt};
-ghost use Rattle.cfglint.specs.BisonReports.{ReportsTooLarge};
-ghost use Rattle.cfglint.specs.BisonReports.{ReportsAsBison, ReportsBison, ReportsBisonErrors, levels_of};
+ghost use Rattle.cfglint.specs.BisonReports.{ReportsAsBison, ReportsBison, ReportsBisonErrors, ReportsTooLarge};
 
+use crate::file_levels::bison_levels;
 use crate::file_reporter::FileReporter;
 use crate::reported_bison::reported_bison_errors;
 use crate::reported_error::ReportedError;
 use crate::suggestion::Names;
-use cfglint_shell::{FileKind, LintOptions, Report};
+use cfglint_shell::{FileKind, Report};
 use cfgrammar::Span;
 use cfgrammar::bison::{BisonFault, BisonFile, read};
 use cfgrammar::yacc::{YaccGrammarError, YaccGrammarErrorKind};
-use finding_kinds::{FindingKind, Level, Levels};
 use std::alloc::{AllocError, Global};
 
 /// Reports a text as a Bison file.
@@ -47,41 +46,12 @@ fn report_file(
     ensures { IfOk result (ReportsBison reporter.now.options reporter.now.name.now text.now file.now) }
 {
     match file.grammar::<u32>(alloc) {
-        Ok(grammar) => with_levels(reporter).report_findings(
-            alloc,
-            text,
-            file.ast(),
-            &grammar,
-            file.levels(),
-        ),
+        Ok(grammar) => reporter
+            .with_levels(bison_levels(reporter.options.levels))
+            .report_findings(alloc, text, file.ast(), &grammar, file.levels()),
         Err(BisonFault::Errors(_)) => report_errors(alloc, text, file, reporter),
         Err(BisonFault::StorageTooSmall) => report_too_large(alloc, text, reporter),
         Err(BisonFault::OutOfMemory) => Err(AllocError),
-    }
-}
-
-/// The levels of findings in a Bison file. It can't have an `%expect-unused`: the tokens that are expected to be unused
-/// are the end of the text, and may be used.
-fn levels_of(levels: Levels) -> Levels
-    ensures { result ≡ levels_of levels }
-{
-    let mut levels = levels;
-    levels.set(FindingKind::NeedlessExpectUnused, Level::Allow);
-    levels
-}
-
-/// The reporter with the levels of a Bison file.
-fn with_levels<'a>(reporter: &FileReporter<'a>) -> FileReporter<'a>
-    ensures { result ≡ record reporter.now {
-      options = record reporter.now.options { levels = levels_of reporter.now.options.levels };
-    } }
-{
-    FileReporter {
-        name: reporter.name,
-        options: LintOptions {
-            levels: levels_of(reporter.options.levels),
-            ..reporter.options
-        },
     }
 }
 

@@ -1,6 +1,6 @@
 //! What is reported of the text of a file, in the format that the options name.
 
-ghost use Rattle.std.specs.Prelude.{◌&&◌, IfOk, string_bytes};
+ghost use Rattle.std.specs.Prelude.{◌≡◌, ◌&&◌, IfOk, string_bytes};
 ghost use Rattle.cfgrammar.specs.TreeView.{syntax};
 ghost use Rattle.cfglint_shell.specs.Formats.{is_text};
 ghost use Rattle.cfglint.specs.ReportedLines.{AreErrorLines, AreFindingLines, ReportsFindings, ReportsNoted};
@@ -15,6 +15,7 @@ use cfgrammar::bison::Associativity;
 use cfgrammar::yacc::YaccGrammar;
 use cfgrammar::yacc::ast::GrammarAST;
 use conflict_findings::states_text;
+use finding_kinds::Levels;
 use std::alloc::{AllocError, Global};
 
 /// Reports errors or findings for the text of the file with this name, without what it was read as.
@@ -22,6 +23,21 @@ use std::alloc::{AllocError, Global};
 pub(crate) struct FileReporter<'a> {
     pub(crate) name: &'a str,
     pub(crate) options: LintOptions,
+}
+
+impl<'a> FileReporter<'a> {
+    /// The reporter with these levels of findings.
+    pub(crate) fn with_levels(&self, levels: Levels) -> FileReporter<'a>
+        ensures { result ≡ record self.now { options = record self.now.options { levels = levels } } }
+    {
+        FileReporter {
+            name: self.name,
+            options: LintOptions {
+                levels,
+                ..self.options
+            },
+        }
+    }
 }
 
 impl FileReporter<'_> {

@@ -5,6 +5,7 @@ mod allowed;
 mod bison;
 mod bison_notes;
 mod error_words;
+mod file_levels;
 mod file_reporter;
 pub mod linter;
 mod messages;

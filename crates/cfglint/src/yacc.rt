@@ -4,6 +4,7 @@ ghost use Rattle.std.specs.Prelude.{◌≡◌, IfOk, option_map};
 ghost use Rattle.cfglint_shell.specs.declared.file_kind.FileKind.TheVariants.{Yacc};
 ghost use Rattle.cfglint.specs.YaccReports.{IsOutcome};
 
+use crate::file_levels::yacc_levels;
 use crate::file_reporter::FileReporter;
 use crate::shown::shown_errors;
 use crate::suggestion::Names;
@@ -86,7 +87,8 @@ impl TextReader<Outcome> for FileReporter<'_> {
         ast: &GrammarAST,
         grammar: &YaccGrammar<u32>,
     ) -> Result<Outcome, AllocError> {
-        let report = self.report_findings(alloc, text, ast, grammar, &[])?;
+        let reporter = self.with_levels(yacc_levels(self.options.levels));
+        let report = reporter.report_findings(alloc, text, ast, grammar, &[])?;
         Ok(Outcome {
             report,
             is_refused: false,

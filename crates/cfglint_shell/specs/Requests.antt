@@ -260,4 +260,4 @@ abbrev pub version : List ℕ
 version = codes "cfglint 0.15.0\n"
 
 abbrev pub help : List ℕ
-help = codes "cfglint reports errors in Yacc grammar files, and warnings about their grammars.\n\nusage: cfglint [OPTION..] [--] FILE..\n\n  --kind KIND        bison or yacc, the same: as Bison reads files; original-noaction, original-useraction,\n                     original-genericparsetree, grmtools, eco; or section (the kind that the file's section names).\n                     Without it the section names the kind; a file that names none is read as the default kind.\n  --default-kind KIND\n                     The default kind, any but section. Without it a file that names no kind is read as\n                     original-noaction; if it then has errors, and something that only Bison's files have, such as %{\n                     or %union, it is read as bison.\n  --format FORMAT    text, the default; json: a line with a JSON object for each error and warning; github: a line\n                     with a workflow command for each, which GitHub shows at its place; or sarif: a log in SARIF 2.1.0.\n                     Only text has a summary.\n  --columns UNIT     What a column of text counts from 1: bytes, characters, the default, or display: columns of a\n                     terminal, of which wide characters take two, and tabs those up to the next multiple of 8.\n  --color WHEN       Colours severities in text: always, never, or auto, the default: if standard output is a terminal,\n                     and the variable NO_COLOR is unset or empty.\n  --states           Writes the states of the parser after the findings, for reading a conflict by hand. Only text has\n                     them.\n  --allow FINDING    Findings of this kind aren't reported.\n  --warn FINDING     Findings of this kind are warnings.\n  --deny FINDING     Findings of this kind are errors.\n  --deny-warnings    Warnings end with status 1 too.\n  --quiet            Writes no summary.\n  --stdin-name NAME  Standard input is reported under this name.\n  -h, --help         Writes this.\n  --version          Writes the version.\n  --                 What follows are files.\n  FILE               A path, or - for standard input, which can be given once.\n\nFINDING is all, for each kind, or one of these. Without these options those that say so are errors or aren't reported,\nand the others are warnings. If a finding is given to several of these options, the last one wins.\n\n  unused-rule             a rule that can't be reached from the start rule\n  unused-token            a token that can't be reached from it, and that no %prec names\n  shadowed-rule           a rule that is never used, since its name is that of a token\n  start-without-sentence  a start rule from which no sentence can be derived: an error\n  no-sentence             another rule from which no sentence can be derived\n  unusable-rule           a rule without a sentence since others have none: not reported\n  unusable-production     a production with a rule that has no sentence: not reported\n  useless-symbol          a rule or token that only unusable productions reach: not reported\n  cyclic-rule             a rule that derives itself\n  repeated-production     a production with the symbols of an earlier one of its rule\n  unused-precedence       a precedence of a token that no production needs\n  repeated-token          a token that a %token list has a second time\n  overridden-precedence   a %prec that a later one of its production overrides\n  glued-keyword           a name that directly follows a keyword, as in %tokens X\n  needless-expect-unused  a symbol of an %expect-unused that is used\n  escaped-token           a token whose name begins with a backslash: not reported\n  implicit-empty          an empty production without %empty: not reported\n  shift-reduce            a production that may be reduced where the next token may also be shifted\n  reduce-reduce           a production that may be reduced where an earlier one may be too\n  unmet-expect            an %expect or %expect-rr with another number of conflicts than there are: an error\n  undefined-precedence    a production whose %prec names a token without a precedence\n  missing-empty           an empty production without %empty, which others have\n  swallowed-rule          a rule whose type goes on to the type of the next one\n  unknown-key             a key of a section that nothing looks for\n  unknown-reference       an action's $6 or @6 where fewer symbols come before it: an error\n  misspelled-define       a %define whose variable or value is near to one that Bison knows\n\n--kind=KIND is --kind KIND, and so on.\n\nstatus: 0 without errors or denied warnings; 1 with either; 2 if the arguments are wrong, a file can't be read or\nthe output can't be written; 3 if there is no memory left\n"
+help = codes "cfglint reports errors in Yacc grammar files, and warnings about their grammars.\n\nusage: cfglint [OPTION..] [--] FILE..\n\n  --kind KIND        bison or yacc, the same: as Bison reads files; original-noaction, original-useraction,\n                     original-genericparsetree, grmtools, eco; or section (the kind that the file's section names).\n                     Without it the section names the kind; a file that names none is read as the default kind.\n  --default-kind KIND\n                     The default kind, any but section. Without it a file that names no kind is read as\n                     original-noaction; if it then has errors, and something that only Bison's files have, such as %{\n                     or %union, it is read as bison.\n  --format FORMAT    text, the default; json: a line with a JSON object for each error and warning; github: a line\n                     with a workflow command for each, which GitHub shows at its place; or sarif: a log in SARIF 2.1.0.\n                     Only text has a summary.\n  --columns UNIT     What a column of text counts from 1: bytes, characters, the default, or display: columns of a\n                     terminal, of which wide characters take two, and tabs those up to the next multiple of 8.\n  --color WHEN       Colours severities in text: always, never, or auto, the default: if standard output is a terminal,\n                     and the variable NO_COLOR is unset or empty.\n  --states           Writes the states of the parser after the findings, for reading a conflict by hand. Only text has\n                     them.\n  --allow FINDING    Findings of this kind aren't reported.\n  --warn FINDING     Findings of this kind are warnings.\n  --deny FINDING     Findings of this kind are errors.\n  --deny-warnings    Warnings end with status 1 too.\n  --quiet            Writes no summary.\n  --stdin-name NAME  Standard input is reported under this name.\n  -h, --help         Writes this.\n  --version          Writes the version.\n  --                 What follows are files.\n  FILE               A path, or - for standard input, which can be given once.\n\nFINDING is all, for each kind, or one of these. Without these options those that say so are errors or aren't reported,\nand the others are warnings. If a finding is given to several of these options, the last one wins.\n\n  unused-rule             a rule that can't be reached from the start rule\n  unused-token            a token that can't be reached from it, and that no %prec names\n  shadowed-rule           a rule that is never used, since its name is that of a token\n  start-without-sentence  a start rule from which no sentence can be derived: an error\n  no-sentence             another rule from which no sentence can be derived\n  unusable-rule           a rule without a sentence since others have none: not reported\n  unusable-production     a production with a rule that has no sentence: not reported\n  useless-symbol          a rule or token that only unusable productions reach: not reported\n  cyclic-rule             a rule that derives itself\n  repeated-production     a production with the symbols of an earlier one of its rule\n  unused-precedence       a precedence of a token that no production needs\n  repeated-token          a token that a %token list has a second time\n  overridden-precedence   a %prec that a later one of its production overrides\n  glued-keyword           a name that directly follows a keyword, as in %tokens X\n  needless-expect-unused  a symbol of an %expect-unused that is used\n  escaped-token           a token whose name begins with a backslash: not reported\n  implicit-empty          an empty production without %empty: not reported\n  shift-reduce            a production that may be reduced where the next token may also be shifted\n  reduce-reduce           a production that may be reduced where an earlier one may be too\n  unmet-expect            an %expect or %expect-rr with another number of conflicts than there are: an error\n  undefined-precedence    a production whose %prec names a token without a precedence\n  missing-empty           an empty production without %empty, which others have\n  swallowed-rule          a rule whose type goes on to the type of the next one\n  unknown-key             a key of a section that nothing looks for\n  unknown-reference       an action's $6 or @6 where fewer symbols come before it: an error\n  unread-value            an action inside of a production that sets $$, which no later action reads\n  misspelled-define       a %define whose variable or value is near to one that Bison knows\n  repeated-alias          an alias of a %token list that a token has already\n  stray-comma             a comma between words of a Bison file, where it is a blank\n\n--kind=KIND is --kind KIND, and so on.\n\nstatus: 0 without errors or denied warnings; 1 with either; 2 if the arguments are wrong, a file can't be read or\nthe output can't be written; 3 if there is no memory left\n"

@@ -82,7 +82,10 @@ and the others are warnings. If a finding is given to several of these options, 
   swallowed-rule          a rule whose type goes on to the type of the next one
   unknown-key             a key of a section that nothing looks for
   unknown-reference       an action's $6 or @6 where fewer symbols come before it: an error
+  unread-value            an action inside of a production that sets $$, which no later action reads
   misspelled-define       a %define whose variable or value is near to one that Bison knows
+  repeated-alias          an alias of a %token list that a token has already
+  stray-comma             a comma between words of a Bison file, where it is a blank
 
 --kind=KIND is --kind KIND, and so on.
 
@@ -325,7 +328,7 @@ const UNITS: [&str; 3] = ["bytes", "characters", "display"];
 const COLOR_CHOICES: [&str; 3] = ["auto", "always", "never"];
 
 /// The values of `--allow`, `--warn` and `--deny`.
-const FINDINGS: [&str; 27] = [
+const FINDINGS: [&str; 30] = [
     "unused-rule",
     "unused-token",
     "shadowed-rule",
@@ -351,6 +354,9 @@ const FINDINGS: [&str; 27] = [
     "swallowed-rule",
     "unknown-key",
     "unknown-reference",
+    "unread-value",
     "misspelled-define",
+    "repeated-alias",
+    "stray-comma",
     "all",
 ];

@@ -17,7 +17,7 @@ kind_at n = get_or kinds n UnusedRule
 kind_there : (kind : FindingKind) → kind_at (number kind) ≡ kind
 kind_there kind = grind arith
 
-number_within : (kind : FindingKind) → number kind < 26
+number_within : (kind : FindingKind) → number kind < 29
 number_within kind = grind arith
 
 -- a table of all kinds has for each kind what it was made of
@@ -41,11 +41,11 @@ module _ (levels : Levels) (kind : FindingKind) (level : Level) where
   other_level other differ = entry_of entry other ∙ other_entry other (λ same. differ (sym (kind_there other) ∙ ap kind_at same ∙ kind_there kind))
 
   -- a table in which the kind's entry was set
-  pub set_by_kind : length levels.by_kind ≡ 26 → (table : List Level) → table ≡ slice_set levels.by_kind (number kind) level → record { by_kind = table } ≡ with_level levels kind level
+  pub set_by_kind : length levels.by_kind ≡ 29 → (table : List Level) → table ≡ slice_set levels.by_kind (number kind) level → record { by_kind = table } ≡ with_level levels kind level
   set_by_kind long table is = ap (λ l. record { by_kind = l }) (by_numbers ∙ (λ i. map (λ other. each other i) kinds))
     where
       by_numbers : table ≡ map (λ other. get_or table (number other) Warn) kinds
-      by_numbers = fill_by_all (λ n. get_or table n Warn) table 26 Warn (ap length is ∙ length-set levels.by_kind (number kind) level ∙ long) (λ n within. refl)
+      by_numbers = fill_by_all (λ n. get_or table n Warn) table 29 Warn (ap length is ∙ length-set levels.by_kind (number kind) level ∙ long) (λ n within. refl)
 
       each : (other : FindingKind) → get_or table (number other) Warn ≡ entry other
       each other = ap (λ l. get_or l (number other) Warn) is ∙ elim (cases_eq (number other) (number kind)) [

@@ -3,7 +3,7 @@ use Rattle.std.specs.Prelude.{ℕ, ◌==◌, List, [], ◌∷◌, Option, if◌t
 use Rattle.std.specs.List.{find}
 use Rattle.std.specs.Str.{bytes_eq}
 use Rattle.finding_kinds.specs.declared.finding_kind.FindingKind.{FindingKind}
-use Rattle.finding_kinds.specs.declared.finding_kind.FindingKind.TheVariants.{UnusedRule, UnusedToken, ShadowedRule, StartWithoutSentence, NoSentence, UnusableRule, UnusableProduction, UselessSymbol, CyclicRule, RepeatedProduction, UnusedPrecedence, RepeatedToken, OverriddenPrecedence, GluedKeyword, NeedlessExpectUnused, EscapedToken, ImplicitEmpty, ShiftReduce, ReduceReduce, UnmetExpect, UndefinedPrecedence, MissingEmpty, SwallowedRule, UnknownKey, UnknownReference, MisspelledDefine}
+use Rattle.finding_kinds.specs.declared.finding_kind.FindingKind.TheVariants.{UnusedRule, UnusedToken, ShadowedRule, StartWithoutSentence, NoSentence, UnusableRule, UnusableProduction, UselessSymbol, CyclicRule, RepeatedProduction, UnusedPrecedence, RepeatedToken, OverriddenPrecedence, GluedKeyword, NeedlessExpectUnused, EscapedToken, ImplicitEmpty, ShiftReduce, ReduceReduce, UnmetExpect, UndefinedPrecedence, MissingEmpty, SwallowedRule, UnknownKey, UnknownReference, UnreadValue, MisspelledDefine, RepeatedAlias, StrayComma}
 use Rattle.finding_kinds.specs.declared.levels.Level.{Level}
 use Rattle.finding_kinds.specs.declared.levels.Level.TheVariants.{Allow, Warn, Deny}
 use Rattle.finding_kinds.specs.declared.levels.Levels.{Levels}
@@ -35,14 +35,18 @@ word_of MissingEmpty = codes "missing-empty"
 word_of SwallowedRule = codes "swallowed-rule"
 word_of UnknownKey = codes "unknown-key"
 word_of UnknownReference = codes "unknown-reference"
+word_of UnreadValue = codes "unread-value"
 word_of MisspelledDefine = codes "misspelled-define"
+word_of RepeatedAlias = codes "repeated-alias"
+word_of StrayComma = codes "stray-comma"
 
 -- the kinds, in order
 abbrev pub kinds : List FindingKind
 kinds = UnusedRule ∷ UnusedToken ∷ ShadowedRule ∷ StartWithoutSentence ∷ NoSentence ∷ UnusableRule ∷ UnusableProduction
     ∷ UselessSymbol ∷ CyclicRule ∷ RepeatedProduction ∷ UnusedPrecedence ∷ RepeatedToken ∷ OverriddenPrecedence
     ∷ GluedKeyword ∷ NeedlessExpectUnused ∷ EscapedToken ∷ ImplicitEmpty ∷ ShiftReduce ∷ ReduceReduce ∷ UnmetExpect
-    ∷ UndefinedPrecedence ∷ MissingEmpty ∷ SwallowedRule ∷ UnknownKey ∷ UnknownReference ∷ MisspelledDefine ∷ []
+    ∷ UndefinedPrecedence ∷ MissingEmpty ∷ SwallowedRule ∷ UnknownKey ∷ UnknownReference ∷ UnreadValue
+    ∷ MisspelledDefine ∷ RepeatedAlias ∷ StrayComma ∷ []
 
 -- the kind that a word names
 abbrev pub finding_named : List ℕ → Option FindingKind
@@ -75,7 +79,10 @@ number MissingEmpty = 21
 number SwallowedRule = 22
 number UnknownKey = 23
 number UnknownReference = 24
-number MisspelledDefine = 25
+number UnreadValue = 25
+number MisspelledDefine = 26
+number RepeatedAlias = 27
+number StrayComma = 28
 
 -- A start rule without a sentence, an expectation that isn't met and a reference to no symbol are errors, and every other finding is a
 -- warning, except for two groups that aren't reported: those that only follow from a rule without a sentence, and those about a style that

@@ -58,12 +58,18 @@ pub enum FindingKind {
     UnknownKey,
     /// The action refers to a symbol that doesn't come before it, as `$6` where there are three.
     UnknownReference,
+    /// The action inside of a production of a Bison file sets its value, which no later action reads.
+    UnreadValue,
     /// A `%define` of a Bison file has a variable or a value that is unknown, but near to a known one.
     MisspelledDefine,
+    /// A `%token` list of a Bison file gives the token an alias that a token has already.
+    RepeatedAlias,
+    /// A comma stands between words of a Bison file, where it is a blank.
+    StrayComma,
 }
 
 /// The kinds, in order.
-pub(crate) const KINDS: [FindingKind; 26] = [
+pub(crate) const KINDS: [FindingKind; 29] = [
     FindingKind::UnusedRule,
     FindingKind::UnusedToken,
     FindingKind::ShadowedRule,
@@ -89,7 +95,10 @@ pub(crate) const KINDS: [FindingKind; 26] = [
     FindingKind::SwallowedRule,
     FindingKind::UnknownKey,
     FindingKind::UnknownReference,
+    FindingKind::UnreadValue,
     FindingKind::MisspelledDefine,
+    FindingKind::RepeatedAlias,
+    FindingKind::StrayComma,
 ];
 
 impl FindingKind {
@@ -130,7 +139,10 @@ impl FindingKind {
             FindingKind::SwallowedRule => "swallowed-rule",
             FindingKind::UnknownKey => "unknown-key",
             FindingKind::UnknownReference => "unknown-reference",
+            FindingKind::UnreadValue => "unread-value",
             FindingKind::MisspelledDefine => "misspelled-define",
+            FindingKind::RepeatedAlias => "repeated-alias",
+            FindingKind::StrayComma => "stray-comma",
         }
     }
 

@@ -19,7 +19,7 @@ pub enum Level {
 /// The level of each kind of finding.
 #[derive(Clone, Copy, Debug)]
 pub struct Levels {
-    by_kind: [Level; 26],
+    by_kind: [Level; 29],
 }
 
 impl Levels {
@@ -46,7 +46,7 @@ impl Levels {
         ensures { result ≡ all_levels level }
     {
         Levels {
-            by_kind: [level; 26],
+            by_kind: [level; 29],
         }
     }
 

@@ -10,4 +10,4 @@ pub mod Named
 pub mod Swallowed
 pub mod Keys
 pub mod References
-pub mod Defines
+pub mod Values

@@ -101,8 +101,8 @@ symbols_before s n production = option_map_or
     (rule_name_at s n) (length production.symbols)
 
 -- where code with this span begins in the text: its span begins right after the brace, and the code after white space
-abbrev pub start_of : List ℕ → Span → ℕ
-start_of text span = min (length text) span.start + prefix_len (holds Blanks) (drop (min (length text) span.start) text)
+abbrev pub after_blanks : List ℕ → ℕ → ℕ
+after_blanks text offset = min (length text) offset + prefix_len (holds Blanks) (drop (min (length text) offset) text)
 
 -- with what a reference begins
 abbrev pub sign_of : Reference → List ℕ
@@ -127,7 +127,7 @@ unknown_reference start limit reference = record {
 abbrev pub ReportsIn : List ℕ → ℕ → Option (List ℕ × Span) → Option ShownFinding → Type 0
 ReportsIn text limit None found = found ≡ None
 ReportsIn text limit (Some (code, span)) found = (first : Option Reference) × IsFirstBeyond code limit first
-    × (found ≡ option_map (λ reference. unknown_reference (start_of text span + reference.offset) limit reference) first)
+    × (found ≡ option_map (λ reference. unknown_reference (after_blanks text span.start + reference.offset) limit reference) first)
 
 abbrev pub ReportsAt : List ℕ → Syntax → ℕ → Option Production → Option ShownFinding → Type 0
 ReportsAt text s n None found = found ≡ None

@@ -4,18 +4,19 @@ ghost use Rattle.std.specs.Prelude.{◌≡◌, ◌++◌, OnOk};
 ghost use Rattle.cfgrammar.specs.TreeView.{syntax};
 ghost use Rattle.text_findings.specs.File.{AreFileFindings};
 
-use crate::defines::push_misspelled_defines;
 use crate::empty::push_missing_empty;
 use crate::finding::Finding;
 use crate::keys::push_unknown_keys;
 use crate::precedences::push_undefined_precedences;
 use crate::references::push_unknown_references;
 use crate::swallowed::push_swallowed;
+use crate::values::push_unread_values;
 use cfgrammar::yacc::ast::GrammarAST;
 use std::alloc::{AllocError, Global};
 
 /// Adds what a file seems to lack to the findings: precedences of tokens that a `%prec` names, `%empty`, the `:` after a
-/// rule's type, what makes a key of its section or a `%define` known, and symbols before an action that refers to them.
+/// rule's type, what makes a key of its section known, symbols before an action that refers to them, and
+/// actions after one that read its value.
 ///
 /// # Errors
 ///
@@ -34,5 +35,5 @@ pub fn push_file_findings(
     push_swallowed(alloc, all, ast)?;
     push_unknown_keys(alloc, all, text)?;
     push_unknown_references(alloc, all, text, ast)?;
-    push_misspelled_defines(alloc, all, text)
+    push_unread_values(alloc, all, ast)
 }

@@ -1,7 +1,6 @@
 //! Findings, how they are reported number by number, and those that the text or the tree alone decides.
 #![tactic(auto)]
 
-mod defines;
 mod empty;
 mod escapes;
 mod file;
@@ -13,6 +12,7 @@ mod precedences;
 mod references;
 pub mod reporter;
 mod swallowed;
+mod values;
 mod words;
 
 pub use empty::push_implicitly_empty;
@@ -22,5 +22,6 @@ pub use finding::{Finding, FindingKind};
 pub use glued::push_glued;
 pub use named::symbol_name;
 pub use precedences::has_precedence;
+pub use references::after_blanks;
 pub use reporter::{Reporter, push_reported};
 pub use words::Words;

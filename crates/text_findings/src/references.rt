@@ -5,9 +5,9 @@ ghost use Rattle.std.specs.Prelude.{◌≤◌, Some, string_bytes};
 ghost use Rattle.std.specs.List.{prefix_len};
 ghost use Rattle.cfgrammar.specs.TreeView.{syntax};
 ghost use Rattle.cfgrammar.specs.SyntaxView.{production_view, symbol_view};
-ghost use Rattle.text_findings.specs.References.{IsFirstBeyond, ReportsAt, ReportsIn, ReportsUnknownReference, after};
+ghost use Rattle.text_findings.specs.References.{IsFirstBeyond, ReportsAt, ReportsIn, ReportsUnknownReference, after, after_blanks};
 ghost use Rattle.text_findings.specs.References.{count_before, holds, is_code, is_rule_named, is_sign};
-ghost use Rattle.text_findings.specs.References.{last_text, number_of, place_at, place_of, reference_at, sign_of, start_of};
+ghost use Rattle.text_findings.specs.References.{last_text, number_of, place_at, place_of, reference_at, sign_of};
 ghost use Rattle.text_findings.specs.References.{symbols_before, unknown_reference, with_digit, without_tag};
 ghost use Rattle.text_findings.specs.Reports.{ReportsBelow};
 
@@ -93,7 +93,7 @@ fn symbols_before(ast: &GrammarAST, number: usize, production: &Production) -> u
 }
 
 /// How many symbols precede the rule with this name in the first of the productions that has it.
-fn count_before(name: &str, productions: &[Production]) -> usize
+pub(crate) fn count_before(name: &str, productions: &[Production]) -> usize
     ensures { result ≡ count_before name.now (map production_view productions.now) }
 {
     for production in productions {
@@ -107,7 +107,7 @@ fn count_before(name: &str, productions: &[Production]) -> usize
 
 /// Where the rule with this name is among symbols, or their number.
 #[tactic(auto, using(crate::proofs::ReferenceSteps::place_more))]
-fn place_of(name: &str, symbols: &[Symbol]) -> usize
+pub(crate) fn place_of(name: &str, symbols: &[Symbol]) -> usize
     ensures { result ≡ place_of name.now (map symbol_view symbols.now) }
 {
     for (index, symbol) in symbols.iter().enumerate() {
@@ -140,7 +140,7 @@ fn unknown_reference_in(
 {
     match first_beyond(code.as_bytes(), limit) {
         Some(reference) => {
-            let start = start_of(text, span) + reference.offset;
+            let start = after_blanks(text, span.start()) + reference.offset;
             Ok(Some(unknown_reference(alloc, start, limit, reference)?))
         }
         None => Ok(None),
@@ -199,7 +199,7 @@ pub(crate) enum Place {
 
 impl Place {
     /// Where code goes on after a byte.
-    fn after(self, byte: u8) -> Place
+    pub(crate) fn after(self, byte: u8) -> Place
         ensures { result ≡ after self byte }
     {
         match (self, byte) {
@@ -220,7 +220,7 @@ impl Place {
     }
 
     /// Whether it is outside of comments and quotes.
-    fn is_code(self) -> bool
+    pub(crate) fn is_code(self) -> bool
         ensures { result ≡ is_code self }
     {
         matches!(self, Place::Code | Place::Slash)
@@ -247,7 +247,7 @@ fn is_sign(byte: u8) -> bool
 }
 
 /// The code after a tag, if it begins with one.
-fn without_tag(code: &[u8]) -> &[u8]
+pub(crate) fn without_tag(code: &[u8]) -> &[u8]
     ensures { result.now ≡ without_tag code.now }
 {
     match code {
@@ -260,7 +260,7 @@ fn without_tag(code: &[u8]) -> &[u8]
 }
 
 /// The number that code begins with; the greatest `usize` if it doesn't fit. None if it begins with no digit.
-fn number_of(code: &[u8]) -> Option<usize>
+pub(crate) fn number_of(code: &[u8]) -> Option<usize>
     ensures { result ≡ number_of code.now }
 {
     let count = run_len(Run::Digits, code);
@@ -320,12 +320,13 @@ fn run_len(run: Run, code: &[u8]) -> usize
     code.len()
 }
 
-/// Where an action's code begins in the text. Its span begins right after the brace, and the code after white space.
-fn start_of(text: &str, span: Span) -> usize
-    ensures value { result ≡ start_of text.now span }
+/// Where a text goes on from an offset after white space. An action's code begins there, whose span begins right after
+/// the brace.
+pub fn after_blanks(text: &str, offset: usize) -> usize
+    ensures value { result ≡ after_blanks text.now offset }
     ensures within { result ≤ length text.now }
 {
-    let start = text.len().min(span.start());
+    let start = text.len().min(offset);
     start + run_len(Run::Blanks, &text.as_bytes()[start..])
 }
 

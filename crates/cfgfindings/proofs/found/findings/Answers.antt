@@ -16,12 +16,12 @@ joined a0 a1 a2 a3 a4 a5 a6 a7 a8 n t h w v u x y l r p d e0 e1 e2 e3 e4 e5 e6 e
     all ∙ simp append_assoc
 
 -- the lists that come last
-joined_last : (a7 a8 a9 a10 a11 a12 a13 a14 d t p r n e m o f : List ShownFinding) → a8 ≡ a7 ++ d → a9 ≡ a8 ++ (t ++ (p ++ r)) → a10 ≡ a9 ++ n
-    → a11 ≡ a10 ++ e → a12 ≡ a11 ++ m → a13 ≡ a12 ++ o → a14 ≡ a13 ++ f
-    → a14 ≡ a7 ++ (d ++ (t ++ (p ++ (r ++ (n ++ (e ++ (m ++ (o ++ f))))))))
-joined_last a7 a8 a9 a10 a11 a12 a13 a14 d t p r n e m o f e8 e9 e10 e11 e12 e13 e14 =
-    let all : a14 ≡ ((((((a7 ++ d) ++ (t ++ (p ++ r))) ++ n) ++ e) ++ m) ++ o) ++ f =
-    e14 ∙ ap (λ z. z ++ f) (e13 ∙ ap (λ z. z ++ o) (e12 ∙ ap (λ z. z ++ m) (e11 ∙ ap (λ z. z ++ e) (e10 ∙ ap (λ z. z ++ n) (e9 ∙ ap (λ z. z ++ (t ++ (p ++ r))) e8))))) in
+joined_last : (a7 a8 a9 a10 a11 a12 a13 a14 a15 d t p r n e m o f b : List ShownFinding) → a8 ≡ a7 ++ d → a9 ≡ a8 ++ (t ++ (p ++ r)) → a10 ≡ a9 ++ n
+    → a11 ≡ a10 ++ e → a12 ≡ a11 ++ m → a13 ≡ a12 ++ o → a14 ≡ a13 ++ f → a15 ≡ a14 ++ b
+    → a15 ≡ a7 ++ (d ++ (t ++ (p ++ (r ++ (n ++ (e ++ (m ++ (o ++ (f ++ b)))))))))
+joined_last a7 a8 a9 a10 a11 a12 a13 a14 a15 d t p r n e m o f b e8 e9 e10 e11 e12 e13 e14 e15 =
+    let all : a15 ≡ (((((((a7 ++ d) ++ (t ++ (p ++ r))) ++ n) ++ e) ++ m) ++ o) ++ f) ++ b =
+    e15 ∙ ap (λ z. z ++ b) (e14 ∙ ap (λ z. z ++ f) (e13 ∙ ap (λ z. z ++ o) (e12 ∙ ap (λ z. z ++ m) (e11 ∙ ap (λ z. z ++ e) (e10 ∙ ap (λ z. z ++ n) (e9 ∙ ap (λ z. z ++ (t ++ (p ++ r))) e8)))))) in
     all ∙ simp append_assoc
 
 pub returns : goal.returns
@@ -39,17 +39,18 @@ returns c =
     let (empty, are_empty, empty_is) = c.in_ok-push_implicitly_empty.ensures in
     let (conflicts, are_conflicts, conflicts_is) = c.in_ok-push_conflicts.ensures in
     let (of_file, are_of_file, of_file_is) = c.in_ok-push_file_findings.ensures in
+    let (of_bison, are_of_bison, of_bison_is) = c.in_ok-push_bison_findings.ensures in
     let seen : c.in_ok-unproductive.unproductive ≡ c.args.grammar.now = c.in_ok-unproductive.ensures in
     let declared = map repeated_token (syntax c.args.ast.now).repeated_tokens ++ map overridden_precedence (syntax c.args.ast.now).overridden_precedences in
-    let last = declared ++ (glued_tokens ++ (glued_precedences ++ (glued_repeated ++ (needless ++ (escapes ++ (empty ++ (conflicts ++ of_file))))))) in
-    let before = c.push_file_findings.new.all.items in
+    let last = declared ++ (glued_tokens ++ (glued_precedences ++ (glued_repeated ++ (needless ++ (escapes ++ (empty ++ (conflicts ++ (of_file ++ of_bison)))))))) in
+    let before = c.push_bison_findings.new.all.items in
     let after = c.sort_by_key.new.self.items in
     let reported : List ShownFinding = rules ++ (tokens ++ (shadowed
     ++ (unproductive_rules ++ (unusable_rules ++ (unusable_productions ++ (useless_rules ++ (useless_tokens ++ (cycles ++ (repeats ++ (precedences ++ last)))))))))) in
     let last_is = joined_last c.push_precedences.new.all.items c.push_declarations.new.all.items c.push_glued.new.all.items c.push_needless.new.all.items
-    c.push_escaped.new.all.items c.push_implicitly_empty.new.all.items c.push_conflicts.new.all.items before declared glued_tokens glued_precedences
-    glued_repeated needless escapes empty conflicts of_file
-    c.in_ok-push_declarations.ensures glued_is needless_is escapes_is empty_is conflicts_is of_file_is in
+    c.push_escaped.new.all.items c.push_implicitly_empty.new.all.items c.push_conflicts.new.all.items c.push_file_findings.new.all.items before declared glued_tokens glued_precedences
+    glued_repeated needless escapes empty conflicts of_file of_bison
+    c.in_ok-push_declarations.ensures glued_is needless_is escapes_is empty_is conflicts_is of_file_is of_bison_is in
     let is : before ≡ reported = joined c.new-all.result.items c.push_unused.new.all.items c.push_unproductive.new.all.items c.push_unusable.new.all.items
     c.push_useless.new.all.items c.push_cycles.new.all.items c.push_repeats.new.all.items c.push_precedences.new.all.items before
     rules tokens shadowed unproductive_rules unusable_rules unusable_productions useless_rules useless_tokens cycles repeats precedences last
@@ -78,6 +79,7 @@ returns c =
         empty = empty;
         conflicts = conflicts;
         of_file = of_file;
+        of_bison = of_bison;
         are_unused_rules = are_rules;
         are_unused_tokens = are_tokens;
         are_shadowed = are_shadowed;
@@ -97,6 +99,7 @@ returns c =
         are_empty = are_empty;
         are_conflicts = are_conflicts;
         are_of_file = are_of_file;
+        are_of_bison = are_of_bison;
         is = refl;
       };
       by_offset = record {

@@ -17,7 +17,7 @@ returns c =
     let (swallowed, are_swallowed, swallowed_is) = c.in_ok-push_swallowed.ensures in
     let (keys, are_keys, keys_is) = c.in_ok-push_unknown_keys.ensures in
     let (references, are_references, references_is) = c.in_ok-push_unknown_references.ensures in
-    on_ok_weaker c.push_misspelled_defines.result
+    on_ok_weaker c.push_unread_values.result
     (λ h. (
       precedences ++ (empty ++ (swallowed ++ (keys ++ (references ++ h.0)))),
       record {
@@ -26,17 +26,17 @@ returns c =
         swallowed = swallowed;
         keys = keys;
         references = references;
-        defines = h.0;
+        values = h.0;
         are_precedences = are_precedences;
         are_empty = are_empty;
         are_swallowed = are_swallowed;
         are_keys = are_keys;
         are_references = are_references;
-        are_defines = h.1;
+        are_values = h.1;
         is = refl;
       },
       joined c.args.all.now.items c.push_undefined_precedences.new.all.items c.push_missing_empty.new.all.items c.push_swallowed.new.all.items
-          c.push_unknown_keys.new.all.items c.push_unknown_references.new.all.items c.push_misspelled_defines.new.all.items precedences empty
+          c.push_unknown_keys.new.all.items c.push_unknown_references.new.all.items c.push_unread_values.new.all.items precedences empty
           swallowed keys references h.0 precedences_is empty_is swallowed_is keys_is references_is h.2,
     ))
-    c.push_misspelled_defines.ensures
+    c.push_unread_values.ensures

@@ -1,13 +1,11 @@
 -- Misspelled variables of `%define` and values of theirs, in Bison's files.
-use Rattle.std.specs.Prelude.{◌≡◌, ℕ, Bool, true, false, List, [], ◌∷◌, ◌++◌, codes, drop, filter_map, length, Option, None, Some, option_map, if◌then◌else◌}
+use Rattle.std.specs.Prelude.{◌≡◌, ℕ, Bool, true, false, List, [], ◌∷◌, ◌++◌, codes, drop, Option, None, Some, option_map, if◌then◌else◌}
 use Rattle.std.specs.List.{list_any}
 use Rattle.std.specs.Option.{option_and_then}
 use Rattle.std.specs.Str.{bytes_eq}
-use Rattle.constructs.specs.Construct.{computes}
 use Rattle.cfgrammar.specs.Span.{Span}
 use Rattle.bison_words.specs.declared.directive.Directive.TheVariants.{Define}
-use Rattle.bison_words.specs.TextWords.{text_words}
-use Rattle.bison_words.specs.Words.{Directed, Identifier, Lexeme, Word, word_in}
+use Rattle.bison_words.specs.Words.{Directed, Identifier, Lexeme, Word}
 use Rattle.cfgnear.specs.Nearest.{nearest}
 use Rattle.finding_kinds.specs.declared.finding_kind.FindingKind.TheVariants.{MisspelledDefine}
 use Rattle.text_findings.specs.Finding.{ShownFinding}
@@ -80,10 +78,6 @@ abbrev pub misspelled : List Word → Option ShownFinding
 misspelled [] = None
 misspelled (define ∷ []) = None
 misspelled (define ∷ variable ∷ rest) = if is_define define then option_and_then (misspelled_variable rest) (identifier_of variable) else None
-
--- the words of a text as a Bison file
-abbrev pub words_of : List ℕ → List Word
-words_of text = filter_map word_in (computes (text_words (length text)) text).items
 
 -- the n-th word is a `%define` with a misspelled variable or value
 abbrev pub ReportsMisspelledDefine : List Word → ℕ → Option ShownFinding → Type 0

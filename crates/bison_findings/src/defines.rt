@@ -4,17 +4,16 @@ ghost use Rattle.std.specs.Prelude.{◌≡◌, ◌++◌, length, map, option_map
 ghost use Rattle.std.specs.List.{list_any};
 ghost use Rattle.std.specs.Str.{bytes_eq};
 ghost use Rattle.bison_words.specs.Words.{word_view};
-ghost use Rattle.text_findings.specs.Defines.{ReportsMisspelledDefine, identifier_of, is_among, is_define, misspelled};
-ghost use Rattle.text_findings.specs.Defines.{misspelled_among, misspelled_value, misspelled_variable, misspelled_word};
-ghost use Rattle.text_findings.specs.Defines.{values_of, variables, words_of};
+ghost use Rattle.bison_findings.specs.Defines.{ReportsMisspelledDefine, identifier_of, is_among, is_define, misspelled};
+ghost use Rattle.bison_findings.specs.Defines.{misspelled_among, misspelled_value, misspelled_variable, misspelled_word};
+ghost use Rattle.bison_findings.specs.Defines.{values_of, variables};
 ghost use Rattle.text_findings.specs.Reports.{ReportsBelow};
 
-use crate::finding::{Finding, FindingKind};
-use crate::reporter::{Reporter, push_reported};
-use bison_words::{Directive, Lexeme, Word, read_words};
+use bison_words::{Directive, Lexeme, Word};
 use cfgnear::nearest;
 use cfgrammar::Span;
 use std::alloc::{AllocError, Global};
+use text_findings::{Finding, FindingKind, Reporter, push_reported};
 
 /// The variables that Bison 3.8 knows.
 const VARIABLES: [&str; 38] = [
@@ -58,23 +57,16 @@ const VARIABLES: [&str; 38] = [
     "parse.trace",
 ];
 
-/// Adds a finding for each `%define` of the text, as the text of a Bison file, whose variable or value is unknown, but
-/// near to a known one.
+/// Adds a finding for each `%define` whose variable or value is unknown, but near to a known one.
 pub(crate) fn push_misspelled_defines(
     alloc: Global,
     all: &mut Vec<Finding>,
-    text: &str,
+    words: &[Word<'_>],
 ) -> Result<(), AllocError>
-    ensures { OnOk result ((reported : _) × ReportsBelow (ReportsMisspelledDefine (words_of text.now))
-        (length (words_of text.now)) reported × (all.new.items ≡ all.old.items ++ reported)) }
+    ensures { OnOk result ((reported : _) × ReportsBelow (ReportsMisspelledDefine (map word_view words.now))
+        (length (map word_view words.now)) reported × (all.new.items ≡ all.old.items ++ reported)) }
 {
-    let read = read_words(alloc, text)?;
-    push_reported(
-        alloc,
-        all,
-        &MisspelledDefines(&read.words),
-        read.words.len(),
-    )
+    push_reported(alloc, all, &MisspelledDefines(words), words.len())
 }
 
 /// Reports `%define`s with misspelled variables or values.
@@ -86,7 +78,7 @@ impl Reporter for MisspelledDefines<'_> {
     ghost use Rattle.std.specs.List.{list_any};
     ghost use Rattle.std.specs.Str.{bytes_eq};
     ghost use Rattle.bison_words.specs.Words.{word_view};
-    ghost use Rattle.text_findings.specs.Defines.{ReportsMisspelledDefine};
+    ghost use Rattle.bison_findings.specs.Defines.{ReportsMisspelledDefine};
 
     ghost count = { λ x. length (map word_view x.0.now) };
 

@@ -1,0 +1,4 @@
+pub mod Found
+pub mod Defines
+pub mod Aliases
+pub mod Commas
