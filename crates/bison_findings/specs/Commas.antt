@@ -1,7 +1,6 @@
 -- Commas between words, which Bison reads as blanks.
 use Rattle.std.specs.Prelude.{◌≡◌, ℕ, Bool, true, false, ◌==◌, ◌&&◌, ◌+◌, not, List, [], ◌∷◌, codes, get_or, slice_get, Option, None, Some, if◌then◌else◌}
 use Rattle.std.specs.Option.{option_and_then}
-use Rattle.cfgrammar.specs.Span.{Span}
 use Rattle.bison_words.specs.Words.{Lexeme, Mark, Word}
 use Rattle.finding_kinds.specs.declared.finding_kind.FindingKind.TheVariants.{StrayComma}
 use Rattle.text_findings.specs.Finding.{ShownFinding}

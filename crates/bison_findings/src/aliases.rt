@@ -1,9 +1,10 @@
 //! Aliases that a token has already.
 
-ghost use Rattle.std.specs.Prelude.{◌≡◌, ◌++◌, map, option_map, true, IfOk, OnOk};
+ghost use Rattle.std.specs.Prelude.{◌≡◌, ◌++◌, false, map, option_map, IfOk, OnOk, Some};
 ghost use Rattle.bison_words.specs.Words.{lexeme_view, word_view};
 ghost use Rattle.bison_findings.specs.Aliases.{alias_in, is_listed_after, known_with, repeated_after};
 ghost use Rattle.bison_findings.specs.Aliases.{repeated_alias, repeated_aliases, repeats, string_in};
+ghost use Rattle.bison_findings.specs.Defines.{is_among};
 
 use bison_words::{Directive, Lexeme, Word};
 use cfgrammar::Span;
@@ -45,7 +46,7 @@ fn push_among<'a>(
 
 /// Whether the words after a word are in a list of `%token`, if the word itself is or isn't.
 fn is_listed_after(is_listed: bool, lexeme: Lexeme<'_>) -> bool
-    ensures { result ≡ is_listed_after is_listed (lexeme_view lexeme) }
+    ensures { result ≡ is_listed_after is_listed (lexeme_view lexeme.entry) }
 {
     match lexeme {
         Lexeme::Directive(Directive::Token | Directive::Term) => true,
@@ -56,12 +57,21 @@ fn is_listed_after(is_listed: bool, lexeme: Lexeme<'_>) -> bool
 
 /// The alias that a word is, if it is in a list of `%token`.
 fn alias_in<'a>(is_listed: bool, lexeme: Lexeme<'a>) -> Option<&'a str>
-    ensures { option_map (λ name. name.now) result ≡ alias_in is_listed (lexeme_view lexeme) }
+    ensures { option_map (λ name. name.now) result ≡ alias_in is_listed (lexeme_view lexeme.entry) }
 {
     match lexeme {
         Lexeme::String(name) | Lexeme::Translatable(name) if is_listed => Some(name),
         _ => None,
     }
+}
+
+/// Whether an alias is known. From now on it is.
+fn is_known<'a>(known: &mut IndexSet<&'a str>, name: &'a str) -> Result<bool, AllocError>
+    ensures was { IfOk result (λ was. was ≡ is_among (map (λ name. name.now) known.old.keys) name.now) }
+    ensures known { OnOk result (map (λ name. name.now) known.new.keys
+        ≡ known_with (map (λ name. name.now) known.old.keys) (Some name.now)) }
+{
+    Ok(!known.insert(name)?)
 }
 
 /// Adds the finding about an alias that is known, or else makes it known.
@@ -77,9 +87,16 @@ fn push_repeat<'a>(
     ensures known { OnOk result (map (λ name. name.now) known.new.keys
         ≡ known_with (map (λ name. name.now) known.old.keys) (Some name.now)) }
 {
-    if known.insert(name)? {
+    if !is_known(known, name)? {
         return Ok(());
     }
+    Ok(all.push(repeated_alias(alloc, name, span)?)?)
+}
+
+/// The finding that a token has the alias at this span already.
+fn repeated_alias(alloc: Global, name: &str, span: Span) -> Result<Finding, AllocError>
+    ensures { IfOk result (λ finding. finding ≡ repeated_alias name.now span) }
+{
     let text = format!(in alloc; "Repeated alias \"{name}\": a token has it already")?;
-    Ok(all.push(Finding::at(alloc, FindingKind::RepeatedAlias, span, text)?)?)
+    Finding::at(alloc, FindingKind::RepeatedAlias, span, text)
 }

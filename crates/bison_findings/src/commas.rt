@@ -49,7 +49,7 @@ impl Reporter for StrayCommas<'_> {
 
 /// The finding about a comma that follows a word.
 fn comma_after(alloc: Global, text: &str, word: Word<'_>) -> Result<Option<Finding>, AllocError>
-    ensures { IfOk result (λ found. found ≡ comma_after text.now (word_view word)) }
+    ensures { IfOk result (λ found. found ≡ comma_after text.now (word_view word.entry)) }
 {
     let offset = after_blanks(text, word.span.end());
     match text.as_bytes().get(offset) {
@@ -60,7 +60,7 @@ fn comma_after(alloc: Global, text: &str, word: Word<'_>) -> Result<Option<Findi
 
 /// Whether a word is `%%`: what follows the last one is no word.
 fn is_mark(lexeme: Lexeme<'_>) -> bool
-    ensures { result ≡ is_mark (lexeme_view lexeme) }
+    ensures { result ≡ is_mark (lexeme_view lexeme.entry) }
 {
     matches!(lexeme, Lexeme::Mark)
 }

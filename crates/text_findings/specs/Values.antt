@@ -76,8 +76,11 @@ unread_in s n name production =
 abbrev pub inherits : Production → Bool
 inherits production = action_refers Inherited production.action
 
+abbrev pub unread_of : Syntax → ℕ → Production → Option ShownFinding
+unread_of s n production = option_and_then (λ name. unread_in s n name production) (rule_name_at s n)
+
 abbrev pub unread_at : Syntax → ℕ → Option ShownFinding
-unread_at s n = option_and_then (λ name. option_and_then (unread_in s n name) (slice_get s.productions n)) (rule_name_at s n)
+unread_at s n = option_and_then (unread_of s n) (slice_get s.productions n)
 
 -- The n-th production is that of such an action, and no action of the file refers to a value from before its production: what that is can't
 -- be seen.

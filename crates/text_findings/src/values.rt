@@ -6,7 +6,8 @@ ghost use Rattle.cfgrammar.specs.TreeView.{syntax};
 ghost use Rattle.cfgrammar.specs.SyntaxView.{production_view};
 ghost use Rattle.text_findings.specs.Reports.{ReportsBelow};
 ghost use Rattle.text_findings.specs.Values.{ReportsUnreadValue, action_refers, begins_name, is_of, is_read, is_unread};
-ghost use Rattle.text_findings.specs.Values.{begins_with, inherits, is_number, refers, symbol_number, unread_at, unread_in, unread_value};
+ghost use Rattle.text_findings.specs.Values.{begins_with, inherits, is_number, refers, symbol_number};
+ghost use Rattle.text_findings.specs.Values.{unread_in, unread_of, unread_value};
 ghost use Rattle.text_findings.specs.declared.references.Place.TheVariants.{Code};
 
 use crate::empty::{is_action_name, rule_name_at};
@@ -54,7 +55,10 @@ impl Reporter for UnreadValues<'_> {
         if self.is_inheriting {
             return Ok(None);
         }
-        unread_at(alloc, self.ast, number)
+        match self.ast.prods().get(number) {
+            Some(production) => unread_of(alloc, self.ast, number, production),
+            None => Ok(None),
+        }
     }
 }
 
@@ -70,19 +74,21 @@ fn is_inheriting(productions: &[Production]) -> bool
 }
 
 /// The finding about the production with this number.
-fn unread_at(alloc: Global, ast: &GrammarAST, number: usize) -> Result<Option<Finding>, AllocError>
-    ensures { IfOk result (λ found. found ≡ unread_at (syntax ast.now) number) }
+fn unread_of(
+    alloc: Global,
+    ast: &GrammarAST,
+    number: usize,
+    production: &Production,
+) -> Result<Option<Finding>, AllocError>
+    ensures { IfOk result (λ found. found ≡ unread_of (syntax ast.now) number (production_view production.now)) }
 {
-    let Some(name) = rule_name_at(ast, number) else {
-        return Ok(None);
-    };
-    match ast.prods().get(number) {
-        Some(production) => unread_in(alloc, ast, number, name, production),
+    match rule_name_at(ast, number) {
+        Some(name) => unread_in(alloc, ast, number, name, production),
         None => Ok(None),
     }
 }
 
-/// The finding about the production with this number, whose rule has this name.
+/// The same, if its rule has this name.
 fn unread_in(
     alloc: Global,
     ast: &GrammarAST,
