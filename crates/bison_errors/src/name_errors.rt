@@ -17,7 +17,7 @@ ghost use Rattle.bison_errors.specs.Errors.{precedence_error, rule_error, span_o
 ghost use Rattle.bison_errors.specs.Errors.{symbols_of, tree_errors, unknown_after};
 ghost use Rattle.bison_tree.specs.Tree.{first_start};
 
-use crate::error::{Error, ErrorKind};
+use crate::error::{Error, ErrorKind, push};
 use bison_reader::Item;
 use bison_tree::{add_name, first_start, has_name, index_of, name_at, span_at};
 use bison_words::Word;
@@ -40,11 +40,8 @@ fn push_start(
 {
     if let Some(first) = first {
         if name_at(names, first) != name_at(names, word) {
-            errors.push(Error::beside(
-                ErrorKind::SeveralStarts,
-                span_at(words, word),
-                span_at(words, first),
-            ))?;
+            let (span, other) = (span_at(words, word), span_at(words, first));
+            return push(errors, Error::beside(ErrorKind::SeveralStarts, span, other));
         }
     }
     Ok(())
@@ -63,7 +60,10 @@ fn push_declaration(
 {
     match item {
         Item::NotForRules(word) => {
-            Ok(errors.push(Error::at(ErrorKind::NotForRules, span_at(words, *word)))?)
+            push(
+                errors,
+                Error::at(ErrorKind::NotForRules, span_at(words, *word)),
+            )
         }
         Item::Start(word) => push_start(errors, words, names, first, *word),
         _ => Ok(()),
@@ -123,7 +123,7 @@ fn push_rules(errors: &mut Vec<Error>, ast: &GrammarAST) -> Result<(), AllocErro
 {
     for (name, rule) in ast.rules() {
         if let Some(error) = rule_error(ast, name.as_str(), rule) {
-            errors.push(error)?;
+            push(errors, error)?;
         }
     }
     Ok(())
@@ -165,7 +165,7 @@ fn push_precedences(errors: &mut Vec<Error>, ast: &GrammarAST) -> Result<(), All
 {
     for occurrence in ast.occurrences() {
         if let Some(error) = precedence_error(ast, occurrence) {
-            errors.push(error)?;
+            push(errors, error)?;
         }
     }
     Ok(())
@@ -204,7 +204,7 @@ fn push_unknown(
     for symbol in symbols {
         let (Symbol::Rule(name, span) | Symbol::Token(name, span)) = symbol;
         if !is_known(ast, symbol) && !has_name(known, name.as_str()) {
-            errors.push(Error::at(ErrorKind::UnknownSymbol, *span))?;
+            push(errors, Error::at(ErrorKind::UnknownSymbol, *span))?;
             add_name(alloc, known, name.as_str())?;
         }
     }
@@ -239,13 +239,13 @@ fn push_start_errors(errors: &mut Vec<Error>, ast: &GrammarAST) -> Result<(), Al
         ≡ errors.old.items ++ start_errors (syntax ast.now) (syntax ast.now).start) }
 {
     let Some((name, span)) = ast.start() else {
-        return Ok(errors.push(Error::at(ErrorKind::NoRule, Span::new(0, 0)))?);
+        return push(errors, Error::at(ErrorKind::NoRule, Span::new(0, 0)));
     };
     if ast.prods().len() == 0 {
-        errors.push(Error::at(ErrorKind::NoRule, Span::new(0, 0)))?;
+        push(errors, Error::at(ErrorKind::NoRule, Span::new(0, 0)))?;
     }
     if !has_rule(ast, name.as_str()) {
-        errors.push(Error::at(ErrorKind::InvalidStart, *span))?;
+        return push(errors, Error::at(ErrorKind::InvalidStart, *span));
     }
     Ok(())
 }
@@ -259,11 +259,11 @@ fn push_missing(
 ) -> Result<(), AllocError>
     ensures { OnOk result (errors.new.items ≡ errors.old.items ++ missing_errors is_whole (syntax ast.now)) }
 {
-    if is_whole {
-        push_all_unknown(alloc, errors, ast)?;
-        push_start_errors(errors, ast)?;
+    if !is_whole {
+        return Ok(());
     }
-    Ok(())
+    push_all_unknown(alloc, errors, ast)?;
+    push_start_errors(errors, ast)
 }
 
 /// Adds what is wrong with a tree.
