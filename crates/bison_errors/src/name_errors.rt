@@ -1,6 +1,6 @@
 //! What is wrong with the names of a file.
 
-ghost use Rattle.std.specs.Prelude.{◌≡◌, ◌++◌, List, [], map, filter_map, option_map, is_none, IfOk, OnOk};
+ghost use Rattle.std.specs.Prelude.{◌≡◌, ◌++◌, List, [], map, filter_map, option_map, is_none, OnOk};
 ghost use Rattle.std.specs.Map.{lookup};
 ghost use Rattle.std.specs.Str.{bytes_eq};
 ghost use Rattle.std.specs.List.{flat_map};
@@ -70,23 +70,22 @@ fn push_declaration(
     }
 }
 
-/// What is wrong with declarations.
-fn declaration_errors(
-    alloc: Global,
+/// Adds what is wrong with declarations.
+fn push_declarations(
+    errors: &mut Vec<Error>,
     words: &[Word<'_>],
     names: &[String],
     items: &[Item],
-) -> Result<Vec<Error>, AllocError>
-    ensures { IfOk result (λ errors. errors.items
-        ≡ flat_map (declaration_errors (map word_view words.now) (map string_bytes names.now)
+) -> Result<(), AllocError>
+    ensures { OnOk result (errors.new.items ≡ errors.old.items
+        ++ flat_map (declaration_errors (map word_view words.now) (map string_bytes names.now)
         (first_start (map item_view items.now))) (map item_view items.now)) }
 {
     let first = first_start(items);
-    let mut errors = Vec::new(alloc);
     for item in items {
-        push_declaration(&mut errors, words, names, first, item)?;
+        push_declaration(errors, words, names, first, item)?;
     }
-    Ok(errors)
+    Ok(())
 }
 
 /// Where a name is a token's first.
@@ -274,21 +273,21 @@ fn push_tree(errors: &mut Vec<Error>, ast: &GrammarAST) -> Result<(), AllocError
     push_precedences(errors, ast)
 }
 
-/// What is wrong with the names of a file. `is_whole` says that its text has no error.
-pub(crate) fn name_errors(
+/// Adds what is wrong with the names of a file. `is_whole` says that its text has no error.
+pub(crate) fn push_name_errors(
     alloc: Global,
+    errors: &mut Vec<Error>,
     is_whole: bool,
     words: &[Word<'_>],
     names: &[String],
     items: &[Item],
     ast: &GrammarAST,
-) -> Result<Vec<Error>, AllocError>
-    ensures { IfOk result (λ errors. errors.items
-        ≡ name_errors is_whole (map word_view words.now) (map string_bytes names.now) (map item_view items.now)
+) -> Result<(), AllocError>
+    ensures { OnOk result (errors.new.items ≡ errors.old.items
+        ++ name_errors is_whole (map word_view words.now) (map string_bytes names.now) (map item_view items.now)
         (syntax ast.now)) }
 {
-    let mut errors = declaration_errors(alloc, words, names, items)?;
-    push_tree(&mut errors, ast)?;
-    push_missing(alloc, &mut errors, ast, is_whole)?;
-    Ok(errors)
+    push_declarations(errors, words, names, items)?;
+    push_tree(errors, ast)?;
+    push_missing(alloc, errors, ast, is_whole)
 }

@@ -1,6 +1,6 @@
 //! What is wrong with the text of a file.
 
-ghost use Rattle.std.specs.Prelude.{◌≡◌, ◌++◌, ◌∷◌, [], map, IfOk, OnOk};
+ghost use Rattle.std.specs.Prelude.{◌≡◌, ◌++◌, ◌∷◌, [], map, OnOk};
 ghost use Rattle.std.specs.List.{flat_map};
 ghost use Rattle.bison_reader.specs.Items.{item_view};
 ghost use Rattle.bison_words.specs.Words.{lexeme_view, word_view};
@@ -12,7 +12,7 @@ use crate::error::{Error, ErrorKind, Once, push};
 use bison_reader::{Item, Part, PartKind};
 use bison_tree::{is_code, is_followed, is_symbol, lexeme_at, number_in, span_at};
 use bison_words::{Lexeme, Word, WordFault};
-use std::alloc::{AllocError, Global};
+use std::alloc::AllocError;
 
 fn is_fault(lexeme: Lexeme<'_>) -> bool
     ensures { result ≡ is_fault (lexeme_view lexeme.entry) }
@@ -218,28 +218,26 @@ fn push_items(errors: &mut Vec<Error>, words: &[Word<'_>], items: &[Item]) -> Re
     Ok(())
 }
 
-/// What is wrong with words, as errors.
-fn fault_errors(alloc: Global, faults: &[WordFault]) -> Result<Vec<Error>, AllocError>
-    ensures { IfOk result (λ errors. errors.items ≡ map fault_error faults.now) }
+/// Adds what is wrong with words.
+fn push_faults(errors: &mut Vec<Error>, faults: &[WordFault]) -> Result<(), AllocError>
+    ensures { OnOk result (errors.new.items ≡ errors.old.items ++ map fault_error faults.now) }
 {
-    let mut errors = Vec::new(alloc);
     for fault in faults {
-        errors.push(Error::at(ErrorKind::Word(fault.kind), fault.span))?;
+        push(errors, Error::at(ErrorKind::Word(fault.kind), fault.span))?;
     }
-    Ok(errors)
+    Ok(())
 }
 
-/// What is wrong with the text: first faults in words, and then words that can't be where they are.
-pub(crate) fn text_errors(
-    alloc: Global,
+/// Adds what is wrong with the text: first faults in words, and then words that can't be where they are.
+pub(crate) fn push_text_errors(
+    errors: &mut Vec<Error>,
     words: &[Word<'_>],
     faults: &[WordFault],
     items: &[Item],
-) -> Result<Vec<Error>, AllocError>
-    ensures { IfOk result (λ errors. errors.items
-        ≡ text_errors (map word_view words.now) faults.now (map item_view items.now)) }
+) -> Result<(), AllocError>
+    ensures { OnOk result (errors.new.items
+        ≡ errors.old.items ++ text_errors (map word_view words.now) faults.now (map item_view items.now)) }
 {
-    let mut errors = fault_errors(alloc, faults)?;
-    push_items(&mut errors, words, items)?;
-    Ok(errors)
+    push_faults(errors, faults)?;
+    push_items(errors, words, items)
 }
