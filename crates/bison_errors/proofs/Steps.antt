@@ -1,18 +1,12 @@
 -- Steps of loops that collect errors.
-use Rattle.std.proofs.Common.{◌≡◌, ℕ, ◌+◌, ◌<◌, List, [], ◌∷◌, ◌++◌, Option, Some, None, length, get_or, map, filter_map, take, drop, append_assoc, refl, sym, ap, ◌∙◌}
-use Rattle.std.proofs.lemmas.List.{at_drop_more, map-append, take_more}
+use Rattle.std.proofs.Common.{◌≡◌, ℕ, ◌+◌, ◌<◌, List, [], ◌∷◌, ◌++◌, Option, Some, None, length, get_or, map, filter_map, drop, append_assoc, refl, sym, ap, ◌∙◌}
+use Rattle.std.proofs.lemmas.List.{at_drop_more}
 use Rattle.bison_tree.proofs.Steps.{stepped_by}
 use Rattle.bison_reader.specs.declared.item.Part.{Part}
 use Rattle.bison_words.specs.Words.{Word}
 use Rattle.bison_errors.specs.declared.error.Error.{Error}
 use Rattle.bison_errors.specs.declared.error.Once.{Once}
 use Rattle.bison_errors.specs.Errors.{noted, parts_errors, priority_error, repeat_error, with_noted}
-
--- one more of what f makes of each item
-pub mapped_more : {X Y : Type 0} (f : X → Y) (xs : List X) (i : ℕ) (x : X) → i < length xs → (sofar more : List Y) (y : Y)
-    → more ≡ sofar ++ y ∷ [] → y ≡ f (get_or xs i x) → sofar ≡ map f (take i xs) → more ≡ map f (take (i + 1) xs)
-mapped_more f xs i x less sofar more y e is invariant =
-    e ∙ (λ j. invariant j ++ is j ∷ []) ∙ sym (map-append f (take i xs) (get_or xs i x ∷ [])) ∙ ap (map f) (sym (take_more xs i x less))
 
 -- f of an item says what is kept of it
 abbrev pub kept : {E : Type 0} → Option E → List E

@@ -1,8 +1,11 @@
 //! What is wrong with a file.
 
+ghost use Rattle.std.specs.Prelude.{◌≡◌, ◌∷◌, ◌++◌, [], OnOk};
+
 use bison_reader::Expected;
 use bison_words::WordFaultKind;
 use cfgbase::Span;
+use std::alloc::AllocError;
 
 /// What an error is.
 #[derive(Clone, Copy, Debug)]
@@ -53,7 +56,6 @@ pub(crate) struct Once {
 }
 
 impl Error {
-    ghost use Rattle.std.specs.Prelude.{◌≡◌};
     ghost use Rattle.bison_errors.specs.Errors.{error_at, error_beside, offset_of};
 
     pub(crate) fn at(kind: ErrorKind, span: Span) -> Self
@@ -82,4 +84,12 @@ impl Error {
     {
         self.span.start()
     }
+}
+
+/// Adds an error to a list.
+pub(crate) fn push(errors: &mut Vec<Error>, error: Error) -> Result<(), AllocError>
+    ensures { OnOk result (errors.new.items ≡ errors.old.items ++ error ∷ []) }
+{
+    errors.push(error)?;
+    Ok(())
 }

@@ -1,6 +1,6 @@
 //! What is wrong with the names of a file.
 
-ghost use Rattle.std.specs.Prelude.{◌≡◌, ◌++◌, List, [], map, filter_map, option_map, is_none, IfOk, OnOk};
+ghost use Rattle.std.specs.Prelude.{◌≡◌, ◌++◌, List, [], map, filter_map, option_map, is_none, OnOk};
 ghost use Rattle.std.specs.Map.{lookup};
 ghost use Rattle.std.specs.Str.{bytes_eq};
 ghost use Rattle.std.specs.List.{flat_map};
@@ -17,7 +17,7 @@ ghost use Rattle.bison_errors.specs.Errors.{precedence_error, rule_error, span_o
 ghost use Rattle.bison_errors.specs.Errors.{symbols_of, tree_errors, unknown_after};
 ghost use Rattle.bison_tree.specs.Tree.{first_start};
 
-use crate::error::{Error, ErrorKind};
+use crate::error::{Error, ErrorKind, push};
 use bison_reader::Item;
 use bison_tree::{add_name, first_start, has_name, index_of, name_at, span_at};
 use bison_words::Word;
@@ -40,11 +40,8 @@ fn push_start(
 {
     if let Some(first) = first {
         if name_at(names, first) != name_at(names, word) {
-            errors.push(Error::beside(
-                ErrorKind::SeveralStarts,
-                span_at(words, word),
-                span_at(words, first),
-            ))?;
+            let (span, other) = (span_at(words, word), span_at(words, first));
+            return push(errors, Error::beside(ErrorKind::SeveralStarts, span, other));
         }
     }
     Ok(())
@@ -63,30 +60,32 @@ fn push_declaration(
 {
     match item {
         Item::NotForRules(word) => {
-            Ok(errors.push(Error::at(ErrorKind::NotForRules, span_at(words, *word)))?)
+            push(
+                errors,
+                Error::at(ErrorKind::NotForRules, span_at(words, *word)),
+            )
         }
         Item::Start(word) => push_start(errors, words, names, first, *word),
         _ => Ok(()),
     }
 }
 
-/// What is wrong with declarations.
-fn declaration_errors(
-    alloc: Global,
+/// Adds what is wrong with declarations.
+fn push_declarations(
+    errors: &mut Vec<Error>,
     words: &[Word<'_>],
     names: &[String],
     items: &[Item],
-) -> Result<Vec<Error>, AllocError>
-    ensures { IfOk result (λ errors. errors.items
-        ≡ flat_map (declaration_errors (map word_view words.now) (map string_bytes names.now)
+) -> Result<(), AllocError>
+    ensures { OnOk result (errors.new.items ≡ errors.old.items
+        ++ flat_map (declaration_errors (map word_view words.now) (map string_bytes names.now)
         (first_start (map item_view items.now))) (map item_view items.now)) }
 {
     let first = first_start(items);
-    let mut errors = Vec::new(alloc);
     for item in items {
-        push_declaration(&mut errors, words, names, first, item)?;
+        push_declaration(errors, words, names, first, item)?;
     }
-    Ok(errors)
+    Ok(())
 }
 
 /// Where a name is a token's first.
@@ -123,7 +122,7 @@ fn push_rules(errors: &mut Vec<Error>, ast: &GrammarAST) -> Result<(), AllocErro
 {
     for (name, rule) in ast.rules() {
         if let Some(error) = rule_error(ast, name.as_str(), rule) {
-            errors.push(error)?;
+            push(errors, error)?;
         }
     }
     Ok(())
@@ -165,7 +164,7 @@ fn push_precedences(errors: &mut Vec<Error>, ast: &GrammarAST) -> Result<(), All
 {
     for occurrence in ast.occurrences() {
         if let Some(error) = precedence_error(ast, occurrence) {
-            errors.push(error)?;
+            push(errors, error)?;
         }
     }
     Ok(())
@@ -204,7 +203,7 @@ fn push_unknown(
     for symbol in symbols {
         let (Symbol::Rule(name, span) | Symbol::Token(name, span)) = symbol;
         if !is_known(ast, symbol) && !has_name(known, name.as_str()) {
-            errors.push(Error::at(ErrorKind::UnknownSymbol, *span))?;
+            push(errors, Error::at(ErrorKind::UnknownSymbol, *span))?;
             add_name(alloc, known, name.as_str())?;
         }
     }
@@ -239,13 +238,13 @@ fn push_start_errors(errors: &mut Vec<Error>, ast: &GrammarAST) -> Result<(), Al
         ≡ errors.old.items ++ start_errors (syntax ast.now) (syntax ast.now).start) }
 {
     let Some((name, span)) = ast.start() else {
-        return Ok(errors.push(Error::at(ErrorKind::NoRule, Span::new(0, 0)))?);
+        return push(errors, Error::at(ErrorKind::NoRule, Span::new(0, 0)));
     };
     if ast.prods().len() == 0 {
-        errors.push(Error::at(ErrorKind::NoRule, Span::new(0, 0)))?;
+        push(errors, Error::at(ErrorKind::NoRule, Span::new(0, 0)))?;
     }
     if !has_rule(ast, name.as_str()) {
-        errors.push(Error::at(ErrorKind::InvalidStart, *span))?;
+        return push(errors, Error::at(ErrorKind::InvalidStart, *span));
     }
     Ok(())
 }
@@ -259,11 +258,11 @@ fn push_missing(
 ) -> Result<(), AllocError>
     ensures { OnOk result (errors.new.items ≡ errors.old.items ++ missing_errors is_whole (syntax ast.now)) }
 {
-    if is_whole {
-        push_all_unknown(alloc, errors, ast)?;
-        push_start_errors(errors, ast)?;
+    if !is_whole {
+        return Ok(());
     }
-    Ok(())
+    push_all_unknown(alloc, errors, ast)?;
+    push_start_errors(errors, ast)
 }
 
 /// Adds what is wrong with a tree.
@@ -274,21 +273,21 @@ fn push_tree(errors: &mut Vec<Error>, ast: &GrammarAST) -> Result<(), AllocError
     push_precedences(errors, ast)
 }
 
-/// What is wrong with the names of a file. `is_whole` says that its text has no error.
-pub(crate) fn name_errors(
+/// Adds what is wrong with the names of a file. `is_whole` says that its text has no error.
+pub(crate) fn push_name_errors(
     alloc: Global,
+    errors: &mut Vec<Error>,
     is_whole: bool,
     words: &[Word<'_>],
     names: &[String],
     items: &[Item],
     ast: &GrammarAST,
-) -> Result<Vec<Error>, AllocError>
-    ensures { IfOk result (λ errors. errors.items
-        ≡ name_errors is_whole (map word_view words.now) (map string_bytes names.now) (map item_view items.now)
+) -> Result<(), AllocError>
+    ensures { OnOk result (errors.new.items ≡ errors.old.items
+        ++ name_errors is_whole (map word_view words.now) (map string_bytes names.now) (map item_view items.now)
         (syntax ast.now)) }
 {
-    let mut errors = declaration_errors(alloc, words, names, items)?;
-    push_tree(&mut errors, ast)?;
-    push_missing(alloc, &mut errors, ast, is_whole)?;
-    Ok(errors)
+    push_declarations(errors, words, names, items)?;
+    push_tree(errors, ast)?;
+    push_missing(alloc, errors, ast, is_whole)
 }

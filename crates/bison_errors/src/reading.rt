@@ -9,14 +9,16 @@ ghost use Rattle.bison_reader.specs.Sorts.{items_in, scanned};
 ghost use Rattle.bison_words.specs.Words.{IsWords, word_view};
 ghost use Rattle.bison_errors.specs.Errors.{AreByOffset, AreErrors, name_errors, text_errors};
 ghost use Rattle.bison_tree.specs.Names.{names_of};
-ghost use Rattle.bison_errors.specs.Reading.{IsTreeOf, level_in, tree_of, with_default};
+ghost use Rattle.bison_errors.specs.Reading.{IsTreeOf, level_in, name_errors_of, text_errors_of, tree_of};
+ghost use Rattle.bison_errors.specs.Reading.{with_default};
 ghost use Rattle.bison_tree.specs.Tree.{tree_items};
 
 use crate::error::Error;
-use crate::name_errors::name_errors;
-use crate::text_errors::text_errors;
+use crate::name_errors::push_name_errors;
+use crate::text_errors::push_text_errors;
 use bison_reader::{Associativity, FileText, Item, read_text};
 use bison_tree::{names_of, syntax_of};
+use bison_words::Word;
 use cfgast::{GrammarAST, tree_of, tree_with};
 use std::alloc::{AllocError, Global};
 
@@ -67,6 +69,25 @@ fn sort(errors: &mut Vec<Error>) -> Result<(), AllocError>
     Ok(())
 }
 
+/// What is wrong with the names of a file, by offset. `is_whole` says that its text has no error.
+fn sorted_name_errors(
+    alloc: Global,
+    is_whole: bool,
+    words: &[Word<'_>],
+    names: &[String],
+    items: &[Item],
+    ast: &GrammarAST,
+) -> Result<Vec<Error>, AllocError>
+    ensures { IfOk result (λ errors. AreByOffset
+        (name_errors is_whole (map word_view words.now) (map string_bytes names.now) (map item_view items.now)
+        (syntax ast.now)) errors.items) }
+{
+    let mut errors = Vec::new(alloc);
+    push_name_errors(alloc, &mut errors, is_whole, words, names, items, ast)?;
+    sort(&mut errors)?;
+    Ok(errors)
+}
+
 /// All that is wrong with a file, by its tree.
 fn errors_of(
     alloc: Global,
@@ -84,11 +105,11 @@ fn errors_of(
 {
     let words = file.words.words.as_slice();
     let items = file.items.as_slice();
-    let mut errors = text_errors(alloc, words, file.words.faults.as_slice(), items)?;
+    let mut errors = Vec::new(alloc);
+    push_text_errors(&mut errors, words, file.words.faults.as_slice(), items)?;
     let is_whole = errors.as_slice().len() == 0;
     sort(&mut errors)?;
-    let mut of_names = name_errors(alloc, is_whole, words, names, items, ast)?;
-    sort(&mut of_names)?;
+    let mut of_names = sorted_name_errors(alloc, is_whole, words, names, items, ast)?;
     errors.append(&mut of_names)?;
     Ok(errors)
 }
@@ -123,8 +144,25 @@ fn with_errors(
     tree_with(ast, errors)
 }
 
-/// What a file says, by its words and items.
+/// The tree of a file, with its errors, by its words and items.
 #[tactic(auto, unfolding(crate::specs::Reading::tree_of))]
+fn checked_tree(
+    alloc: Global,
+    text: &str,
+    file: &FileText<'_>,
+) -> Result<(GrammarAST, Vec<Error>), AllocError>
+    requires words { IsWords (scanned text.now) file.now.words }
+    requires items { map item_view file.now.items.items ≡ items_in text.now }
+    ensures tree { IfOk result (λ both. syntax both.0 ≡ tree_of text.now) }
+    ensures errors { IfOk result (λ both. AreErrors (text_errors_of text.now) (name_errors_of text.now) both.1.items) }
+{
+    let items = file.items.as_slice();
+    let names = names_of(alloc, file.words.words.as_slice(), items)?;
+    let ast = ast_of(alloc, file, names.as_slice())?;
+    with_errors(alloc, file, names.as_slice(), ast)
+}
+
+/// What a file says, by its words and items.
 fn read_file(alloc: Global, text: &str, file: &FileText<'_>) -> Result<FileTree, AllocError>
     requires words { IsWords (scanned text.now) file.now.words }
     requires items { map item_view file.now.items.items ≡ items_in text.now }
@@ -132,9 +170,7 @@ fn read_file(alloc: Global, text: &str, file: &FileText<'_>) -> Result<FileTree,
 {
     let items = file.items.as_slice();
     let levels = levels_of(alloc, items)?;
-    let names = names_of(alloc, file.words.words.as_slice(), items)?;
-    let ast = ast_of(alloc, file, names.as_slice())?;
-    let (ast, errors) = with_errors(alloc, file, names.as_slice(), ast)?;
+    let (ast, errors) = checked_tree(alloc, text, file)?;
     Ok(FileTree {
         ast,
         errors,

@@ -1,6 +1,6 @@
 //! What is wrong with the text of a file.
 
-ghost use Rattle.std.specs.Prelude.{◌≡◌, ◌++◌, ◌∷◌, [], map, IfOk, OnOk};
+ghost use Rattle.std.specs.Prelude.{◌≡◌, ◌++◌, ◌∷◌, [], map, OnOk};
 ghost use Rattle.std.specs.List.{flat_map};
 ghost use Rattle.bison_reader.specs.Items.{item_view};
 ghost use Rattle.bison_words.specs.Words.{lexeme_view, word_view};
@@ -8,11 +8,11 @@ ghost use Rattle.bison_errors.specs.Errors.{empty_error, first_empty, has_symbol
 ghost use Rattle.bison_errors.specs.Errors.{item_errors, none_yet, noted, parts_errors, priority_error, repeat_error};
 ghost use Rattle.bison_errors.specs.Errors.{some_or, text_errors, unexpected_error, with_noted, fault_error};
 
-use crate::error::{Error, ErrorKind, Once};
+use crate::error::{Error, ErrorKind, Once, push};
 use bison_reader::{Item, Part, PartKind};
 use bison_tree::{is_code, is_followed, is_symbol, lexeme_at, number_in, span_at};
 use bison_words::{Lexeme, Word, WordFault};
-use std::alloc::{AllocError, Global};
+use std::alloc::AllocError;
 
 fn is_fault(lexeme: Lexeme<'_>) -> bool
     ensures { result ≡ is_fault (lexeme_view lexeme.entry) }
@@ -97,7 +97,7 @@ fn push_unexpected(
         ≡ errors.old.items ++ unexpected_error (map word_view words.now) word kind) }
 {
     if !is_fault(lexeme_at(words, word)) {
-        errors.push(Error::at(kind, span_at(words, word)))?;
+        return push(errors, Error::at(kind, span_at(words, word)));
     }
     Ok(())
 }
@@ -107,7 +107,10 @@ fn push_priority(errors: &mut Vec<Error>, words: &[Word<'_>], part: Part) -> Res
     ensures { OnOk result (errors.new.items ≡ errors.old.items ++ priority_error (map word_view words.now) part) }
 {
     if is_priority(part.kind) && number_in(lexeme_at(words, part.last)) == 0 {
-        errors.push(Error::at(ErrorKind::IllegalPriority, span_at(words, part.last)))?;
+        return push(
+            errors,
+            Error::at(ErrorKind::IllegalPriority, span_at(words, part.last)),
+        );
     }
     Ok(())
 }
@@ -121,14 +124,14 @@ fn push_repeat(
 ) -> Result<(), AllocError>
     ensures { OnOk result (errors.new.items ≡ errors.old.items ++ repeat_error (map word_view words.now) first part) }
 {
-    if let Some(first) = first {
-        errors.push(Error::beside(
-            ErrorKind::RepeatedInProduction,
-            span_at(words, part.word),
-            span_at(words, first),
-        ))?;
-    }
-    Ok(())
+    let Some(first) = first else {
+        return Ok(());
+    };
+    let (span, other) = (span_at(words, part.word), span_at(words, first));
+    push(
+        errors,
+        Error::beside(ErrorKind::RepeatedInProduction, span, other),
+    )
 }
 
 /// Adds what is wrong with the parts of a production, one by one.
@@ -178,10 +181,13 @@ fn push_empty(errors: &mut Vec<Error>, words: &[Word<'_>], parts: &[Part]) -> Re
     if !has_symbol(parts) {
         return Ok(());
     }
-    if let Some(word) = first_empty(parts) {
-        errors.push(Error::at(ErrorKind::NonEmptyProduction, span_at(words, word)))?;
+    match first_empty(parts) {
+        Some(word) => push(
+            errors,
+            Error::at(ErrorKind::NonEmptyProduction, span_at(words, word)),
+        ),
+        None => Ok(()),
     }
-    Ok(())
 }
 
 /// Adds what is wrong with an item.
@@ -212,28 +218,26 @@ fn push_items(errors: &mut Vec<Error>, words: &[Word<'_>], items: &[Item]) -> Re
     Ok(())
 }
 
-/// What is wrong with words, as errors.
-fn fault_errors(alloc: Global, faults: &[WordFault]) -> Result<Vec<Error>, AllocError>
-    ensures { IfOk result (λ errors. errors.items ≡ map fault_error faults.now) }
+/// Adds what is wrong with words.
+fn push_faults(errors: &mut Vec<Error>, faults: &[WordFault]) -> Result<(), AllocError>
+    ensures { OnOk result (errors.new.items ≡ errors.old.items ++ map fault_error faults.now) }
 {
-    let mut errors = Vec::new(alloc);
     for fault in faults {
-        errors.push(Error::at(ErrorKind::Word(fault.kind), fault.span))?;
+        push(errors, Error::at(ErrorKind::Word(fault.kind), fault.span))?;
     }
-    Ok(errors)
+    Ok(())
 }
 
-/// What is wrong with the text: first faults in words, and then words that can't be where they are.
-pub(crate) fn text_errors(
-    alloc: Global,
+/// Adds what is wrong with the text: first faults in words, and then words that can't be where they are.
+pub(crate) fn push_text_errors(
+    errors: &mut Vec<Error>,
     words: &[Word<'_>],
     faults: &[WordFault],
     items: &[Item],
-) -> Result<Vec<Error>, AllocError>
-    ensures { IfOk result (λ errors. errors.items
-        ≡ text_errors (map word_view words.now) faults.now (map item_view items.now)) }
+) -> Result<(), AllocError>
+    ensures { OnOk result (errors.new.items
+        ≡ errors.old.items ++ text_errors (map word_view words.now) faults.now (map item_view items.now)) }
 {
-    let mut errors = fault_errors(alloc, faults)?;
-    push_items(&mut errors, words, items)?;
-    Ok(errors)
+    push_faults(errors, faults)?;
+    push_items(errors, words, items)
 }

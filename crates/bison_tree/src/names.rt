@@ -89,7 +89,7 @@ fn own_name(
         ≡ own_name (λ name. has_name name (map string_bytes letters.now.keys)) (lexeme_view lexeme.entry)) }
 {
     match lexeme {
-        Lexeme::Identifier(name) => Ok(String::from_str(alloc, name)?),
+        Lexeme::Identifier(name) => String::from_str(alloc, name),
         Lexeme::Literal(character) => character_name(alloc, letters, character),
         Lexeme::String(text) | Lexeme::Translatable(text) => in_quotes(alloc, "\"", text),
         _ => Ok(String::new(alloc)),

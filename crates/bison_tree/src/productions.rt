@@ -1,16 +1,17 @@
 //! Adding a production to a tree, with the rules of the actions inside of it.
 
-ghost use Rattle.std.specs.Prelude.{◌≡◌, [], map, filter_map, length, option_map, IfOk, OnOk};
+ghost use Rattle.std.specs.Prelude.{◌≡◌, [], map, filter_map, length, IfOk, OnOk};
 ghost use Rattle.lemmas.specs.Lists.{pushed};
 ghost use Rattle.cfgitems.specs.Building.{add, adds};
 ghost use Rattle.cfgitems.specs.Items.{Alternative};
 ghost use Rattle.cfgitems.specs.SyntaxView as tree;
 ghost use Rattle.cfgitems.specs.SyntaxView.{syntax_built};
 ghost use Rattle.bison_reader.specs.Items.{production_view};
-ghost use Rattle.bison_tree.specs.Inner.Views.{draft_view, is_token_in, names_in, symbol_view, words_in};
-ghost use Rattle.bison_tree.specs.Productions.{body_of, code_of, inner_production, inners_after, precedences_of};
+ghost use Rattle.bison_tree.specs.Inner.Views.{body_with, is_token_in, names_in, symbol_view, words_in};
+ghost use Rattle.bison_tree.specs.Productions.{head_at, inner_production, inners_after, precedences_of};
 ghost use Rattle.bison_tree.specs.Productions.{production_items, span_of, symbol_of};
 
+use crate::added::if_added;
 use crate::piece::Piece;
 use crate::pieces::{action_of, end_of, inner_name, pieces_of, precedence_of};
 use crate::symbols::Symbols;
@@ -26,15 +27,6 @@ pub(crate) struct BodySymbol {
     pub(crate) name: String,
     pub(crate) span: Span,
     pub(crate) quoted: bool,
-}
-
-/// The body of a production.
-#[derive(Drop)]
-pub(crate) struct Draft {
-    pub(crate) symbols: Vec<BodySymbol>,
-    pub(crate) precedences: Vec<BodySymbol>,
-    pub(crate) action: Option<(String, Span)>,
-    pub(crate) span: Span,
 }
 
 /// The symbol that a piece is.
@@ -59,6 +51,23 @@ fn symbol_of(alloc: Global, symbols: Symbols<'_>, piece: Piece) -> Result<BodySy
     }
 }
 
+/// Adds the symbols that pieces are to an empty list.
+fn push_symbols(
+    alloc: Global,
+    body: &mut Vec<BodySymbol>,
+    symbols: Symbols<'_>,
+    pieces: &[Piece],
+) -> Result<(), AllocError>
+    requires { body.old.items ≡ [] }
+    ensures { OnOk result (map symbol_view body.new.items
+        ≡ map (symbol_of (words_in symbols.entry) (names_in symbols.entry) (is_token_in symbols.entry)) pieces.now) }
+{
+    for piece in pieces {
+        body.push(symbol_of(alloc, symbols, *piece)?)?;
+    }
+    Ok(())
+}
+
 /// The symbols that pieces are.
 fn symbols_of(
     alloc: Global,
@@ -69,10 +78,8 @@ fn symbols_of(
         ≡ map (symbol_of (words_in symbols.entry) (names_in symbols.entry) (is_token_in symbols.entry)) pieces.now) }
 {
     let mut body = Vec::new(alloc);
-    for piece in pieces {
-        body.push(symbol_of(alloc, symbols, *piece)?)?;
-    }
-    Ok(body)
+    let pushed = push_symbols(alloc, &mut body, symbols, pieces);
+    if_added(body, pushed)
 }
 
 /// The same symbols, as the tree's builder takes them.
@@ -91,42 +98,20 @@ fn tokens_of(alloc: Global, body: &[BodySymbol]) -> Result<Vec<Token<'_>>, Alloc
     Ok(tokens)
 }
 
-/// The symbol of a `%prec`, by its word, if there is one.
-fn precedences_of(
+/// The token of a `%prec`, by its word, if there is one.
+fn precedences_of<'a>(
     alloc: Global,
-    symbols: Symbols<'_>,
+    symbols: Symbols<'a>,
     word: Option<usize>,
-) -> Result<Vec<BodySymbol>, AllocError>
-    ensures { IfOk result (λ tokens. map symbol_view tokens.items
+) -> Result<Vec<Token<'a>>, AllocError>
+    ensures { IfOk result (λ tokens. map tree.token_view tokens.items
         ≡ precedences_of (words_in symbols.entry) (names_in symbols.entry) word) }
 {
     let mut precedences = Vec::new(alloc);
     if let Some(word) = word {
-        let named = symbols.word(word);
-        precedences.push(BodySymbol {
-            name: String::from_str(alloc, named.name)?,
-            span: named.span,
-            quoted: true,
-        })?;
+        precedences.push(symbols.token(true, word))?;
     }
     Ok(precedences)
-}
-
-/// The code at the end of a production, by its word, if there is one.
-fn action_text(
-    alloc: Global,
-    symbols: Symbols<'_>,
-    word: Option<usize>,
-) -> Result<Option<(String, Span)>, AllocError>
-    ensures { IfOk result (λ action. option_map tree.text_view action ≡ code_of (words_in symbols.entry) word) }
-{
-    let Some(word) = word else {
-        return Ok(None);
-    };
-    match symbols.code(word) {
-        Some((text, span)) => Ok(Some((String::from_str(alloc, text)?, span))),
-        None => Ok(None),
-    }
 }
 
 /// Adds the rule of an action, with its empty production.
@@ -189,49 +174,28 @@ fn span_of(symbols: Symbols<'_>, production: &Production) -> Span
     )
 }
 
-/// The body of a production of these symbols.
-fn draft_of(
+/// Adds a production whose body has these symbols.
+fn add_body(
     alloc: Global,
     symbols: Symbols<'_>,
-    pieces: &[Piece],
+    builder: &mut AstBuilder,
     production: &Production,
-) -> Result<Draft, AllocError>
-    ensures { IfOk result (λ draft. draft_view draft
-        ≡ body_of (words_in symbols.entry) (names_in symbols.entry) (is_token_in symbols.entry) pieces.now
-        (production_view production.now)) }
+    body: &[BodySymbol],
+) -> Result<(), AllocError>
+    ensures { OnOk result (syntax_built builder.new ≡ add (syntax_built builder.old)
+        (Alternative (head_at (words_in symbols.entry) (names_in symbols.entry) (production_view production.now).rule)
+        (body_with symbols.entry (map symbol_view body.now) (production_view production.now)))) }
 {
     let parts = production.parts.as_slice();
-    Ok(Draft {
-        symbols: symbols_of(alloc, symbols, pieces)?,
-        precedences: precedences_of(alloc, symbols, precedence_of(parts))?,
-        action: action_text(alloc, symbols, action_of(parts))?,
-        span: span_of(symbols, production),
-    })
-}
-
-/// Adds a production of the rule with this head.
-fn add_draft(
-    alloc: Global,
-    builder: &mut AstBuilder,
-    head: RuleHead<'_>,
-    draft: &Draft,
-) -> Result<(), AllocError>
-    ensures { OnOk result (syntax_built builder.new
-        ≡ add (syntax_built builder.old) (Alternative (tree.head_view head.entry) (draft_view draft.now))) }
-{
-    let symbols = tokens_of(alloc, draft.symbols.as_slice())?;
-    let precedences = tokens_of(alloc, draft.precedences.as_slice())?;
-    let action = match &draft.action {
-        Some((text, span)) => Some((text.as_str(), *span)),
-        None => None,
-    };
+    let tokens = tokens_of(alloc, body)?;
+    let precedences = precedences_of(alloc, symbols, precedence_of(parts))?;
     let body = Body {
-        symbols: symbols.as_slice(),
+        symbols: tokens.as_slice(),
         precedences: precedences.as_slice(),
-        action,
-        span: draft.span,
+        action: symbols.code_of(action_of(parts)),
+        span: span_of(symbols, production),
     };
-    builder.add_production(alloc, head, body)
+    builder.add_production(alloc, symbols.head(production.rule), body)
 }
 
 /// Adds a production, and before it the rules of the actions inside of it. `inners` are the words of such actions so
@@ -252,6 +216,6 @@ pub(crate) fn add_production(
 {
     let pieces = pieces_of(alloc, inners, production.parts.as_slice())?;
     add_inners(alloc, symbols, builder, pieces.as_slice())?;
-    let draft = draft_of(alloc, symbols, pieces.as_slice(), production)?;
-    add_draft(alloc, builder, symbols.head(production.rule), &draft)
+    let body = symbols_of(alloc, symbols, pieces.as_slice())?;
+    add_body(alloc, symbols, builder, production, body.as_slice())
 }

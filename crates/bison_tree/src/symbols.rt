@@ -83,6 +83,16 @@ impl<'a> Symbols<'a> {
         has_name(self.tokens, name_at(self.names, word))
     }
 
+    /// The text and the span of the code that a word is, if there is one.
+    pub(crate) fn code_of(self, word: Option<usize>) -> Option<(&'a str, Span)>
+        ensures { option_map (λ code. (code.0.now, code.1)) result ≡ code_of (words_in self.entry) word }
+    {
+        match word {
+            Some(word) => self.code(word),
+            None => None,
+        }
+    }
+
     /// The code that a word is, and its span.
     pub(crate) fn code(self, word: usize) -> Option<(&'a str, Span)>
         ensures { option_map (λ code. (code.0.now, code.1)) result ≡ code_at (words_in self.entry) word }

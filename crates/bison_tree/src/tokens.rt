@@ -1,6 +1,6 @@
 //! Which symbols are tokens.
 
-ghost use Rattle.std.specs.Prelude.{◌≡◌, ◌++◌, map, IfOk, OnOk};
+ghost use Rattle.std.specs.Prelude.{◌≡◌, ◌∷◌, ◌++◌, [], map, IfOk, OnOk};
 ghost use Rattle.std.specs.List.{flat_map};
 ghost use Rattle.std.specs.String.{string_bytes};
 ghost use Rattle.bison_reader.specs.Items.{item_view};
@@ -55,12 +55,20 @@ fn is_token_itself(lexeme: Lexeme<'_>) -> bool
     }
 }
 
+/// Adds a word to a list.
+fn push(tokens: &mut Vec<usize>, word: usize) -> Result<(), AllocError>
+    ensures { OnOk result (tokens.new.items ≡ tokens.old.items ++ word ∷ []) }
+{
+    tokens.push(word)?;
+    Ok(())
+}
+
 /// Adds a word that is a token by itself.
 fn push_itself(tokens: &mut Vec<usize>, words: &[Word<'_>], word: usize) -> Result<(), AllocError>
     ensures { OnOk result (tokens.new.items ≡ tokens.old.items ++ token_itself (map word_view words.now) word) }
 {
     if is_token_itself(lexeme_at(words, word)) {
-        tokens.push(word)?;
+        return push(tokens, word);
     }
     Ok(())
 }
@@ -71,7 +79,7 @@ fn push_of_part(tokens: &mut Vec<usize>, words: &[Word<'_>], part: Part) -> Resu
 {
     match part.kind {
         PartKind::Symbol => push_itself(tokens, words, part.word),
-        PartKind::Precedence => Ok(tokens.push(part.last)?),
+        PartKind::Precedence => push(tokens, part.last),
         _ => Ok(()),
     }
 }
@@ -97,8 +105,8 @@ fn push_of_item(tokens: &mut Vec<usize>, words: &[Word<'_>], item: &Item) -> Res
         ≡ tokens.old.items ++ tokens_in (map word_view words.now) (item_view item.now)) }
 {
     match item {
-        Item::Token(symbol) | Item::Precedence(_, symbol) => Ok(tokens.push(*symbol)?),
-        Item::Alias { string, .. } => Ok(tokens.push(*string)?),
+        Item::Token(symbol) | Item::Precedence(_, symbol) => push(tokens, *symbol),
+        Item::Alias { string, .. } => push(tokens, *string),
         Item::Rule(symbol) | Item::Symbol(symbol) | Item::Start(symbol) | Item::Head(symbol) =>
             push_itself(tokens, words, *symbol),
         Item::Production(production) => push_of_parts(tokens, words, production.parts.as_slice()),

@@ -1,14 +1,15 @@
 -- What this crate's values represent.
-use Rattle.std.specs.Prelude.{◌≡◌, ℕ, Bool, List, map, option_map}
+use Rattle.std.specs.Prelude.{◌≡◌, ℕ, Bool, List, map}
 use Rattle.std.specs.String.{string_bytes}
 use Rattle.cfgitems.specs.Building.{has_name}
 use Rattle.cfgitems.specs.Items.{Body}
-use Rattle.cfgitems.specs.SyntaxView.{pair_view, text_view}
+use Rattle.cfgitems.specs.SyntaxView.{pair_view}
 use Rattle.cfgwords.specs.FileWords.{Token}
 use Rattle.bison_words.specs.Words.{Word, word_view}
+use Rattle.bison_reader.specs.Items.{Production}
+use Rattle.bison_tree.specs.Productions.{action_of, code_of, precedence_of, precedences_of, span_of}
 use Rattle.bison_tree.specs.declared.aliases.Aliases.{Aliases}
 use Rattle.bison_tree.specs.declared.productions.BodySymbol.{BodySymbol}
-use Rattle.bison_tree.specs.declared.productions.Draft.{Draft}
 use Rattle.bison_tree.specs.declared.symbols.Symbols.{Symbols}
 
 abbrev pub aliases_view : Aliases → List (List ℕ × List ℕ)
@@ -31,10 +32,11 @@ is_token_in symbols name = has_name name (map string_bytes symbols.tokens.now.ke
 abbrev pub symbol_view : BodySymbol → Token
 symbol_view symbol = record { name = string_bytes symbol.name; span = symbol.span; quoted = symbol.quoted; end = symbol.span.end }
 
-abbrev pub draft_view : Draft → Body
-draft_view draft = record {
-  symbols = map symbol_view draft.symbols.items;
-  precedences = map symbol_view draft.precedences.items;
-  action = option_map text_view draft.action;
-  span = draft.span;
+-- the body of a production of these symbols
+abbrev pub body_with : Symbols → List Token → Production → Body
+body_with symbols body production = record {
+  symbols = body;
+  precedences = precedences_of (words_in symbols) (names_in symbols) (precedence_of production.parts);
+  action = code_of (words_in symbols) (action_of production.parts);
+  span = span_of (words_in symbols) production;
 }

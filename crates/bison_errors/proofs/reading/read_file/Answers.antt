@@ -1,38 +1,14 @@
-use Rattle.std.proofs.Common.{◌≡◌, ◌==◌, true, List, length, map, filter_map, fold, string_bytes, subst, ap, ◌∙◌}
-use Rattle.cfgast.specs.TreeView.{syntax}
-use Rattle.cfgitems.specs.Syntax.{syntax_of}
+use Rattle.std.proofs.Common.{true, map, filter_map, fold, ap, ◌∙◌}
 use Rattle.bison_reader.specs.Items.{item_view}
-use Rattle.bison_words.specs.Words.{word_view}
-use Rattle.bison_errors.specs.declared.error.Error.{Error}
-use Rattle.bison_errors.specs.Errors.{AreErrors, name_errors, text_errors}
-use Rattle.bison_tree.specs.Names.{names_of}
-use Rattle.bison_errors.specs.Reading.{level_in, name_errors_of, text_errors_of, tree_of, with_default}
-use Rattle.bison_tree.specs.Tree.{tree_items}
+use Rattle.bison_errors.specs.Reading.{level_in, with_default}
 use Rattle.bison_errors.proofs.reading.read_file.Goals as goal
 
 pub returns : goal.returns
-unfolding tree_of
 returns c =
-    let text = c.args.text.now in
-    let words = c.requires.words.words_are in
-    let faults = c.requires.words.faults_are in
-    let items = c.requires.items in
-    let epilogue = c.requires.words.epilogue_is in
-    let seen = ap (map item_view) c.as_slice-items.ensures.value ∙ items in
-    let names : map string_bytes c.as_slice-3.result.now ≡ names_of _ _ =
-    ap (map string_bytes) c.as_slice-3.ensures.value ∙ c.in_ok-names.ensures
-    ∙ (λ i. names_of ((ap (map word_view) c.as_slice.ensures.value ∙ words) i) (seen i)) in
-    let tree : syntax c.in_ok-ast.ast ≡ tree_of text = c.in_ok-ast.ensures ∙ (λ i. syntax_of (tree_items (words i) (items i) (epilogue i))) in
-    let file = c.args.file.now in
-    let text_reported : List Error = text_errors (map word_view file.words.words.items) file.words.faults.items (map item_view file.items.items) in
-    let names_reported : List Error = name_errors (length text_reported == 0) (map word_view file.words.words.items)
-    (map string_bytes c.as_slice-3.result.now) (map item_view file.items.items) (syntax c.in_ok-ast.ast) in
-    let of_text : text_reported ≡ text_errors_of text = λ i. text_errors (words i) (faults i) (items i) in
-    let of_names : names_reported ≡ name_errors_of text = λ i. name_errors (length (of_text i) == 0) (words i) (names i) (items i) (tree i) in
+    let seen = ap (map item_view) c.as_slice-items.ensures.value ∙ c.requires.items in
     record {
-      ast = ap syntax c.in_ok-ast-2.ensures.tree ∙ tree;
-      errors = subst (λ (l : List Error). AreErrors (text_errors_of text) l c.in_ok-ast-2.errors.items) of_names
-          (subst (λ (l : List Error). AreErrors l names_reported c.in_ok-ast-2.errors.items) of_text c.in_ok-ast-2.ensures.errors);
+      ast = c.in_ok-ast.ensures.tree;
+      errors = c.in_ok-ast.ensures.errors;
       levels = c.in_ok-levels.ensures ∙ ap (filter_map level_in) seen;
       default_precedence = c.default_precedence.ensures ∙ ap (fold with_default true) seen;
     }

@@ -5,7 +5,7 @@ use Rattle.bison_reader.specs.Items.{item_view}
 use Rattle.bison_errors.specs.Errors.{declaration_errors}
 use Rattle.bison_tree.specs.Tree.{first_start}
 use Rattle.bison_tree.proofs.Steps.{stepped_by}
-use Rattle.bison_errors.proofs.name_errors.declaration_errors.Goals as goal
+use Rattle.bison_errors.proofs.name_errors.push_declarations.Goals as goal
 
 pub loop-item-preserved : goal.loop-item-preserved
 loop-item-preserved c =
