@@ -1,6 +1,5 @@
 -- A step that passes a byte, where nothing was found before.
-use Rattle.std.proofs.Common.{◌≡◌, ℕ, false, List, ◌∷◌, length, fold, Option, Some, None, Result, Ok, Err, sym, ap, subst, ◌∙◌}
-use Rattle.std.specs.Option.{is_some}
+use Rattle.std.proofs.Common.{◌≡◌, ℕ, List, ◌∷◌, length, fold, Option, Some, None, Result, Ok, Err, sym, ap, subst, ◌∙◌}
 use Rattle.std.specs.declared.alloc.AllocError.{AllocError}
 use denote.Ref.{Bor}
 use Rattle.constructs.specs.Leaves.{Gives, ValueOf, Leaves}
@@ -13,7 +12,7 @@ use Rattle.bison_words.specs.RunGraphs.{byte_finder}
 use Rattle.bison_words.specs.Words.{Item}
 use Rattle.bison_words.specs.Inner.Builds.{Builds, Keeps, IsFoundHere, Made, made_by, add, scanner_kind}
 
-pub not_found : {X W : Type 0} (view : X → W) (find : List ℕ → Option (W × List ℕ)) (old new : Scanner) (o : Option X) → IsFoundHere view find old new o → is_some o ≡ false → new ≡ old
+pub not_found : {X W : Type 0} (view : X → W) (find : List ℕ → Option (W × List ℕ)) (old new : Scanner) (o : Option X) → IsFoundHere view find old new o → o ≡ None → new ≡ old
 not_found view find old new (Some x) found none = cc
 not_found view find old new None found none = found.1
 

@@ -84,7 +84,13 @@ impl<'a> Scanner<'a> {
         if is_splice(self.rest) {
             return self.splice();
         }
-        self.accept("\\") || self.some(Class::CommentLine).is_some()
+        if self.accept("\\") {
+            return true;
+        }
+        if let Some(_text) = self.some(Class::CommentLine) {
+            return true;
+        }
+        false
     }
 
     /// Passes the rest of a line comment, up to the line's end.
@@ -160,7 +166,13 @@ impl<'a> Scanner<'a> {
             self.escaped_part();
             return true;
         }
-        self.byte(Class::Quote).is_some() || self.some(Class::CodeQuoted).is_some()
+        if let Some(_quote) = self.byte(Class::Quote) {
+            return true;
+        }
+        if let Some(_text) = self.some(Class::CodeQuoted) {
+            return true;
+        }
+        false
     }
 
     /// Passes what is between quotes.
@@ -243,7 +255,7 @@ impl<'a> Scanner<'a> {
         ensures passed { OnOk result (Passed self.old self.new) }
     {
         let start = self.rest;
-        if self.some(Class::CodeByte).is_some() {
+        if let Some(_code) = self.some(Class::CodeByte) {
             return Ok(Some(Nesting::Stays));
         }
         match self.byte(Class::Any) {
