@@ -11,6 +11,7 @@ pub mod NameSpans
 pub mod Named
 pub mod NestedLeads
 pub mod NestedLoop
+pub mod NextByte
 pub mod Passing
 pub mod PieceCuts
 pub mod QuoteFaults

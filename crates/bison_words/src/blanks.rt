@@ -2,7 +2,7 @@
 
 ghost use Rattle.std.specs.Prelude.{◌≡◌, ◌≤◌, ◌<◌, length, OnOk};
 ghost use Rattle.constructs.specs.Construct.{again, goes_on, then};
-ghost use Rattle.bison_words.specs.Blanks.{from_end, ends_with_quote, is_line_end, is_numbered, is_line_number};
+ghost use Rattle.bison_words.specs.Blanks.{from_end, is_line_end, is_numbered, is_line_number};
 ghost use Rattle.bison_words.specs.Blanks.{line_number, comment, blank_turn, blank};
 
 use crate::class::Class;
@@ -22,12 +22,6 @@ pub(crate) fn from_end(bytes: &[u8], n: usize) -> u8
         .unwrap_or(0)
 }
 
-fn ends_with_quote(line: &[u8]) -> bool
-    ensures { result ≡ ends_with_quote line.now }
-{
-    from_end(line, 1) == b'"' || (from_end(line, 1) == b'\r' && from_end(line, 2) == b'"')
-}
-
 /// Whether the line may end so after its number.
 fn is_line_end(tail: &str) -> bool
     ensures { result ≡ is_line_end tail.now }
@@ -35,7 +29,11 @@ fn is_line_end(tail: &str) -> bool
     match tail.as_bytes() {
         [] | [b'\r'] => true,
         _ => match after_word(tail, " \"") {
-            Some(opened) => ends_with_quote(opened.as_bytes()),
+            Some(opened) => {
+                let file = opened.as_bytes();
+                from_end(file, 1) == b'"'
+                    || (from_end(file, 1) == b'\r' && from_end(file, 2) == b'"')
+            }
             None => false,
         },
     }
@@ -79,17 +77,19 @@ impl<'a> Scanner<'a> {
     ghost use Rattle.bison_words.specs.Inner.Builds.{Builds, Passed};
 
     /// Passes the rest of the comment that begins at `start`.
-    #[tactic(auto, unfolding(crate::specs::Blanks::comment))]
+    #[tactic(auto, unfolding(crate::specs::Blanks::comment, crate::specs::Here::unended))]
     fn comment(&mut self, start: &'a str) -> Result<bool, AllocError>
         requires { length self.old.rest.now ≤ length start.now }
         ensures read { Builds goes_on self.old self.new result
             (then (comment (length self.old.text.now) start.now) again) }
         ensures passed { OnOk result (Passed self.old self.new) }
     {
-        match self.first("*/") {
-            Some(_) => Ok(true),
-            None => self.unended(start, WordFaultKind::IncompleteComment),
+        if let Some(_text) = self.first("*/") {
+            return Ok(true);
         }
+        self.odd_between(start, self.rest, WordFaultKind::IncompleteComment)?;
+        self.pass(Class::Any);
+        Ok(true)
     }
 
     /// Passes a part of a blank, if there is one here.
@@ -99,7 +99,7 @@ impl<'a> Scanner<'a> {
         ensures passed { OnOk result (Passed self.old self.new) }
     {
         let start = self.rest;
-        if self.some(Class::Blank).is_some() {
+        if let Some(_blanks) = self.some(Class::Blank) {
             return Ok(true);
         }
         if self.accept("\n") {

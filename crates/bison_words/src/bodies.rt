@@ -1,17 +1,17 @@
 //! Words that code is in: braces, predicates and prologues; the epilogue.
 
-ghost use Rattle.std.specs.Prelude.{◌≡◌, ◌≤◌, length, OnOk, codes};
-ghost use Rattle.constructs.specs.Construct.{again, goes_on, repeat, then};
+ghost use Rattle.std.specs.Prelude.{◌≡◌, ◌≤◌, length, OnOk};
+ghost use Rattle.constructs.specs.Construct.{goes_on, repeat};
 ghost use Rattle.bison_words.specs.NestedHere.{closing};
-ghost use Rattle.bison_words.specs.Code.{code_end, braces, code, predicate, code_piece};
-ghost use Rattle.bison_words.specs.Code.{prologue_piece, prologue_end, prologue};
+ghost use Rattle.bison_words.specs.Code.{braces, code, predicate, code_piece};
+ghost use Rattle.bison_words.specs.Code.{prologue_piece, prologue};
 ghost use Rattle.bison_words.specs.Words.{lexeme_view};
 ghost use Rattle.bison_words.specs.Inner.Bodies.{braces_lexeme};
 
 use crate::class::Class;
 use crate::code::without_brace;
 use crate::nesting::{Nesting, after_piece, outermost};
-use crate::runs::before;
+use crate::runs::{before, begins};
 use crate::scanner::Scanner;
 use crate::words::{Code, Lexeme, WordFaultKind};
 use cfgbase::Span;
@@ -51,31 +51,8 @@ impl<'a> Scanner<'a> {
         Lexeme::Code(Code { text, span })
     }
 
-    /// Adds the code that begins at `start`, and whose brace precedes `opened`.
-    #[tactic(auto, unfolding(crate::specs::Code::code_end))]
-    fn code_end(
-        &mut self,
-        start: &'a str,
-        opened: &'a str,
-        is_predicate: bool,
-        closed: bool,
-    ) -> Result<bool, AllocError>
-        requires suffix { IsSuffix opened.now self.old.rest.now }
-        requires before { length opened.now ≤ length start.now }
-        ensures read { Builds goes_on self.old self.new result
-            (then (code_end (length self.old.text.now) start.now opened.now
-            (braces_lexeme (length self.old.text.now) is_predicate opened.now) closed) again) }
-        ensures passed { OnOk result (Passed self.old self.new) }
-    {
-        if closed {
-            let lexeme = self.braces_lexeme(opened, is_predicate);
-            return self.found_word(start, lexeme);
-        }
-        self.odd_between(start, opened, WordFaultKind::IncompleteCode)
-    }
-
     /// Passes braces and the code in them, of a word that begins at `start`.
-    #[tactic(auto, unfolding(crate::specs::Code::braces))]
+    #[tactic(auto, unfolding(crate::specs::Code::braces, crate::specs::Code::code_end))]
     fn braces(&mut self, start: &'a str, is_predicate: bool) -> Result<bool, AllocError>
         requires { length self.old.rest.now ≤ length start.now }
         ensures read { Builds goes_on self.old self.new result
@@ -86,8 +63,11 @@ impl<'a> Scanner<'a> {
             return Ok(false);
         }
         let opened = self.rest;
-        let closed = self.closing_brace()?;
-        self.code_end(start, opened, is_predicate, closed)
+        if !self.closing_brace()? {
+            return self.odd_between(start, opened, WordFaultKind::IncompleteCode);
+        }
+        let lexeme = self.braces_lexeme(opened, is_predicate);
+        self.found_word(start, lexeme)
     }
 
     #[tactic(auto, unfolding(crate::specs::Code::code))]
@@ -116,7 +96,7 @@ impl<'a> Scanner<'a> {
         ensures read { Builds (λ x. x) self.old self.new result (prologue_piece (length self.old.text.now)) }
         ensures passed { OnOk result (Passed self.old self.new) }
     {
-        if self.begins("%}") {
+        if begins(self.rest, "%}") {
             return Ok(None);
         }
         self.code_piece()
@@ -131,21 +111,7 @@ impl<'a> Scanner<'a> {
         Ok(())
     }
 
-    /// Adds the prologue that begins at `start`, and whose `%{` precedes `opened`.
-    #[tactic(auto, unfolding(crate::specs::Code::prologue_end))]
-    fn prologue_end(&mut self, start: &'a str, opened: &'a str) -> Result<bool, AllocError>
-        requires { length self.old.rest.now ≤ length opened.now × length opened.now ≤ length start.now }
-        ensures read { Builds goes_on self.old self.new result
-            (then (prologue_end (length self.old.text.now) start.now opened.now) again) }
-        ensures passed { OnOk result (Passed self.old self.new) }
-    {
-        if self.accept("%}") {
-            return self.found_word(start, Lexeme::Prologue);
-        }
-        self.odd_between(start, opened, WordFaultKind::IncompletePrologue)
-    }
-
-    #[tactic(auto, unfolding(crate::specs::Code::prologue))]
+    #[tactic(auto, unfolding(crate::specs::Code::prologue, crate::specs::Code::prologue_end))]
     pub(crate) fn prologue(&mut self) -> Result<bool, AllocError>
         ensures read { Builds goes_on self.old self.new result (prologue (length self.old.text.now)) }
         ensures passed { OnOk result (Passed self.old self.new) }
@@ -156,7 +122,10 @@ impl<'a> Scanner<'a> {
         }
         let opened = self.rest;
         self.prologue_pieces()?;
-        self.prologue_end(start, opened)
+        if self.accept("%}") {
+            return self.found_word(start, Lexeme::Prologue);
+        }
+        self.odd_between(start, opened, WordFaultKind::IncompletePrologue)
     }
 
     /// Passes the epilogue.

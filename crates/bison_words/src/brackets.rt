@@ -1,12 +1,13 @@
 //! Tags, and names in brackets.
 
-ghost use Rattle.std.specs.Prelude.{◌≡◌, ◌≤◌, length, OnOk};
+ghost use Rattle.std.specs.Prelude.{◌≤◌, length, OnOk};
 ghost use Rattle.constructs.specs.Construct.{again, goes_on, then};
 ghost use Rattle.bison_words.specs.NestedHere.{closing};
-ghost use Rattle.bison_words.specs.Brackets.{tag_piece, tag_end, tag, inner_name, name_close, name_end, name};
+ghost use Rattle.bison_words.specs.Brackets.{tag_piece, tag, inner_name, name_end, name};
 
 use crate::class::Class;
 use crate::nesting::{Nesting, after_piece, outermost};
+use crate::runs::starts;
 use crate::scanner::Scanner;
 use crate::words::{Lexeme, WordFaultKind};
 use std::alloc::AllocError;
@@ -20,22 +21,18 @@ impl<'a> Scanner<'a> {
         ensures read { Builds (λ x. x) self.old self.new (Ok result) tag_piece }
         ensures passed { Passed self.old self.new }
     {
-        if self.some(Class::TagByte).is_some() {
+        if let Some(_name) = self.some(Class::TagByte) {
             return Some(Nesting::Stays);
         }
-        if self.accept("<") {
-            return Some(Nesting::Opens);
+        match self.byte(Class::Any) {
+            Some(b'<') => Some(Nesting::Opens),
+            Some(b'>') => Some(Nesting::Closes),
+            Some(_) => {
+                let _ = self.accept(">");
+                Some(Nesting::Stays)
+            }
+            None => None,
         }
-        if self.accept(">") {
-            return Some(Nesting::Closes);
-        }
-        if self.accept("->") {
-            return Some(Nesting::Stays);
-        }
-        if self.accept("-") {
-            return Some(Nesting::Stays);
-        }
-        None
     }
 
     /// Passes a tag up to the `>` that closes it, and returns whether there is one.
@@ -53,21 +50,7 @@ impl<'a> Scanner<'a> {
         false
     }
 
-    /// Adds the tag that begins at `start`, and whose `<` precedes `opened`.
-    #[tactic(auto, unfolding(crate::specs::Brackets::tag_end))]
-    fn tag_end(&mut self, start: &'a str, opened: &'a str, closed: bool) -> Result<bool, AllocError>
-        requires { length self.old.rest.now ≤ length opened.now × length opened.now ≤ length start.now }
-        ensures read { Builds goes_on self.old self.new result
-            (then (tag_end (length self.old.text.now) start.now opened.now closed) again) }
-        ensures passed { OnOk result (Passed self.old self.new) }
-    {
-        if closed {
-            return self.found_word(start, Lexeme::Tag);
-        }
-        self.odd_between(start, opened, WordFaultKind::IncompleteTag)
-    }
-
-    #[tactic(auto, unfolding(crate::specs::Brackets::tag))]
+    #[tactic(auto, unfolding(crate::specs::Brackets::tag, crate::specs::Brackets::tag_end))]
     pub(crate) fn tag(&mut self) -> Result<bool, AllocError>
         ensures read { Builds goes_on self.old self.new result (tag (length self.old.text.now)) }
         ensures passed { OnOk result (Passed self.old self.new) }
@@ -83,8 +66,10 @@ impl<'a> Scanner<'a> {
             return Ok(false);
         }
         let opened = self.rest;
-        let closed = self.closing_tag();
-        self.tag_end(start, opened, closed)
+        if self.closing_tag() {
+            return self.found_word(start, Lexeme::Tag);
+        }
+        self.odd_between(start, opened, WordFaultKind::IncompleteTag)
     }
 
     /// Passes an identifier, and returns whether there is one.
@@ -93,34 +78,15 @@ impl<'a> Scanner<'a> {
         ensures read { Builds (λ x. x) self.old self.new (Ok result) inner_name }
         ensures passed { Passed self.old self.new }
     {
-        if self.starts_with(Class::Letter) {
+        if starts(self.rest, Class::Letter) {
             self.pass(Class::NameByte);
             return true;
         }
         false
     }
 
-    /// Adds the name in brackets that begins at `start`; a fault at `close` unless that is its closing bracket.
-    #[tactic(auto, unfolding(crate::specs::Brackets::name_close))]
-    fn name_close(
-        &mut self,
-        start: &'a str,
-        close: &'a str,
-        proper: bool,
-    ) -> Result<bool, AllocError>
-        requires { length self.old.rest.now ≤ length start.now }
-        ensures read { Builds goes_on self.old self.new result
-            (then (name_close (length self.old.text.now) start.now close.now proper) again) }
-        ensures passed { OnOk result (Passed self.old self.new) }
-    {
-        if !proper {
-            self.fault_between(close, close, WordFaultKind::IllegalName)?;
-        }
-        self.found_word(start, Lexeme::Name)
-    }
-
     /// Passes the bracket that closes the name that begins at `start`, and whatever precedes it.
-    #[tactic(auto, unfolding(crate::specs::Brackets::name_end))]
+    #[tactic(auto, unfolding(crate::specs::Brackets::name_end, crate::specs::Brackets::name_close))]
     fn name_end(&mut self, start: &'a str, opened: &'a str, found: bool) -> Result<bool, AllocError>
         requires { length self.old.rest.now ≤ length opened.now × length opened.now ≤ length start.now }
         ensures read { Builds goes_on self.old self.new result
@@ -129,7 +95,11 @@ impl<'a> Scanner<'a> {
     {
         let close = self.rest;
         match self.first("]") {
-            Some(body) => self.name_close(start, close, found && body.is_empty()),
+            Some(body) if found && body.is_empty() => self.found_word(start, Lexeme::Name),
+            Some(_) => {
+                self.fault_between(close, close, WordFaultKind::IllegalName)?;
+                self.found_word(start, Lexeme::Name)
+            }
             None => {
                 self.odd_between(start, opened, WordFaultKind::IncompleteName)?;
                 self.pass(Class::Any);

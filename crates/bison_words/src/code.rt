@@ -2,25 +2,18 @@
 
 ghost use Rattle.std.specs.Prelude.{◌≡◌, ◌≤◌, ◌+◌, length, Some, OnOk};
 ghost use Rattle.constructs.specs.Construct.{goes_on, repeat};
-ghost use Rattle.bison_words.specs.Code.{is_line_left, is_splice, splice, splice_turn, splices, line_part};
+ghost use Rattle.bison_words.specs.Code.{is_splice, splice, splice_turn, splices, line_part};
 ghost use Rattle.bison_words.specs.Code.{comment_part, escaped_part, quotes_part, less_piece, percent_piece};
 ghost use Rattle.bison_words.specs.Code.{without_brace, code_comment, slash_piece, code_quotes, code_piece};
 
 use crate::blanks::from_end;
 use crate::class::Class;
 use crate::nesting::Nesting;
-use crate::runs::run;
+use crate::runs::{begins, run};
 use crate::scanner::Scanner;
 use crate::words::WordFaultKind;
 use constructs::after_word;
 use std::alloc::AllocError;
-
-/// Whether the rest of a line is its end alone.
-fn is_line_left(rest: &str) -> bool
-    ensures { result ≡ is_line_left rest.now }
-{
-    after_word(rest, "\r\n").is_some() || after_word(rest, "\n").is_some()
-}
 
 /// Whether the text begins with a backslash at the end of a line, where blanks may follow it.
 #[tactic(auto, unfolding(crate::specs::Code::is_splice))]
@@ -28,7 +21,10 @@ fn is_splice(text: &str) -> bool
     ensures { result ≡ is_splice text.now }
 {
     match after_word(text, "\\") {
-        Some(rest) => is_line_left(run(rest, Class::Gap).1),
+        Some(rest) => {
+            let line = run(rest, Class::Gap).1;
+            begins(line, "\r\n") || begins(line, "\n")
+        }
         None => false,
     }
 }
@@ -88,7 +84,13 @@ impl<'a> Scanner<'a> {
         if is_splice(self.rest) {
             return self.splice();
         }
-        self.accept("\\") || self.some(Class::CommentLine).is_some()
+        if self.accept("\\") {
+            return true;
+        }
+        if let Some(_text) = self.some(Class::CommentLine) {
+            return true;
+        }
+        false
     }
 
     /// Passes the rest of a line comment, up to the line's end.
@@ -105,14 +107,14 @@ impl<'a> Scanner<'a> {
         ensures read { Builds goes_on self.old self.new (Ok result) comment_part }
         ensures passed { Passed self.old self.new }
     {
-        if self.some(Class::Comment).is_some() {
+        if let Some(_text) = self.some(Class::Comment) {
             return true;
         }
         if !self.accept("*") {
             return false;
         }
         self.splices();
-        !self.begins("/")
+        !begins(self.rest, "/")
     }
 
     /// Passes the parts of a comment.
@@ -154,7 +156,7 @@ impl<'a> Scanner<'a> {
         ensures read { Builds goes_on self.old self.new (Ok result) (quotes_part close.now) }
         ensures passed { Passed self.old self.new }
     {
-        if self.begins(close) {
+        if begins(self.rest, close) {
             return false;
         }
         if is_splice(self.rest) {
@@ -164,7 +166,13 @@ impl<'a> Scanner<'a> {
             self.escaped_part();
             return true;
         }
-        self.byte(Class::Quote).is_some() || self.some(Class::CodeQuoted).is_some()
+        if let Some(_quote) = self.byte(Class::Quote) {
+            return true;
+        }
+        if let Some(_text) = self.some(Class::CodeQuoted) {
+            return true;
+        }
+        false
     }
 
     /// Passes what is between quotes.
@@ -189,9 +197,10 @@ impl<'a> Scanner<'a> {
         ensures passed { OnOk result (Passed self.old self.new) }
     {
         self.quotes_parts(close);
-        if !self.accept(close) {
-            self.fault_first(start, 1, kind)?;
+        if self.accept(close) {
+            return Ok(Some(Nesting::Stays));
         }
+        self.fault_first(start, 1, kind)?;
         Ok(Some(Nesting::Stays))
     }
 
@@ -246,30 +255,18 @@ impl<'a> Scanner<'a> {
         ensures passed { OnOk result (Passed self.old self.new) }
     {
         let start = self.rest;
-        if self.some(Class::CodeByte).is_some() {
+        if let Some(_code) = self.some(Class::CodeByte) {
             return Ok(Some(Nesting::Stays));
         }
-        if self.accept("/") {
-            return self.slash_piece(start);
+        match self.byte(Class::Any) {
+            Some(b'/') => self.slash_piece(start),
+            Some(b'<') => Ok(self.less_piece()),
+            Some(b'%') => Ok(self.percent_piece()),
+            Some(b'{') => Ok(Some(Nesting::Opens)),
+            Some(b'}') => Ok(Some(Nesting::Closes)),
+            Some(b'"') => self.code_quotes(start, "\"", WordFaultKind::IncompleteString),
+            Some(_) => self.code_quotes(start, "'", WordFaultKind::IncompleteLiteral),
+            None => Ok(None),
         }
-        if self.accept("<") {
-            return Ok(self.less_piece());
-        }
-        if self.accept("%") {
-            return Ok(self.percent_piece());
-        }
-        if self.accept("{") {
-            return Ok(Some(Nesting::Opens));
-        }
-        if self.accept("}") {
-            return Ok(Some(Nesting::Closes));
-        }
-        if self.accept("\"") {
-            return self.code_quotes(start, "\"", WordFaultKind::IncompleteString);
-        }
-        if self.accept("'") {
-            return self.code_quotes(start, "'", WordFaultKind::IncompleteLiteral);
-        }
-        Ok(None)
     }
 }

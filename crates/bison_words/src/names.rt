@@ -1,12 +1,13 @@
 //! Identifiers, numbers, marks, and what can't begin a word.
 
 ghost use Rattle.std.specs.Prelude.{◌≡◌, ◌≤◌, length, OnOk};
-ghost use Rattle.constructs.specs.Construct.{again, goes_on, then};
+ghost use Rattle.constructs.specs.Construct.{goes_on};
 ghost use Rattle.bison_words.specs.Digits.{digit_value, with_digit, number_of};
 ghost use Rattle.bison_words.specs.Names.{is_identifier, is_colon};
-ghost use Rattle.bison_words.specs.Names.{identifier, number_word, number_end, hexadecimal, number, mark, odd};
+ghost use Rattle.bison_words.specs.Names.{identifier, number_end, number, mark, odd};
 
 use crate::class::Class;
+use crate::runs::{begins, run_len, starts};
 use crate::scanner::Scanner;
 use crate::words::{Lexeme, WordFaultKind};
 use std::alloc::AllocError;
@@ -43,24 +44,24 @@ pub(crate) fn number_of(base: usize, digits: &str) -> usize
         .fold(0, |number, b| with_digit(base, number, *b))
 }
 
+/// Whether the text begins with an identifier.
+#[tactic(auto, unfolding(crate::specs::Names::is_identifier))]
+pub(crate) fn is_identifier(text: &str) -> bool
+    ensures { result ≡ is_identifier text.now }
+{
+    starts(text, Class::Letter) && run_len(text, Class::Odd) <= run_len(text, Class::NameByte)
+}
+
+/// Whether the text begins with a colon.
+#[tactic(auto, unfolding(crate::specs::Names::is_colon))]
+pub(crate) fn is_colon(text: &str) -> bool
+    ensures { result ≡ is_colon text.now }
+{
+    begins(text, ":") && run_len(text, Class::Odd) == 1
+}
+
 impl<'a> Scanner<'a> {
     ghost use Rattle.bison_words.specs.Inner.Builds.{Builds, Passed};
-
-    /// Whether an identifier is here.
-    #[tactic(auto, unfolding(crate::specs::Names::is_identifier))]
-    pub(crate) fn is_identifier(&self) -> bool
-        ensures { result ≡ is_identifier self.now.rest.now }
-    {
-        self.starts_with(Class::Letter) && self.run_len(Class::Odd) <= self.run_len(Class::NameByte)
-    }
-
-    /// Whether a colon is here.
-    #[tactic(auto, unfolding(crate::specs::Names::is_colon))]
-    pub(crate) fn is_colon(&self) -> bool
-        ensures { result ≡ is_colon self.now.rest.now }
-    {
-        self.begins(":") && self.run_len(Class::Odd) == 1
-    }
 
     #[tactic(auto, unfolding(crate::specs::Names::identifier))]
     pub(crate) fn identifier(&mut self) -> Result<bool, AllocError>
@@ -74,57 +75,38 @@ impl<'a> Scanner<'a> {
         }
     }
 
-    /// Adds the number that begins at `start`.
-    #[tactic(auto, unfolding(crate::specs::Names::number_word))]
-    fn number_word(&mut self, start: &'a str, number: usize) -> Result<bool, AllocError>
-        requires { length self.old.rest.now ≤ length start.now }
-        ensures read { Builds goes_on self.old self.new result
-            (then (number_word (length self.old.text.now) start.now number) again) }
-        ensures passed { OnOk result (Passed self.old self.new) }
-    {
-        if number > 2_147_483_647 {
-            self.fault_from(start, WordFaultKind::IllegalInteger)?;
-        }
-        self.found_word(start, Lexeme::Number(number))
-    }
-
     /// Adds the number that begins at `start` and has these digits; no letter may follow it.
-    #[tactic(auto, unfolding(crate::specs::Names::number_end))]
+    #[tactic(auto, unfolding(crate::specs::Names::number_end, crate::specs::Names::number_word))]
     fn number_end(&mut self, start: &'a str, base: usize, digits: &str) -> Result<bool, AllocError>
         requires { length self.old.rest.now ≤ length start.now }
         ensures read { Builds goes_on self.old self.new result
             (number_end (length self.old.text.now) start.now base digits.now) }
         ensures passed { OnOk result (Passed self.old self.new) }
     {
-        if digits.is_empty() || self.starts_with(Class::Letter) {
+        if digits.is_empty() || starts(self.rest, Class::Letter) {
             self.pass(Class::NameByte);
-            return self.odd_from(start, WordFaultKind::IllegalIdentifier);
+            return self.odd_between(start, self.rest, WordFaultKind::IllegalIdentifier);
         }
-        self.number_word(start, number_of(base, digits))
+        let number = number_of(base, digits);
+        if number > 2_147_483_647 {
+            return self.faulty_word(start, WordFaultKind::IllegalInteger, Lexeme::Number(number));
+        }
+        self.found_word(start, Lexeme::Number(number))
     }
 
-    #[tactic(auto, unfolding(crate::specs::Names::hexadecimal))]
-    fn hexadecimal(&mut self, start: &'a str) -> Result<bool, AllocError>
-        requires { length self.old.rest.now ≤ length start.now }
-        ensures read { Builds goes_on self.old self.new result
-            (hexadecimal (length self.old.text.now) start.now) }
-        ensures passed { OnOk result (Passed self.old self.new) }
-    {
-        let digits = self.run(Class::Hexadecimal);
-        self.number_end(start, 16, digits)
-    }
-
-    #[tactic(auto, unfolding(crate::specs::Names::number))]
+    #[tactic(auto, unfolding(crate::specs::Names::number, crate::specs::Names::hexadecimal))]
     pub(crate) fn number(&mut self) -> Result<bool, AllocError>
         ensures read { Builds goes_on self.old self.new result (number (length self.old.text.now)) }
         ensures passed { OnOk result (Passed self.old self.new) }
     {
         let start = self.rest;
         if self.accept("0x") {
-            return self.hexadecimal(start);
+            let digits = self.run(Class::Hexadecimal);
+            return self.number_end(start, 16, digits);
         }
         if self.accept("0X") {
-            return self.hexadecimal(start);
+            let digits = self.run(Class::Hexadecimal);
+            return self.number_end(start, 16, digits);
         }
         match self.some(Class::Digit) {
             Some(digits) => self.number_end(start, 10, digits),
@@ -160,9 +142,12 @@ impl<'a> Scanner<'a> {
         ensures passed { OnOk result (Passed self.old self.new) }
     {
         let start = self.rest;
-        if self.some(Class::Odd).is_none() && self.byte(Class::Any).is_none() {
-            return Ok(false);
+        if let Some(_run) = self.some(Class::Odd) {
+            return self.odd_between(start, self.rest, WordFaultKind::IllegalCharacters);
         }
-        self.odd_from(start, WordFaultKind::IllegalCharacters)
+        match self.byte(Class::Any) {
+            Some(_) => self.odd_between(start, self.rest, WordFaultKind::IllegalCharacters),
+            None => Ok(false),
+        }
     }
 }

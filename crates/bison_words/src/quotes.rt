@@ -2,14 +2,14 @@
 
 ghost use Rattle.std.specs.Prelude.{◌≡◌, ◌≤◌, ◌<◌, ◌⊎◌, length, get_or, OnOk};
 ghost use Rattle.constructs.specs.Construct.{again, goes_on, then};
-ghost use Rattle.bison_words.specs.Quotes.{escaped, with_part, literal_of, is_long, if_closed};
+ghost use Rattle.bison_words.specs.Quotes.{escaped, with_part, if_closed};
 ghost use Rattle.bison_words.specs.Quotes.{numbered_value, numbered, illegal_escape, escape, quoted_part, quoted};
-ghost use Rattle.bison_words.specs.Quotes.{quotes_end, literal_word, literal, string_word, string, translatable};
+ghost use Rattle.bison_words.specs.Quotes.{quotes_end, literal_word, literal, string_word, translatable};
 ghost use Rattle.bison_words.specs.Inner.Quotes.{string_lexeme};
 
 use crate::class::Class;
 use crate::names::number_of;
-use crate::runs::before;
+use crate::runs::{before, begins, run_len, starts};
 use crate::scanner::Scanner;
 use crate::words::{Lexeme, WordFaultKind};
 use std::alloc::AllocError;
@@ -43,23 +43,6 @@ fn with_part(parts: Option<Part>, part: Part) -> Option<Part>
     }
 }
 
-/// The character of a literal.
-fn literal_of(parts: Option<Part>) -> u8
-    ensures { result ≡ literal_of parts }
-{
-    match parts {
-        Some((first, _)) => first,
-        None => b'?',
-    }
-}
-
-/// Whether a literal has more characters than one.
-fn is_long(parts: Option<Part>) -> bool
-    ensures { result ≡ is_long parts }
-{
-    matches!(parts, Some((_, false)))
-}
-
 impl<'a> Scanner<'a> {
     ghost use Rattle.bison_words.specs.Inner.Builds.{Builds, Passed};
 
@@ -74,7 +57,7 @@ impl<'a> Scanner<'a> {
         if 0 < value && value < 256 {
             return Ok(value as u8);
         }
-        self.fault_from(start, WordFaultKind::IllegalEscape)?;
+        self.fault_between(start, self.rest, WordFaultKind::IllegalEscape)?;
         Ok(b'?')
     }
 
@@ -94,8 +77,8 @@ impl<'a> Scanner<'a> {
             (numbered (length self.old.text.now) start.now class base least most) }
         ensures passed { OnOk result (Passed self.old self.new) }
     {
-        if self.run_len(class) < least {
-            self.fault_from(start, WordFaultKind::IllegalEscape)?;
+        if run_len(self.rest, class) < least {
+            self.fault_between(start, self.rest, WordFaultKind::IllegalEscape)?;
             return Ok(b'?');
         }
         let digits = self.few(class, most);
@@ -110,7 +93,7 @@ impl<'a> Scanner<'a> {
         ensures passed { OnOk result (Passed self.old self.new) }
     {
         self.character();
-        self.fault_from(start, WordFaultKind::IllegalEscape)?;
+        self.fault_between(start, self.rest, WordFaultKind::IllegalEscape)?;
         Ok(b'?')
     }
 
@@ -125,7 +108,7 @@ impl<'a> Scanner<'a> {
         if let Some(b) = self.byte(Class::Escape) {
             return Ok(escaped(b));
         }
-        if self.starts_with(Class::Octal) {
+        if starts(self.rest, Class::Octal) {
             return self.numbered(start, Class::Octal, 8, 1, 3);
         }
         if self.accept("x") {
@@ -148,7 +131,7 @@ impl<'a> Scanner<'a> {
         ensures passed { OnOk result (Passed self.old self.new) }
     {
         let start = self.rest;
-        if self.begins(close) {
+        if begins(self.rest, close) {
             return Ok(None);
         }
         if self.accept("\\") {
@@ -156,7 +139,7 @@ impl<'a> Scanner<'a> {
             return Ok(Some((b, true)));
         }
         if self.accept("\0") {
-            self.fault_from(start, WordFaultKind::IllegalCharacters)?;
+            self.fault_between(start, self.rest, WordFaultKind::IllegalCharacters)?;
             return Ok(Some((b'?', true)));
         }
         if let Some(b) = self.byte(Class::Quote) {
@@ -209,12 +192,13 @@ impl<'a> Scanner<'a> {
             (then (literal_word (length self.old.text.now) start.now parts) again) }
         ensures passed { OnOk result (Passed self.old self.new) }
     {
-        if parts.is_none() {
-            self.fault_from(start, WordFaultKind::EmptyLiteral)?;
-        } else if is_long(parts) {
-            self.fault_from(start, WordFaultKind::LongLiteral)?;
+        match parts {
+            Some((first, true)) => self.found_word(start, Lexeme::Literal(first)),
+            Some((first, false)) => {
+                self.faulty_word(start, WordFaultKind::LongLiteral, Lexeme::Literal(first))
+            }
+            None => self.faulty_word(start, WordFaultKind::EmptyLiteral, Lexeme::Literal(b'?')),
         }
-        self.found_word(start, Lexeme::Literal(literal_of(parts)))
     }
 
     #[tactic(auto, unfolding(crate::specs::Quotes::literal))]
@@ -233,7 +217,7 @@ impl<'a> Scanner<'a> {
 
     /// Passes the string here, of a word that begins at `start`.
     #[tactic(auto, unfolding(crate::specs::Quotes::string_word))]
-    fn string_word(
+    pub(crate) fn string_word(
         &mut self,
         start: &'a str,
         close: &str,
@@ -258,14 +242,6 @@ impl<'a> Scanner<'a> {
             Lexeme::String(text)
         };
         self.found_word(start, lexeme)
-    }
-
-    #[tactic(auto, unfolding(crate::specs::Quotes::string))]
-    pub(crate) fn string(&mut self) -> Result<bool, AllocError>
-        ensures read { Builds goes_on self.old self.new result (string (length self.old.text.now)) }
-        ensures passed { OnOk result (Passed self.old self.new) }
-    {
-        self.string_word(self.rest, "\"", false)
     }
 
     #[tactic(auto, unfolding(crate::specs::Quotes::translatable))]

@@ -4,11 +4,20 @@ ghost use Rattle.std.specs.Prelude.{◌≡◌, ◌-◌, ◌⊎◌, length, min, 
 ghost use Rattle.std.specs.List.{prefix_len};
 ghost use Rattle.constructs.specs.Pieces.{starts, run};
 ghost use Rattle.bison_words.specs.Bytes.{holds, is_continuation};
-ghost use Rattle.bison_words.specs.Runs.{byte_of, character_of};
+ghost use Rattle.bison_words.specs.Here.{begins};
+ghost use Rattle.bison_words.specs.Runs.{byte_of};
 ghost use Rattle.bison_words.specs.Suffixes.{IsSuffix};
 ghost use Rattle.bison_words.specs.Inner.Rests.{IsAfterCharacter};
 
 use crate::class::Class;
+use constructs::after_word;
+
+/// Whether the text begins with the word.
+pub(crate) fn begins(text: &str, word: &str) -> bool
+    ensures { result ≡ begins word.now text.now }
+{
+    after_word(text, word).is_some()
+}
 
 /// Whether the text begins with a byte of the class.
 pub(crate) fn starts(text: &str, class: Class) -> bool

@@ -1,15 +1,12 @@
 //! The scanner: the rest of a text, and the words and faults that were read.
 
 ghost use Rattle.std.specs.Prelude.{◌≡◌, ◌≤◌, ◌-◌, ◌+◌, ◌⊎◌, [], length, drop, Some, None, Ok, MatchBool, OnOk};
-ghost use Rattle.std.specs.List.{prefix_len};
 ghost use Rattle.constructs.specs.Construct.{then, again, goes_on};
 ghost use Rattle.constructs.specs.Pieces.{strip, split_first};
-ghost use Rattle.bison_words.specs.Bytes.{holds};
 ghost use Rattle.bison_words.specs.Runs.{some_of, byte_of};
-ghost use Rattle.bison_words.specs.Words.{offset_of, lexeme_view};
-ghost use Rattle.bison_words.specs.Here.{begins, starts_with, run_here, few_here, character_here, passes, unended};
-ghost use Rattle.bison_words.specs.Here.{word_between, word_from, fault_between, fault_from, fault_first};
-ghost use Rattle.bison_words.specs.Here.{odd_between, odd_from};
+ghost use Rattle.bison_words.specs.Words.{span_between, lexeme_view};
+ghost use Rattle.bison_words.specs.Here.{run_here, few_here, character_here, passes};
+ghost use Rattle.bison_words.specs.Here.{word_between, fault_between, fault_first, odd_between};
 
 use crate::class::Class;
 use crate::runs;
@@ -32,7 +29,7 @@ pub(crate) struct Scanner<'a> {
 
 impl<'a> Scanner<'a> {
     ghost use Rattle.bison_words.specs.Suffixes.{IsSuffix};
-    ghost use Rattle.bison_words.specs.Inner.Builds.{Builds, Passed, Keeps, IsFoundHere, Made, made_by};
+    ghost use Rattle.bison_words.specs.Inner.Builds.{Builds, Passed, Keeps, IsFoundHere, made_by};
 
     /// At the start of a text, with nothing read.
     pub(crate) fn new(alloc: Global, text: &'a str) -> Self
@@ -54,34 +51,6 @@ impl<'a> Scanner<'a> {
         ensures { (self.new.rest.now ≡ rest.now) × Keeps self.old self.new }
     {
         self.rest = rest;
-    }
-
-    /// The offset of the rest, in bytes.
-    fn offset_of(&self, rest: &str) -> usize
-        ensures { result ≡ offset_of (length self.now.text.now) rest.now }
-    {
-        self.text.len().saturating_sub(rest.len())
-    }
-
-    /// Whether the rest begins with the word.
-    pub(crate) fn begins(&self, word: &str) -> bool
-        ensures { result ≡ begins word.now self.now.rest.now }
-    {
-        after_word(self.rest, word).is_some()
-    }
-
-    /// Whether the rest begins with a byte of the class.
-    pub(crate) fn starts_with(&self, class: Class) -> bool
-        ensures { result ≡ starts_with class self.now.rest.now }
-    {
-        runs::starts(self.rest, class)
-    }
-
-    /// How many bytes of the class the rest begins with.
-    pub(crate) fn run_len(&self, class: Class) -> usize
-        ensures { result ≡ prefix_len (holds class) self.now.rest.now }
-    {
-        runs::run_len(self.rest, class)
     }
 
     /// Passes the word, if the rest begins with it.
@@ -124,7 +93,7 @@ impl<'a> Scanner<'a> {
     pub(crate) fn some(&mut self, class: Class) -> Option<&'a str>
         ensures { IsFoundHere (λ x. x.now) (some_of class) self.old self.new result }
     {
-        if !self.starts_with(class) {
+        if !runs::starts(self.rest, class) {
             return None;
         }
         let (run, rest) = runs::run(self.rest, class);
@@ -182,22 +151,12 @@ impl<'a> Scanner<'a> {
             (word_between (length self.old.text.now) start.now end.now (lexeme_view lexeme.entry)) }
         ensures passed { OnOk result (Passed self.old self.new) }
     {
-        let span = Span::new(self.offset_of(start), self.offset_of(end));
+        let span = span_between(self.text, start, end);
         self.words.push(Word { lexeme, span })?;
         Ok(())
     }
 
-    /// Adds a word that begins at `start` and ends here.
-    pub(crate) fn word_from(&mut self, start: &'a str, lexeme: Lexeme<'a>) -> Result<(), AllocError>
-        requires { length self.old.rest.now ≤ length start.now }
-        ensures read { Builds (λ x. x) self.old self.new result
-            (word_from (length self.old.text.now) start.now (lexeme_view lexeme.entry)) }
-        ensures passed { OnOk result (Passed self.old self.new) }
-    {
-        self.word_between(start, self.rest, lexeme)
-    }
-
-    /// The same for a turn that goes on after the word.
+    /// Adds a word that begins at `start` and ends here, for a turn that goes on after it.
     pub(crate) fn found_word(
         &mut self,
         start: &'a str,
@@ -205,10 +164,11 @@ impl<'a> Scanner<'a> {
     ) -> Result<bool, AllocError>
         requires { length self.old.rest.now ≤ length start.now }
         ensures read { Builds goes_on self.old self.new result
-            (then (word_from (length self.old.text.now) start.now (lexeme_view lexeme.entry)) again) }
+            (then (word_between (length self.old.text.now) start.now self.old.rest.now
+            (lexeme_view lexeme.entry)) again) }
         ensures passed { OnOk result (Passed self.old self.new) }
     {
-        self.word_from(start, lexeme)?;
+        self.word_between(start, self.rest, lexeme)?;
         Ok(true)
     }
 
@@ -224,19 +184,27 @@ impl<'a> Scanner<'a> {
             (fault_between (length self.old.text.now) start.now end.now kind) }
         ensures passed { OnOk result (Passed self.old self.new) }
     {
-        let span = Span::new(self.offset_of(start), self.offset_of(end));
+        let span = span_between(self.text, start, end);
         self.faults.push(WordFault { kind, span })?;
         Ok(())
     }
 
-    /// Adds a fault that begins at `start` and ends here.
-    pub(crate) fn fault_from(&mut self, start: &str, kind: WordFaultKind) -> Result<(), AllocError>
+    /// Adds a fault from `start` up to here, and the same as a word, for a turn that goes on after it.
+    pub(crate) fn faulty_word(
+        &mut self,
+        start: &'a str,
+        kind: WordFaultKind,
+        lexeme: Lexeme<'a>,
+    ) -> Result<bool, AllocError>
         requires { length self.old.rest.now ≤ length start.now }
-        ensures read { Builds (λ x. x) self.old self.new result
-            (fault_from (length self.old.text.now) start.now kind) }
+        ensures read { Builds goes_on self.old self.new result
+            (then (fault_between (length self.old.text.now) start.now self.old.rest.now kind) (λ _.
+            then (word_between (length self.old.text.now) start.now self.old.rest.now
+            (lexeme_view lexeme.entry)) again)) }
         ensures passed { OnOk result (Passed self.old self.new) }
     {
-        self.fault_between(start, self.rest, kind)
+        self.fault_between(start, self.rest, kind)?;
+        self.found_word(start, lexeme)
     }
 
     /// Adds a fault at the first `n` bytes of `start`.
@@ -251,13 +219,13 @@ impl<'a> Scanner<'a> {
             (fault_first (length self.old.text.now) start.now n kind) }
         ensures passed { OnOk result (Passed self.old self.new) }
     {
-        let offset = self.offset_of(start);
+        let offset = self.text.len() - start.len();
         let span = Span::new(offset, offset + n);
         self.faults.push(WordFault { kind, span })?;
         Ok(())
     }
 
-    /// Adds a fault in place of which there is no word.
+    /// Adds a fault in place of which there is no word, for a turn that goes on.
     pub(crate) fn odd_between(
         &mut self,
         start: &'a str,
@@ -273,35 +241,14 @@ impl<'a> Scanner<'a> {
         self.word_between(start, end, Lexeme::Fault)?;
         Ok(true)
     }
+}
 
-    /// The same from `start` up to here.
-    pub(crate) fn odd_from(
-        &mut self,
-        start: &'a str,
-        kind: WordFaultKind,
-    ) -> Result<bool, AllocError>
-        requires { length self.old.rest.now ≤ length start.now }
-        ensures read { Builds goes_on self.old self.new result
-            (then (odd_from (length self.old.text.now) start.now kind) again) }
-        ensures passed { OnOk result (Passed self.old self.new) }
-    {
-        self.odd_between(start, self.rest, kind)
-    }
-
-    /// Adds such a fault for what begins at `start` and doesn't end, and passes the rest of the text.
-    #[tactic(auto, unfolding(crate::specs::Here::unended))]
-    pub(crate) fn unended(
-        &mut self,
-        start: &'a str,
-        kind: WordFaultKind,
-    ) -> Result<bool, AllocError>
-        requires { length self.old.rest.now ≤ length start.now }
-        ensures read { Builds goes_on self.old self.new result
-            (then (unended (length self.old.text.now) start.now kind) again) }
-        ensures passed { OnOk result (Passed self.old self.new) }
-    {
-        self.odd_from(start, kind)?;
-        self.pass(Class::Any);
-        Ok(true)
-    }
+/// The span from where `start` begins to where `end` does, two rests of the text.
+fn span_between(text: &str, start: &str, end: &str) -> Span
+    requires { length end.now ≤ length start.now }
+    ensures { result ≡ span_between (length text.now) start.now end.now }
+{
+    let start = text.len().saturating_sub(start.len());
+    let end = text.len().saturating_sub(end.len());
+    Span::new(start, end)
 }

@@ -10,7 +10,8 @@ ghost use Rattle.bison_words.specs.TextWords.{mark_then, sections, text_words};
 
 use crate::class::Class;
 use crate::directive::{Directive, directive_named};
-use crate::runs::run;
+use crate::names::{is_colon, is_identifier};
+use crate::runs::{begins, run, starts};
 use crate::scanner::Scanner;
 use crate::words::{Lexeme, WordFaultKind, Words};
 use constructs::after_word;
@@ -22,7 +23,7 @@ fn is_predicate(text: &str) -> bool
     ensures { result ≡ is_predicate text.now }
 {
     match after_word(text, "%?") {
-        Some(rest) => after_word(run(rest, Class::Space).1, "{").is_some(),
+        Some(rest) => begins(run(rest, Class::Space).1, "{"),
         None => false,
     }
 }
@@ -32,19 +33,19 @@ fn is_predicate(text: &str) -> bool
 fn is_equals(text: &str) -> bool
     ensures { result ≡ is_equals text.now }
 {
-    after_word(run(text, Class::Space).1, "=").is_some()
+    begins(run(text, Class::Space).1, "=")
+}
+
+/// Whether the text begins with `;`, `|`, `=` or a colon.
+#[tactic(auto, unfolding(crate::specs::TextWords::is_mark))]
+fn is_mark(text: &str) -> bool
+    ensures { result ≡ is_mark text.now }
+{
+    starts(text, Class::Mark) || is_colon(text)
 }
 
 impl<'a> Scanner<'a> {
     ghost use Rattle.bison_words.specs.Inner.Builds.{Builds, Passed};
-
-    /// Whether `;`, `|`, `=` or a colon is here.
-    #[tactic(auto, unfolding(crate::specs::TextWords::is_mark))]
-    fn is_mark(&self) -> bool
-        ensures { result ≡ is_mark self.now.rest.now }
-    {
-        self.starts_with(Class::Mark) || self.is_colon()
-    }
 
     /// Passes a blank and a `=`.
     #[tactic(auto, unfolding(crate::specs::TextWords::equals))]
@@ -81,9 +82,9 @@ impl<'a> Scanner<'a> {
         match self.some(Class::NameByte) {
             Some(name) => match directive_named(name) {
                 Some(directive) => self.directive_end(start, directive),
-                None => self.odd_from(start, WordFaultKind::UnknownDirective),
+                None => self.odd_between(start, self.rest, WordFaultKind::UnknownDirective),
             },
-            None => self.odd_from(start, WordFaultKind::IllegalCharacters),
+            None => self.odd_between(start, self.rest, WordFaultKind::IllegalCharacters),
         }
     }
 
@@ -96,10 +97,10 @@ impl<'a> Scanner<'a> {
         if !self.accept("%") {
             return Ok(false);
         }
-        if self.starts_with(Class::Letter) {
+        if starts(self.rest, Class::Letter) {
             return self.directive_name(start);
         }
-        self.odd_from(start, WordFaultKind::IllegalCharacters)
+        self.odd_between(start, self.rest, WordFaultKind::IllegalCharacters)
     }
 
     /// Passes a word that begins with `%`.
@@ -108,7 +109,7 @@ impl<'a> Scanner<'a> {
         ensures read { Builds goes_on self.old self.new result (percent (length self.old.text.now)) }
         ensures passed { OnOk result (Passed self.old self.new) }
     {
-        if self.begins("%{") {
+        if begins(self.rest, "%{") {
             self.prologue()
         } else if is_predicate(self.rest) {
             self.predicate()
@@ -118,20 +119,20 @@ impl<'a> Scanner<'a> {
     }
 
     /// Passes a word in brackets or quotes, or what can't begin a word.
-    #[tactic(auto, unfolding(crate::specs::TextWords::bracketed))]
+    #[tactic(auto, unfolding(crate::specs::TextWords::bracketed, crate::specs::Quotes::string))]
     fn bracketed(&mut self) -> Result<bool, AllocError>
         ensures read { Builds goes_on self.old self.new result (bracketed (length self.old.text.now)) }
         ensures passed { OnOk result (Passed self.old self.new) }
     {
-        if self.begins("'") {
+        if begins(self.rest, "'") {
             self.literal()
-        } else if self.begins("\"") {
-            self.string()
-        } else if self.begins("<") {
+        } else if begins(self.rest, "\"") {
+            self.string_word(self.rest, "\"", false)
+        } else if begins(self.rest, "<") {
             self.tag()
-        } else if self.begins("[") {
+        } else if begins(self.rest, "[") {
             self.name()
-        } else if self.begins("{") {
+        } else if begins(self.rest, "{") {
             self.code()
         } else {
             self.odd()
@@ -144,15 +145,15 @@ impl<'a> Scanner<'a> {
         ensures read { Builds goes_on self.old self.new result (word (length self.old.text.now)) }
         ensures passed { OnOk result (Passed self.old self.new) }
     {
-        if self.begins("%") {
+        if begins(self.rest, "%") {
             self.percent()
-        } else if self.begins("_(\"") {
+        } else if begins(self.rest, "_(\"") {
             self.translatable()
-        } else if self.is_identifier() {
+        } else if is_identifier(self.rest) {
             self.identifier()
-        } else if self.starts_with(Class::Digit) {
+        } else if starts(self.rest, Class::Digit) {
             self.number()
-        } else if self.is_mark() {
+        } else if is_mark(self.rest) {
             self.mark()
         } else {
             self.bracketed()
@@ -166,7 +167,7 @@ impl<'a> Scanner<'a> {
         ensures passed { OnOk result (Passed self.old self.new) }
     {
         self.blank()?;
-        if self.begins("%%") {
+        if begins(self.rest, "%%") {
             return Ok(false);
         }
         self.word()
@@ -181,18 +182,8 @@ impl<'a> Scanner<'a> {
         Ok(())
     }
 
-    /// Passes what follows the second `%%`.
-    #[tactic(auto, unfolding(crate::specs::TextWords::epilogue))]
-    fn epilogue(&mut self) -> Result<(), AllocError>
-        ensures read { Builds (λ x. x) self.old self.new result (epilogue (length self.old.text.now)) }
-        ensures passed { OnOk result (Passed self.old self.new) }
-    {
-        self.epilogue = Some(self.rest);
-        self.code_pieces()
-    }
-
     /// Passes a second `%%`, if it is here, and what follows it.
-    #[tactic(auto, unfolding(crate::specs::TextWords::mark_then))]
+    #[tactic(auto, unfolding(crate::specs::TextWords::mark_then, crate::specs::TextWords::epilogue))]
     fn last_section(&mut self) -> Result<(), AllocError>
         ensures read { Builds (λ x. x) self.old self.new result
             (mark_then (length self.old.text.now) (epilogue (length self.old.text.now))) }
@@ -202,8 +193,9 @@ impl<'a> Scanner<'a> {
         if !self.accept("%%") {
             return Ok(());
         }
-        self.word_from(start, Lexeme::Mark)?;
-        self.epilogue()
+        self.word_between(start, self.rest, Lexeme::Mark)?;
+        self.epilogue = Some(self.rest);
+        self.code_pieces()
     }
 
     /// Passes words, and what follows a `%%`.
@@ -217,7 +209,7 @@ impl<'a> Scanner<'a> {
         if !self.accept("%%") {
             return Ok(());
         }
-        self.word_from(start, Lexeme::Mark)?;
+        self.word_between(start, self.rest, Lexeme::Mark)?;
         self.words()?;
         self.last_section()
     }
@@ -229,7 +221,7 @@ impl<'a> Scanner<'a> {
     {
         self.line_number();
         self.sections()?;
-        self.word_from(self.rest, Lexeme::End)
+        self.word_between(self.rest, self.rest, Lexeme::End)
     }
 }
 
