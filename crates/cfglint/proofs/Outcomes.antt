@@ -8,6 +8,7 @@ use Rattle.cfgdriver.specs.ReadText.{IsMadeOf, greatest}
 use Rattle.cfglint_shell.specs.declared.file_kind.FileKind.{FileKind}
 use Rattle.cfglint_shell.specs.declared.linter.LintOptions.{LintOptions}
 use Rattle.cfglint_shell.specs.Tally.{Printed}
+use Rattle.cfglint.specs.FileLevels.{yacc_levels}
 use Rattle.cfglint.specs.ReportedLines.{ReportsErrors, ReportsFindings}
 use Rattle.cfglint.specs.YaccReports.{IsFoundOutcome, IsOutcome, IsRefusedOutcome, ReportsYacc}
 use Rattle.cfglint.specs.declared.yacc.Outcome.{Outcome}
@@ -21,7 +22,7 @@ module _ (options : LintOptions) (name text : List ℕ) where
 
   abbrev MakesReport : Found → Printed → Type 0
   MakesReport = IsMadeOf (ReportsErrors options.format options.columns options.colors name text)
-      (λ s g. ReportsFindings options.format options.columns options.colors name text options.shows_states options.levels s g [])
+      (λ s g. ReportsFindings options.format options.columns options.colors name text options.shows_states (yacc_levels options.levels) s g [])
 
   -- it is the same whatever kind its report says
   pub outcome_as : (outcome : Outcome) (kind : Option FileKind) (found : Found) → Makes found outcome
