@@ -6,8 +6,7 @@ use Rattle.cfglint.proofs.yacc.FileReporterTextReaderOutcome.grammar.Goals as go
 
 pub returns : goal.returns
 returns c =
-    let reporter = c.args.self.now in
-    (
+    let reporter = c.args.self.now in (
       subst (λ (reporter : FileReporter). ReportsFindings reporter.options.format reporter.options.columns reporter.options.colors reporter.name.now
           c.args.text.now reporter.options.shows_states reporter.options.levels (syntax c.args.ast.now) c.args.grammar.now [] c.in_ok-report.report)
           (c.with_levels-reporter.ensures ∙ ap (λ levels. record reporter { options = record reporter.options { levels = levels } }) c.yacc_levels.ensures)
