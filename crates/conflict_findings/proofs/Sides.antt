@@ -11,10 +11,10 @@ use Rattle.cfgrammar.specs.NumberedSymbols.{sym_of}
 use Rattle.cfgrammar.specs.Openings.{nth_production}
 use Rattle.cfgrammar.proofs.Turns.{All-shown}
 use Rattle.lr_states.specs.declared.Item.{Item}
-use Rattle.lr_lookaheads.specs.Lookaheads.{HasUsed}
-use Rattle.lr_lookaheads.proofs.Bounds.{symbols_within}
-use Rattle.conflict_examples.specs.Examples.{IsSide, prefix_of, rest_of}
-use Rattle.conflict_examples.specs.declared.Side.{Side}
+use Rattle.lr_states.specs.Lookaheads.{HasUsed}
+use Rattle.lr_states.proofs.Bounds.{symbols_within}
+use Rattle.lr_conflicts.specs.Examples.{IsSide, prefix_of, rest_of}
+use Rattle.lr_conflicts.specs.declared.examples.Side.{Side}
 use Rattle.conflict_findings.specs.Inner.Within.{AreSymbolsWithin}
 
 module _ {A : Type 0} (P : A → Type 0) where

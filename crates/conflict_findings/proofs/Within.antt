@@ -11,7 +11,7 @@ use Rattle.lr_conflicts.specs.declared.Conflict.{Conflict}
 use Rattle.lr_conflicts.specs.declared.clashes.Clash.{Clash}
 use Rattle.lr_conflicts.specs.Clashes.{IsIn, ShiftsBy, next, accepts, shift, reduce}
 use Rattle.lr_conflicts.specs.Conflicts.{ConflictTables, IsConflict, items_of, read_item}
-use Rattle.conflict_examples.specs.Examples.{AreOf}
+use Rattle.lr_conflicts.specs.Examples.{AreOf}
 use Rattle.conflict_findings.specs.Inner.Within.{AreWithin, IsAmong, IsItem, IsWithin}
 
 module _ (g : Numbered) (x : ConflictTables) (of : AreOf g x) where

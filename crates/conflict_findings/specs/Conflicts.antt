@@ -11,8 +11,8 @@ use Rattle.lr_conflicts.specs.declared.Conflict.{Conflict}
 use Rattle.lr_conflicts.specs.declared.clashes.Clash.{Clash}
 use Rattle.lr_conflicts.specs.Conflicts.{AreConflicts, ConflictTables}
 use Rattle.lr_conflicts.specs.Clashes.{AreClashes, IsIn}
-use Rattle.conflict_examples.specs.Examples.{IsExample}
-use Rattle.conflict_examples.specs.declared.Example.{Example}
+use Rattle.lr_conflicts.specs.Examples.{IsExample}
+use Rattle.lr_conflicts.specs.declared.examples.Example.{Example}
 use Rattle.conflict_findings.specs.Shown.{clash_finding, example_text, unmet}
 
 -- the same but for the token

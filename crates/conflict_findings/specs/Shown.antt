@@ -15,9 +15,9 @@ use Rattle.text_findings.specs.Finding.{ShownFinding}
 use Rattle.text_findings.specs.Named.{production_span, quoted, rule_name, token_name}
 use Rattle.lr_states.specs.declared.Item.{Item}
 use Rattle.lr_conflicts.specs.declared.clashes.Clash.{Clash}
-use Rattle.conflict_examples.specs.Examples.{prefix_of, rest_of}
-use Rattle.conflict_examples.specs.declared.Example.{Example}
-use Rattle.conflict_examples.specs.declared.Side.{Side}
+use Rattle.lr_conflicts.specs.Examples.{prefix_of, rest_of}
+use Rattle.lr_conflicts.specs.declared.examples.Example.{Example}
+use Rattle.lr_conflicts.specs.declared.examples.Side.{Side}
 
 abbrev pub clash_kind : Clash → FindingKind
 clash_kind clash = if clash.shifts then ShiftReduce else ReduceReduce

@@ -10,7 +10,7 @@ use Rattle.lr_states.specs.Automaton.{AreGotos, HaveTargets}
 use Rattle.lr_states.specs.Viable.{AreStates, IsUsed}
 use Rattle.lr_states.specs.declared.Item.{Item}
 use Rattle.lr_states.specs.declared.kernels.Target.{Target}
-use Rattle.lr_lookaheads.specs.Lookaheads.{AreLookaheads, tokens_of}
+use Rattle.lr_states.specs.Lookaheads.{AreLookaheads, tokens_of}
 use Rattle.lr_conflicts.specs.declared.Conflict.{Conflict}
 use Rattle.lr_conflicts.specs.Conflicts.{AreConflicts, ConflictTables}
 use Rattle.conflict_findings.specs.Shown.{item_text, production_text, symbols_of, token_text, tokens_text}

@@ -2,14 +2,14 @@
 
 ghost use Rattle.std.specs.Prelude.{◌≡◌, All, IfOk, map, option_map, string_bytes};
 ghost use Rattle.cfgrammar.specs.Accessors.{IsSymbolWithin};
-ghost use Rattle.conflict_examples.specs.Examples.{AreOf};
+ghost use Rattle.lr_conflicts.specs.Examples.{AreOf};
 ghost use Rattle.conflict_findings.specs.Conflicts.{IsNote};
 ghost use Rattle.conflict_findings.specs.Inner.Within.{AreSymbolsWithin, IsAmong};
 ghost use Rattle.conflict_findings.specs.Shown.{example_text, side_text};
 
 use crate::symbols::write_dotted;
 use cfgrammar::yacc::YaccGrammar;
-use conflict_examples::{Example, Side, example_of};
+use lr_conflicts::examples::{Example, Side, example_of};
 use lr_conflicts::{Clash, Conflicts};
 use std::alloc::{AllocError, Global};
 

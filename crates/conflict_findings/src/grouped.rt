@@ -3,7 +3,7 @@
 ghost use Rattle.std.specs.Prelude.{◌≡◌, ◌↔◌, ◌++◌, ◌≤◌, List, All, Contains, IfOk, IsTrue, OnOk};
 ghost use Rattle.std.specs.Prelude.{drop, if◌then◌else◌, length, take};
 ghost use Rattle.std.specs.List.{filter};
-ghost use Rattle.conflict_examples.specs.Examples.{AreOf};
+ghost use Rattle.lr_conflicts.specs.Examples.{AreOf};
 ghost use Rattle.conflict_findings.specs.Conflicts.{AreGrouped, BeginsOther, IsLike, most_examples};
 ghost use Rattle.conflict_findings.specs.Inner.Within.{IsAmong};
 ghost use Rattle.lr_conflicts.specs.Clashes.{AreClashes};

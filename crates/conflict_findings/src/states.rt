@@ -17,7 +17,7 @@ use cfgrammar::storage::to_storage;
 use cfgrammar::yacc::YaccGrammar;
 use cfgrammar::{RIdx, Visible, Vob};
 use lr_conflicts::{Conflict, Conflicts};
-use lr_lookaheads::Lookaheads;
+use lr_states::lookaheads::Lookaheads;
 use lr_states::tables::symbols_of;
 use lr_states::{Item, Target};
 use std::alloc::{AllocError, Global};

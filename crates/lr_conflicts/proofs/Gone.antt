@@ -10,7 +10,7 @@ use Rattle.lr_states.specs.Viable.{HasNext, IsUsed, item_at}
 use Rattle.lr_states.specs.declared.Item.{Item}
 use Rattle.lr_states.proofs.Closed.{next_symbol}
 use Rattle.lr_states.proofs.Spines.{viable_read}
-use Rattle.lr_lookaheads.specs.Lookaheads.{LookaheadTables}
+use Rattle.lr_states.specs.Lookaheads.{LookaheadTables}
 use Rattle.lr_conflicts.specs.Conflicts.{Goes, IsEntered, items_of, next, rule, token}
 use Rattle.lr_conflicts.specs.Inner.Choices.{AreTables, GoesBy, IsPassed}
 

@@ -12,7 +12,7 @@ use Rattle.cfgrammar.proofs.Contained.{contains_mapped}
 use Rattle.cfgrammar.proofs.Taken.{contains_taken}
 use Rattle.lr_states.specs.declared.Item.{Item}
 use Rattle.lr_states.specs.Viable.{IsUsed}
-use Rattle.lr_lookaheads.specs.Lookaheads.{AreLookaheads, LookaheadTables}
+use Rattle.lr_states.specs.Lookaheads.{AreLookaheads, LookaheadTables}
 use Rattle.lr_conflicts.specs.Conflicts.{CanShift, accepts, items_of, next, read_item}
 use Rattle.lr_conflicts.specs.Inner.Choices.{AreReductions, IsReducible, IsReductionAt}
 use Rattle.lr_conflicts.specs.Tables.{IsShiftedBy}

@@ -9,7 +9,7 @@ use Rattle.cfgrammar.specs.Openings.{nth_production}
 use Rattle.lr_states.specs.Automaton.{Automaton, goto_of}
 use Rattle.lr_states.specs.Viable.{HasNext, IsUsed, item_at}
 use Rattle.lr_states.specs.declared.Item.{Item}
-use Rattle.lr_lookaheads.specs.Lookaheads.{IsLookahead, LookaheadTables}
+use Rattle.lr_states.specs.Lookaheads.{IsLookahead, LookaheadTables}
 use Rattle.lr_conflicts.specs.Precedences.{production_precedence, settled, token_precedence}
 use Rattle.lr_conflicts.specs.declared.Conflict.{Conflict}
 use Rattle.lr_conflicts.specs.declared.precedences.Settled.{Settled}

@@ -2,3 +2,8 @@
 pub mod Choices
 pub mod Listed
 pub mod Pushed
+pub mod Ways
+pub mod Tables
+pub mod Searches
+pub mod Clashing
+pub mod Finders

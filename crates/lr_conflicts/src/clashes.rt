@@ -143,7 +143,7 @@ fn push_against(
 }
 
 /// The items of a state. A state that isn't there has none.
-fn items_of(states: &States, number: usize) -> &[Item]
+pub(crate) fn items_of(states: &States, number: usize) -> &[Item]
     ensures { result.now ≡ items_of states.now number }
 {
     if number < states.len() {

@@ -1,9 +1,10 @@
 //! Where a grammar isn't LALR(1): states and tokens at which a parser could go on in two ways, after precedence has
-//! settled what it can.
+//! settled what it can; and examples of that.
 #![tactic(auto)]
 
 mod clashes;
 mod entered;
+pub mod examples;
 mod listed;
 mod parser;
 mod precedences;
@@ -15,7 +16,7 @@ ghost use Rattle.lr_conflicts.specs.Clashes.{AreClashes};
 ghost use Rattle.lr_conflicts.specs.Conflicts.{AreConflicts};
 ghost use Rattle.lr_conflicts.specs.declared.Conflict.{Conflict};
 ghost use Rattle.lr_conflicts.specs.Inner.Choices.{AreTables};
-ghost use Rattle.lr_lookaheads.specs.Lookaheads.{AreLookaheads};
+ghost use Rattle.lr_states.specs.Lookaheads.{AreLookaheads};
 ghost use Rattle.lr_states.specs.Automaton.{AreGotos, HaveTargets};
 ghost use Rattle.lr_states.specs.Viable.{AreStates, IsUsed};
 
@@ -23,7 +24,7 @@ use crate::parser::Parser;
 use cfgrammar::bison::Associativity;
 use cfgrammar::yacc::YaccGrammar;
 pub use clashes::Clash;
-use lr_lookaheads::Lookaheads;
+use lr_states::lookaheads::Lookaheads;
 pub use precedences::Settled;
 use std::alloc::{AllocError, Global};
 use std::marker::Model;

@@ -12,8 +12,8 @@ use crate::tables::{is_reducible, production_precedence, read_item, token_preced
 use cfgrammar::Vob;
 use cfgrammar::bison::Associativity;
 use cfgrammar::yacc::{Precedence, YaccGrammar};
-use lr_lookaheads::Lookaheads;
 use lr_states::Item;
+use lr_states::lookaheads::Lookaheads;
 use std::alloc::{AllocError, Global};
 
 /// What a parser goes by: a grammar, how the operators of its levels of precedences associate, and the lookaheads of

@@ -2,3 +2,7 @@
 pub mod Closure
 pub mod Steps
 pub mod Kernels
+pub mod Graph
+pub mod Reached
+pub mod Numbers
+pub mod Edges

@@ -1,3 +1,4 @@
 pub mod Viable
 pub mod Automaton
+pub mod Lookaheads
 pub mod Inner

@@ -1,9 +1,10 @@
 //! The states of a grammar's LR(0) automaton: for each viable prefix the items that are valid for it (Aho, Lam, Sethi
-//! and Ullman, 4.6). Productions with a rule that has no sentence take no part.
+//! and Ullman, 4.6); and the lookaheads of their items. Productions with a rule that has no sentence take no part.
 #![tactic(auto)]
 
 mod closure;
 mod kernels;
+pub mod lookaheads;
 mod successors;
 pub mod tables;
 mod used;

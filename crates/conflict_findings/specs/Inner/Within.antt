@@ -9,7 +9,7 @@ use Rattle.lr_conflicts.specs.declared.Conflict.{Conflict}
 use Rattle.lr_conflicts.specs.declared.clashes.Clash.{Clash}
 use Rattle.lr_conflicts.specs.Clashes.{IsIn}
 use Rattle.lr_conflicts.specs.Conflicts.{ConflictTables}
-use Rattle.conflict_examples.specs.declared.Side.{Side}
+use Rattle.lr_conflicts.specs.declared.examples.Side.{Side}
 
 -- its productions and its token exist, and so much of the other production can be read
 pub record IsWithin (g : Numbered) (clash : Clash) : Type 0 where

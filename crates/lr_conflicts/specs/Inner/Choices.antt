@@ -7,7 +7,7 @@ use Rattle.cfgrammar.specs.Numbered.{Numbered, core}
 use Rattle.lr_states.specs.Automaton.{AreGotos, Automaton, goto_of}
 use Rattle.lr_states.specs.Viable.{AreStates, HasNext, IsUsed}
 use Rattle.lr_states.specs.declared.Item.{Item}
-use Rattle.lr_lookaheads.specs.Lookaheads.{AreLookaheads, LookaheadTables, tokens_of}
+use Rattle.lr_states.specs.Lookaheads.{AreLookaheads, LookaheadTables, tokens_of}
 use Rattle.lr_conflicts.specs.Conflicts.{CanReduce, CanShift, TakesShift, items_of, read_item}
 use Rattle.lr_conflicts.specs.Precedences.{production_precedence, settled, token_precedence}
 use Rattle.lr_conflicts.specs.declared.listed.Turn.{Turn}

@@ -4,8 +4,8 @@ use Rattle.lr_states.specs.Automaton.{Automaton}
 use Rattle.lr_states.specs.Viable.{IsUsed}
 use Rattle.lr_conflicts.specs.declared.Conflict.{Conflict}
 use Rattle.lr_conflicts.specs.declared.clashes.Clash.{Clash}
-use Rattle.conflict_examples.specs.Examples.{IsExampleIn}
-use Rattle.conflict_examples.specs.declared.Example.{Example}
+use Rattle.lr_conflicts.specs.Examples.{IsExampleIn}
+use Rattle.lr_conflicts.specs.declared.examples.Example.{Example}
 use Rattle.conflict_findings.specs.Conflicts.{IsNote}
 use Rattle.conflict_findings.specs.Shown.{example_text}
 use Rattle.conflict_findings.proofs.Sides.{side_within}

@@ -3,7 +3,7 @@ use Rattle.std.proofs.lemmas.List.{length-map}
 use Rattle.std.proofs.lemmas.Result.{on_ok_weaker}
 use Rattle.cfgrammar.specs.Numbered.{Numbered}
 use Rattle.lr_states.specs.declared.Item.{Item}
-use Rattle.lr_lookaheads.specs.Lookaheads.{tokens_of}
+use Rattle.lr_states.specs.Lookaheads.{tokens_of}
 use Rattle.lr_conflicts.specs.Conflicts.{ConflictTables}
 use Rattle.conflict_findings.specs.Shown.{symbols_of, tokens_text}
 use Rattle.conflict_findings.specs.States.{action_line, action_text, tokens_in}

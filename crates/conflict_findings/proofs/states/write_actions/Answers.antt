@@ -2,7 +2,7 @@ use Rattle.std.proofs.Common.{[], Contains, ap, get_or, subst, ◌∙◌}
 use Rattle.std.proofs.lemmas.List.Elements.{Contains-get_or}
 use Rattle.lr_states.specs.Automaton.{Automaton}
 use Rattle.lr_states.specs.Viable.{item_at}
-use Rattle.lr_lookaheads.specs.Lookaheads.{LookaheadTables}
+use Rattle.lr_states.specs.Lookaheads.{LookaheadTables}
 use Rattle.conflict_findings.proofs.states.write_actions.Goals as goal
 
 pub write_action-requires-clause-within : goal.write_action-requires-clause-within

@@ -1,6 +1,6 @@
 use Rattle.std.proofs.Common.{[], Contains, ap, get_or, subst, ◌∙◌}
 use Rattle.lr_states.specs.Automaton.{Automaton}
-use Rattle.lr_lookaheads.specs.Lookaheads.{LookaheadTables}
+use Rattle.lr_states.specs.Lookaheads.{LookaheadTables}
 use Rattle.conflict_findings.proofs.states.write_state.Goals as goal
 
 pub write_items-requires : goal.write_items-requires

@@ -1,7 +1,7 @@
 use Rattle.std.proofs.Common.{inl, inr, Contains, IfSome, ap, is_some, subst, sym, ◌≡◌, ◌∙◌}
 use Rattle.std.proofs.lemmas.Bool.{cases_Bool}
 use Rattle.lemmas.proofs.Options.{None-from_is_some}
-use Rattle.lr_lookaheads.specs.Lookaheads.{tokens_of}
+use Rattle.lr_states.specs.Lookaheads.{tokens_of}
 use Rattle.lr_conflicts.specs.Inner.Choices.{items_in}
 use Rattle.lr_conflicts.proofs.parser.Parser.reduction.Goals as goal
 

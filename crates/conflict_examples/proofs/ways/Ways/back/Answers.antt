@@ -1,6 +1,0 @@
-use Rattle.std.proofs.Common.{◌+◌, ap, drop, ◌∙◌}
-use Rattle.conflict_examples.proofs.Showing.{tail_of}
-use Rattle.conflict_examples.proofs.ways.Ways.back.Goals as goal
-
-pub returns-clause-symbols : goal.returns-clause-symbols
-returns-clause-symbols c = tail_of (c.args.item.read + 1) c.symbols_of.result.now ∙ ap (drop (c.args.item.read + 1)) c.symbols_of.ensures.symbols

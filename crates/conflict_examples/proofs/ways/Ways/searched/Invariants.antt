@@ -1,8 +1,0 @@
-use Rattle.conflict_examples.specs.Inner.Searches.{grammar_of, used_of}
-use Rattle.conflict_examples.specs.Inner.Tables.{step_of}
-use Rattle.conflict_examples.proofs.Explored.{IsPartly}
-use Rattle.conflict_examples.proofs.ways.Ways.searched.Given as goal
-
--- what the nodes so far lead to is found
-abbrev pub invariant-loop-number : goal.invariant-loop-number
-invariant-loop-number l = IsPartly (grammar_of l.self) (used_of l.self) (step_of l.self.road) l.self.token l.number l.found.entries

@@ -1,6 +1,0 @@
--- Definitions for the crate's private clauses. No public call depends on them.
-pub mod Ways
-pub mod Tables
-pub mod Searches
-pub mod Clashing
-pub mod Finders

@@ -1,7 +1,0 @@
-use Rattle.cfgrammar.specs.Numbered.{core}
-use Rattle.lr_lookaheads.proofs.Rests.{AreSoFar}
-use Rattle.lr_lookaheads.proofs.nodes.rests.Given as goal
-
--- the first nodes of the productions so far are there, and the one after them
-abbrev pub invariant-loop-production : goal.invariant-loop-production
-invariant-loop-production l = AreSoFar (core l.grammar) l.first l.production l.rests.items l.end

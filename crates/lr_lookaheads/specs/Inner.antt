@@ -1,5 +1,0 @@
--- Definitions for the crate's private clauses. No public call depends on them.
-pub mod Graph
-pub mod Reached
-pub mod Numbers
-pub mod Edges

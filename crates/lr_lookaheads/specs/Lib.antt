@@ -1,2 +1,0 @@
-pub mod Lookaheads
-pub mod Inner
