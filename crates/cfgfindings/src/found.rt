@@ -1,8 +1,8 @@
 //! All findings about a grammar.
 
-ghost use Rattle.std.specs.Prelude.{◌≡◌, IfOk};
+ghost use Rattle.std.specs.Prelude.{◌≡◌, ◌++◌, IfOk, OnOk};
 ghost use Rattle.cfgrammar.specs.TreeView.{syntax};
-ghost use Rattle.cfgfindings.specs.Findings.{AreFindings};
+ghost use Rattle.cfgfindings.specs.Findings.{AreFindings, AreReportedInTurn};
 
 use crate::cyclic_rules::push_cycles;
 use crate::declarations::push_declarations;
@@ -41,22 +41,65 @@ pub fn findings(
         associativities.now all.items) }
 {
     let mut all = Vec::new(alloc);
-    push_unused(alloc, &mut all, ast)?;
-    let unproductive = Unproductive::new(alloc, grammar)?;
-    push_unproductive(alloc, &mut all, ast, &unproductive)?;
-    push_unusable(alloc, &mut all, &unproductive)?;
-    push_useless(alloc, &mut all, &unproductive)?;
-    push_cycles(alloc, &mut all, grammar)?;
-    push_repeats(alloc, &mut all, grammar)?;
-    push_precedences(alloc, &mut all, ast)?;
-    push_declarations(alloc, &mut all, ast)?;
-    push_glued(alloc, &mut all, text, ast)?;
-    push_needless(alloc, &mut all, ast, &unproductive)?;
-    push_escaped(alloc, &mut all, ast)?;
-    push_implicitly_empty(alloc, &mut all, text, ast)?;
-    push_conflicts(alloc, &mut all, ast, grammar, associativities)?;
-    push_file_findings(alloc, &mut all, text, ast)?;
-    push_bison_findings(alloc, &mut all, text)?;
+    push_findings(alloc, &mut all, text, ast, grammar, associativities)?;
     all.sort_by_key(|finding| finding.offset())?;
     Ok(all)
+}
+
+/// Adds the findings in the order of their kinds.
+fn push_findings(
+    alloc: Global,
+    all: &mut Vec<Finding>,
+    text: &str,
+    ast: &GrammarAST,
+    grammar: &YaccGrammar<u32>,
+    associativities: &[Associativity],
+) -> Result<(), AllocError>
+    ensures { OnOk result ((reported : _)
+        × AreReportedInTurn text.now (syntax ast.now) grammar.now associativities.now reported
+        × (all.new.items ≡ all.old.items ++ reported)) }
+{
+    let unproductive = Unproductive::new(alloc, grammar)?;
+    push_in_turn(
+        alloc,
+        all,
+        text,
+        ast,
+        grammar,
+        &unproductive,
+        associativities,
+    )
+}
+
+/// Adds the findings in the order of their kinds, with what is unproductive in the grammar.
+fn push_in_turn(
+    alloc: Global,
+    all: &mut Vec<Finding>,
+    text: &str,
+    ast: &GrammarAST,
+    grammar: &YaccGrammar<u32>,
+    unproductive: &Unproductive<'_>,
+    associativities: &[Associativity],
+) -> Result<(), AllocError>
+    requires { unproductive.now ≡ grammar.now }
+    ensures { OnOk result ((reported : _)
+        × AreReportedInTurn text.now (syntax ast.now) grammar.now associativities.now reported
+        × (all.new.items ≡ all.old.items ++ reported)) }
+{
+    push_unused(alloc, all, ast)?;
+    push_unproductive(alloc, all, ast, unproductive)?;
+    push_unusable(alloc, all, unproductive)?;
+    push_useless(alloc, all, unproductive)?;
+    push_cycles(alloc, all, grammar)?;
+    push_repeats(alloc, all, grammar)?;
+    push_precedences(alloc, all, ast)?;
+    push_declarations(alloc, all, ast)?;
+    push_glued(alloc, all, text, ast)?;
+    push_needless(alloc, all, ast, unproductive)?;
+    push_escaped(alloc, all, ast)?;
+    push_implicitly_empty(alloc, all, text, ast)?;
+    push_conflicts(alloc, all, ast, grammar, associativities)?;
+    push_file_findings(alloc, all, text, ast)?;
+    push_bison_findings(alloc, all, text)?;
+    Ok(())
 }

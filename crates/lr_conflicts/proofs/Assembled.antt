@@ -25,7 +25,7 @@ use Rattle.lr_conflicts.specs.Inner.Tables.{along}
 use Rattle.lr_conflicts.specs.Inner.Ways.{IsReached, item_node, run}
 use Rattle.lr_conflicts.proofs.Along.{run_whole, runs_whole}
 use Rattle.lr_conflicts.proofs.Derived.{prefix_symbols}
-use Rattle.lr_conflicts.proofs.Entered.{followed_reached, item_reached}
+use Rattle.lr_conflicts.proofs.EnteredItems.{followed_reached, item_reached}
 use Rattle.lr_conflicts.proofs.Places.{led_state, state_leads, step}
 use Rattle.lr_conflicts.proofs.Sides.{next_begins, start_ends, start_rule}
 

@@ -7,7 +7,7 @@ pub mod Gone
 pub mod Sorted
 pub mod Runs
 pub mod Shown
-pub mod Entered
+pub mod EnteredItems
 pub mod Found
 pub mod Compared
 pub mod Entering
