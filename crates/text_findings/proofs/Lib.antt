@@ -1,1 +1,2 @@
 mod ReferenceSteps
+mod NoReports

@@ -1,5 +1,5 @@
 -- Steps of the loops over references, and over the symbols before them.
-use Rattle.std.proofs.Common.{◌≡◌, ℕ, ◌+◌, ◌<◌, ◌≤◌, cond, not, nat_lt, List, ◌∷◌, map, drop, take, length, get_or, Some, sym, ap, subst, ◌∙◌, arith, below_more, lt-ltb}
+use Rattle.std.proofs.Common.{◌≡◌, ℕ, ◌+◌, ◌<◌, ◌≤◌, cond, not, nat_lt, List, ◌∷◌, map, drop, length, get_or, Some, sym, ap, subst, ◌∙◌, arith, below_more, lt-ltb}
 use Rattle.std.proofs.lemmas.Bool.{le-ltb}
 use Rattle.std.proofs.lemmas.List.{drop_more, length-map}
 use Rattle.std.proofs.lemmas.List.Sums.{fold_more}

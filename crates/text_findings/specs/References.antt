@@ -1,5 +1,5 @@
 -- References of actions to symbols that don't come before them: `$6` where there are three.
-use Rattle.std.specs.Prelude.{◌≡◌, ℕ, Bool, true, false, ◌==◌, ◌||◌, ◌&&◌, ◌+◌, ◌-◌, ◌*◌, ◌<◌, ◌≤◌, List, [], ◌∷◌, ◌++◌, codes, drop, get_or, length, min, nat_le, nat_lt, not, slice_get, take, Option, None, Some, option_map, unwrap_or, if◌then◌else◌}
+use Rattle.std.specs.Prelude.{◌≡◌, ℕ, Bool, true, false, ◌==◌, ◌||◌, ◌&&◌, ◌+◌, ◌-◌, ◌*◌, ◌<◌, List, [], ◌∷◌, ◌++◌, codes, drop, get_or, length, min, nat_le, nat_lt, not, slice_get, take, Option, None, Some, option_map, if◌then◌else◌}
 use Rattle.std.specs.List.{fold, position_or_len, prefix_len}
 use Rattle.std.specs.Fmt.{digits}
 use Rattle.std.specs.Option.{option_map_or}

@@ -42,16 +42,17 @@ pub(crate) fn push_missing_empty(
     ensures { OnOk result ((reported : _) × ReportsBelow (ReportsMissingEmpty text.now (syntax ast.now))
         (length (syntax ast.now).productions) reported × (all.new.items ≡ all.old.items ++ reported)) }
 {
-    let reporter = MissingEmpty {
-        is_said: is_said(text, ast.prods()),
-        empty: ImplicitlyEmpty {
+    if is_said(text, ast.prods()) {
+        let reporter = ImplicitlyEmpty {
             text,
             ast,
             kind: FindingKind::MissingEmpty,
             words: "Empty production without %empty, which another one has",
-        },
-    };
-    push_reported(alloc, all, &reporter, ast.prods().len())
+        };
+        push_reported(alloc, all, &reporter, ast.prods().len())
+    } else {
+        Ok(())
+    }
 }
 
 /// Reports productions without symbols that don't say so.
@@ -98,32 +99,6 @@ impl ImplicitlyEmpty<'_> {
         }
         let words = String::from_str(alloc, self.words)?;
         Ok(Some(Finding::at(alloc, self.kind, production.prod_span, words)?))
-    }
-}
-
-/// Reports productions without symbols that don't say so, if others do.
-#[derive(Drop)]
-struct MissingEmpty<'a> {
-    /// Whether others do.
-    is_said: bool,
-    empty: ImplicitlyEmpty<'a>,
-}
-
-impl Reporter for MissingEmpty<'_> {
-    ghost use Rattle.std.specs.Prelude.{◌≡◌, length, None, if◌then◌else◌};
-    ghost use Rattle.cfgrammar.specs.TreeView.{syntax};
-    ghost use Rattle.text_findings.specs.Empty.{empty_finding};
-
-    ghost count = { λ x. length (syntax x.empty.ast.now).productions };
-
-    ghost reports = { λ x n found. found ≡ (if x.is_said
-        then empty_finding x.empty.kind x.empty.words.now x.empty.text.now (syntax x.empty.ast.now) n else None) };
-
-    fn report(&self, alloc: Global, number: usize) -> Result<Option<Finding>, AllocError> {
-        if !self.is_said {
-            return Ok(None);
-        }
-        self.empty.report(alloc, number)
     }
 }
 

@@ -64,9 +64,7 @@ impl Finding {
           hint = None;
         }) }
     {
-        let mut spans = Vec::new(alloc);
-        spans.push(span)?;
-        Ok(Finding::new(kind, spans, text))
+        Ok(Finding::new(kind, vec![in alloc; span]?, text))
     }
 
     /// A finding at two spans, in this order.
@@ -84,10 +82,7 @@ impl Finding {
           hint = None;
         }) }
     {
-        let mut spans = Vec::new(alloc);
-        spans.push(span)?;
-        spans.push(other)?;
-        Ok(Finding::new(kind, spans, text))
+        Ok(Finding::new(kind, vec![in alloc; span, other]?, text))
     }
 
     /// The same finding with this note on it, if there is one.

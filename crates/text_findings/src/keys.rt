@@ -93,7 +93,7 @@ fn unknown_key(alloc: Global, key: &str, span: Span) -> Result<Finding, AllocErr
 fn is_known(key: &str) -> bool
     ensures { result ≡ is_known key.now }
 {
-    KNOWN_KEYS.iter().any(|other| key == *other)
+    KNOWN_KEYS.contains(&key)
 }
 
 /// The note on a key that nothing looks for: the nearest one of those that something does, or all of them.
@@ -101,8 +101,11 @@ fn key_note(alloc: Global, key: &str) -> Result<String, AllocError>
     ensures { IfOk result (λ words. string_bytes words ≡ key_note key.now) }
 {
     match nearest_key(alloc, key)? {
-        Some(other) => Ok(format!(in alloc; "did you mean '{other}'?")?),
-        None => Ok(format!(in alloc; "the keys are 'yacckind', 'recoverer' and 'test_files'")?),
+        Some(other) => format!(in alloc; "did you mean '{other}'?"),
+        None => String::from_str(
+            alloc,
+            "the keys are 'yacckind', 'recoverer' and 'test_files'",
+        ),
     }
 }
 

@@ -1,13 +1,11 @@
 //! Rules whose type goes on to the type of the next rule, since no `:` ends it.
 
-ghost use Rattle.std.specs.Prelude.{◌≡◌, ◌++◌, false, length, map, option_map, slice_get, IfOk, OnOk};
-ghost use Rattle.std.specs.List.{list_any, slice_split};
+ghost use Rattle.std.specs.Prelude.{◌≡◌, ◌++◌, false, length, option_map, slice_get, IfOk, OnOk};
 ghost use Rattle.std.specs.Option.{option_map_or};
 ghost use Rattle.cfgrammar.specs.TreeView.{syntax};
 ghost use Rattle.cfgrammar.specs.SyntaxView.{rule_view};
 ghost use Rattle.text_findings.specs.Reports.{ReportsBelow};
-ghost use Rattle.text_findings.specs.Swallowed.{ReportsSwallowed, goes_on, has_open_arrow, is_closing_bracket};
-ghost use Rattle.text_findings.specs.Swallowed.{is_semicolon, swallowed};
+ghost use Rattle.text_findings.specs.Swallowed.{ReportsSwallowed, goes_on, has_open_arrow, swallowed};
 
 use crate::finding::{Finding, FindingKind};
 use crate::reporter::{Reporter, push_reported};
@@ -63,7 +61,7 @@ fn rule_at(ast: &GrammarAST, number: usize) -> Option<(&str, &Rule)>
 fn swallowed(alloc: Global, name: &str, rule: &Rule) -> Result<Option<Finding>, AllocError>
     ensures { IfOk result (λ found. found ≡ swallowed (name.now, rule_view rule.now)) }
 {
-    if !type_goes_on(alloc, rule)? {
+    if !type_goes_on(rule) {
         return Ok(None);
     }
     let text = format!(in alloc;
@@ -73,38 +71,23 @@ fn swallowed(alloc: Global, name: &str, rule: &Rule) -> Result<Option<Finding>, 
 }
 
 /// Whether the rule has a type, and that goes on to the type of the next rule.
-fn type_goes_on(alloc: Global, rule: &Rule) -> Result<bool, AllocError>
-    ensures { IfOk result (λ found. found ≡ option_map_or goes_on (rule_view rule.now).action_type false) }
+fn type_goes_on(rule: &Rule) -> bool
+    ensures { result ≡ option_map_or goes_on (rule_view rule.now).action_type false }
 {
     match &rule.actiont {
-        Some(actiont) => goes_on(alloc, actiont),
-        None => Ok(false),
+        Some(actiont) => goes_on(actiont),
+        None => false,
     }
 }
 
 /// Whether a `->` comes after a `;` of the type, without a `]` or another `;` between the two.
-fn goes_on(alloc: Global, actiont: &str) -> Result<bool, AllocError>
-    ensures { IfOk result (λ found. found ≡ goes_on actiont.now) }
+fn goes_on(actiont: &str) -> bool
+    ensures { result ≡ goes_on actiont.now }
 {
-    let pieces = pieces(alloc, actiont)?;
-    match pieces.as_slice() {
-        [_, others @ ..] => Ok(have_open_arrow(others)),
-        [] => Ok(false),
-    }
-}
-
-/// The pieces of a text between its `;`s.
-fn pieces<'a>(alloc: Global, text: &'a str) -> Result<Vec<&'a str>, AllocError>
-    ensures { IfOk result (λ pieces. map (λ piece. piece.now) pieces.items ≡ slice_split is_semicolon text.now) }
-{
-    text.split(';').collect(alloc)
-}
-
-/// Whether one of the pieces has a `->`, and no `]` before the first one.
-fn have_open_arrow(pieces: &[&str]) -> bool
-    ensures { result ≡ list_any (λ piece. has_open_arrow piece.now) pieces.now }
-{
-    pieces.iter().any(|piece| has_open_arrow(piece))
+    actiont
+        .split(';')
+        .skip(1)
+        .any(|piece| has_open_arrow(piece))
 }
 
 /// Whether the text has a `->`, and no `]` before the first one.
@@ -112,14 +95,7 @@ fn has_open_arrow(text: &str) -> bool
     ensures { result ≡ has_open_arrow text.now }
 {
     match split_at_first(text, "->") {
-        Some((before, _)) => !has_closing_bracket(before),
+        Some((before, _)) => !before.as_bytes().contains(&b']'),
         None => false,
     }
-}
-
-/// Whether the text has a `]`.
-fn has_closing_bracket(text: &str) -> bool
-    ensures { result ≡ list_any is_closing_bracket text.now }
-{
-    text.as_bytes().iter().any(|byte| *byte == b']')
 }

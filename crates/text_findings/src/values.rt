@@ -7,7 +7,7 @@ ghost use Rattle.cfgrammar.specs.SyntaxView.{production_view};
 ghost use Rattle.text_findings.specs.Reports.{ReportsBelow};
 ghost use Rattle.text_findings.specs.Values.{ReportsUnreadValue, action_refers, begins_name, is_of, is_read, is_unread};
 ghost use Rattle.text_findings.specs.Values.{begins_with, inherits, is_number, refers, symbol_number};
-ghost use Rattle.text_findings.specs.Values.{unread_in, unread_of, unread_value};
+ghost use Rattle.text_findings.specs.Values.{unread_of, unread_value};
 ghost use Rattle.text_findings.specs.declared.references.Place.TheVariants.{Code};
 
 use crate::empty::{is_action_name, rule_name_at};
@@ -18,7 +18,8 @@ use cfgrammar::Span;
 use cfgrammar::yacc::ast::{GrammarAST, Production};
 use std::alloc::{AllocError, Global};
 
-/// Adds a finding for each action inside of a production that sets its value, which no later action there reads.
+/// Adds a finding for each action inside of a production that sets its value, which no later action there reads. There
+/// is none if an action refers to a value from before its production: which one that is can't be seen.
 pub(crate) fn push_unread_values(
     alloc: Global,
     all: &mut Vec<Finding>,
@@ -27,34 +28,29 @@ pub(crate) fn push_unread_values(
     ensures { OnOk result ((reported : _) × ReportsBelow (ReportsUnreadValue (syntax ast.now))
         (length (syntax ast.now).productions) reported × (all.new.items ≡ all.old.items ++ reported)) }
 {
-    let reporter = UnreadValues {
-        ast,
-        is_inheriting: is_inheriting(ast.prods()),
-    };
-    push_reported(alloc, all, &reporter, ast.prods().len())
+    if is_inheriting(ast.prods()) {
+        Ok(())
+    } else {
+        push_reported(alloc, all, &UnreadValues { ast }, ast.prods().len())
+    }
 }
 
 /// Reports actions whose values aren't read.
 #[derive(Drop)]
 struct UnreadValues<'a> {
     ast: &'a GrammarAST,
-    /// Whether an action refers to a value from before its production. Which one that is can't be seen.
-    is_inheriting: bool,
 }
 
 impl Reporter for UnreadValues<'_> {
-    ghost use Rattle.std.specs.Prelude.{◌≡◌, length, None, if◌then◌else◌};
+    ghost use Rattle.std.specs.Prelude.{◌≡◌, length};
     ghost use Rattle.cfgrammar.specs.TreeView.{syntax};
     ghost use Rattle.text_findings.specs.Values.{unread_at};
 
     ghost count = { λ x. length (syntax x.ast.now).productions };
 
-    ghost reports = { λ x n found. found ≡ (if x.is_inheriting then None else unread_at (syntax x.ast.now) n) };
+    ghost reports = { λ x n found. found ≡ unread_at (syntax x.ast.now) n };
 
     fn report(&self, alloc: Global, number: usize) -> Result<Option<Finding>, AllocError> {
-        if self.is_inheriting {
-            return Ok(None);
-        }
         match self.ast.prods().get(number) {
             Some(production) => unread_of(alloc, self.ast, number, production),
             None => Ok(None),
@@ -82,23 +78,9 @@ fn unread_of(
 ) -> Result<Option<Finding>, AllocError>
     ensures { IfOk result (λ found. found ≡ unread_of (syntax ast.now) number (production_view production.now)) }
 {
-    match rule_name_at(ast, number) {
-        Some(name) => unread_in(alloc, ast, number, name, production),
-        None => Ok(None),
-    }
-}
-
-/// The same, if its rule has this name.
-fn unread_in(
-    alloc: Global,
-    ast: &GrammarAST,
-    number: usize,
-    name: &str,
-    production: &Production,
-) -> Result<Option<Finding>, AllocError>
-    ensures { IfOk result (λ found. found
-        ≡ unread_in (syntax ast.now) number name.now (production_view production.now)) }
-{
+    let Some(name) = rule_name_at(ast, number) else {
+        return Ok(None);
+    };
     if !is_unread(ast, number, name, production) {
         return Ok(None);
     }

@@ -1,4 +1,4 @@
-use Rattle.std.proofs.Common.{ℕ, ap, arith, length, map, subst, sym, ◌<◌, ◌∙◌}
+use Rattle.std.proofs.Common.{ap, arith, map, sym, ◌∙◌}
 use Rattle.std.proofs.lemmas.List.{drop_all}
 use Rattle.cfgrammar.specs.SyntaxView.{production_view, symbol_view}
 use Rattle.text_findings.specs.References.{count_before, place_of}
