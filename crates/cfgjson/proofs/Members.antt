@@ -1,23 +1,41 @@
--- Members in the order of their names, with a note and with symbols.
-use Rattle.std.proofs.Common.{◌≡◌, ℕ, Bool, true, false, List, Option, None, Some, refl}
-use Rattle.serde_json.specs.Data.{Members, object}
-use Rattle.std.specs.Prelude.{map}
+-- Members in the order of their names.
+use Rattle.std.proofs.Common.{◌≡◌, ℕ, Bool, true, false, List, map, Option, None, Some, OnOk, Result, Ok, Err, codes, refl}
+use Rattle.serde_json.specs.Data.{Data, Members, array, member, no_members, object, put, string}
+use Rattle.serde_json.specs.View.{items_of}
 use Rattle.cfgbase.specs.declared.span.Span.{Span}
-use Rattle.cfgjson.specs.Objects.{ShownDiagnostic, diagnostic_object, text_at}
-use Rattle.cfgjson.specs.Inner.{own_members, put_hint, put_symbols}
+use Rattle.cfgjson.specs.Objects.{ShownDiagnostic, diagnostic_object, place_of, text_at}
+use Rattle.cfgjson.specs.Sarif.{location}
+use Rattle.cfgjson.specs.Inner.{put_diagnostic, put_file, put_hint, put_region, put_symbols, severity}
 
 in_order : (name text kind said : List ℕ) (is_error : Bool) (hint : Option (List ℕ)) (has : Bool) (spans : List Span)
     → let shown : ShownDiagnostic = record { is_error = is_error; kind = kind; text = said; hint = hint; spans = spans; has_symbols = has } in
-    object (put_symbols has (map (text_at text) spans) (put_hint hint (own_members name text shown))) ≡ diagnostic_object name text shown
+    object (put_diagnostic name text shown no_members) ≡ diagnostic_object name text shown
 unfolding diagnostic_object
 in_order name text kind said is_error None false spans = refl
 in_order name text kind said is_error None true spans = refl
 in_order name text kind said is_error (Some words) false spans = refl
 in_order name text kind said is_error (Some words) true spans = refl
 
--- the object of members to which a note and symbols were added
-pub object_added : (name text found : List ℕ) (shown : ShownDiagnostic) (hint : Option (List ℕ)) (own with_note all : Members)
-    → own ≡ own_members name text shown → hint ≡ shown.hint → with_note ≡ put_hint hint own → found ≡ text
-    → all ≡ put_symbols shown.has_symbols (map (text_at found) shown.spans) with_note → object all ≡ diagnostic_object name text shown
-object_added name text found shown hint own with_note all is hinted noted same added = rw (added, noted, hinted, is, same)
-    (in_order name text shown.kind shown.text shown.is_error shown.hint shown.has_symbols shown.spans)
+-- the object of all members of an error or a warning
+pub diagnostic_made : (name text : List ℕ) (shown : ShownDiagnostic) → object (put_diagnostic name text shown no_members) ≡ diagnostic_object name text shown
+diagnostic_made name text shown = in_order name text shown.kind shown.text shown.is_error shown.hint shown.has_symbols shown.spans
+
+-- the object of a file, with the region of a span if it has one
+pub location_made : (uri : List ℕ) (region : Option Data)
+    → object (member (codes "physicalLocation") (object (put_region region (put_file uri no_members))) no_members) ≡ location uri region
+location_made uri None = refl
+location_made uri (Some region) = refl
+
+-- each of these members was added in turn
+pub diagnostic_put : {U E : Type 0} (r : Result U E) (name text found severe : List ℕ) (seen shown : ShownDiagnostic) (places : Data)
+    (old filed severed kinded said placed hinted all : Members) → seen ≡ shown
+    → filed ≡ put (codes "file") (string name) old
+    → severe ≡ severity seen.is_error → severed ≡ put (codes "severity") (string severe) filed
+    → kinded ≡ put (codes "kind") (string seen.kind) severed → said ≡ put (codes "text") (string seen.text) kinded
+    → places ≡ array (items_of (map (place_of text) seen.spans)) → placed ≡ put (codes "places") places said
+    → hinted ≡ put_hint shown.hint placed
+    → found ≡ text → OnOk r (all ≡ put_symbols shown.has_symbols (map (text_at found) shown.spans) hinted)
+    → OnOk r (all ≡ put_diagnostic name text shown old)
+diagnostic_put (Err wrong) name text found severe seen shown places old filed severed kinded said placed hinted all is a b c d e f g h same last = tt
+diagnostic_put (Ok u) name text found severe seen shown places old filed severed kinded said placed hinted all is a b c d e f g h same last =
+    rw (last, h, g, f, e, d, c, b, a, same, is) refl

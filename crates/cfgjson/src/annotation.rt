@@ -1,10 +1,11 @@
 //! An error or a warning as an annotation of GitHub.
 
-ghost use Rattle.std.specs.Prelude.{◌≡◌, ◌++◌, OnOk, string_bytes};
+ghost use Rattle.std.specs.Prelude.{◌≡◌, ◌++◌, OnOk, codes, string_bytes};
+ghost use Rattle.std.specs.List.{flat_map};
 ghost use Rattle.std.specs.Option.{option_map};
-ghost use Rattle.cfgjson.specs.Annotations.{annotation, command, escaped, escaped_in_property, message_text};
-ghost use Rattle.cfgjson.specs.Annotations.{note_text, place_properties, position_properties};
-ghost use Rattle.cfgjson.specs.Annotations.{properties, property_text};
+ghost use Rattle.std.specs.Str.{chars};
+ghost use Rattle.cfgjson.specs.Annotations.{annotation, note_text, place_properties, position_properties};
+ghost use Rattle.cfgjson.specs.Inner.{escaped_for, opening, rest_of_properties};
 
 use crate::diagnostic::Diagnostic;
 use cfgbase::Span;
@@ -27,23 +28,25 @@ pub fn push_annotation(
     ensures { OnOk result (string_bytes out.new
         ≡ string_bytes out.old ++ annotation name.now positions.now diagnostic.now) }
 {
-    let command = command(diagnostic.is_error);
-    write!(out, "::{command} ")?;
+    out.push_str(opening(diagnostic.is_error))?;
     push_properties(out, name, positions, diagnostic)?;
     out.push_str("::")?;
-    push_message(out, diagnostic.text)?;
-    push_note(out, diagnostic.hint)?;
-    out.push_str("\n")
+    push_escaped(out, diagnostic.text, false)?;
+    push_end(out, diagnostic.hint)
 }
 
-/// The word of a workflow command.
-fn command(is_error: bool) -> &'static str
-    ensures { result.now ≡ command is_error }
+/// How an annotation begins, up to the name of the file.
+fn opening(is_error: bool) -> &'static str
+    ensures { result.now ≡ opening is_error }
 {
-    if is_error { "error" } else { "warning" }
+    if is_error {
+        "::error file="
+    } else {
+        "::warning file="
+    }
 }
 
-/// Writes the properties of an error or a warning.
+/// Writes the properties of an error or a warning, after the name of the first.
 fn push_properties(
     out: &mut String,
     name: &str,
@@ -51,13 +54,12 @@ fn push_properties(
     diagnostic: &Diagnostic<'_>,
 ) -> Result<(), AllocError>
     ensures { OnOk result (string_bytes out.new
-        ≡ string_bytes out.old ++ properties name.now positions.now diagnostic.now) }
+        ≡ string_bytes out.old ++ rest_of_properties name.now positions.now diagnostic.now) }
 {
-    out.push_str("file=")?;
-    push_property(out, name)?;
+    push_escaped(out, name, true)?;
     push_place(out, positions, diagnostic.spans)?;
     out.push_str(",title=")?;
-    push_property(out, diagnostic.kind)
+    push_escaped(out, diagnostic.kind, true)
 }
 
 /// Writes where the first of the spans is, if there are any.
@@ -88,61 +90,43 @@ fn push_position(
     }
 }
 
-/// Writes the note at the end of a message, if there is one.
-fn push_note(out: &mut String, hint: Option<&str>) -> Result<(), AllocError>
+/// Writes the note at the end of a message, if there is one, and ends the line.
+fn push_end(out: &mut String, hint: Option<&str>) -> Result<(), AllocError>
     ensures { OnOk result (string_bytes out.new
-        ≡ string_bytes out.old ++ note_text (option_map (λ words. words.now) hint.entry)) }
+        ≡ string_bytes out.old ++ (note_text (option_map (λ words. words.now) hint.entry) ++ codes "\n")) }
 {
     match hint {
         Some(hint) => {
             out.push_str(": ")?;
-            push_message(out, hint)
+            push_escaped(out, hint, false)?;
+            out.push_str("\n")
         }
-        None => Ok(()),
+        None => out.push_str("\n"),
     }
 }
 
-/// Writes a message, or a part of one.
-fn push_message(out: &mut String, text: &str) -> Result<(), AllocError>
-    ensures { OnOk result (string_bytes out.new ≡ string_bytes out.old ++ message_text text.now) }
+/// Writes the value of a property, or else a part of a message.
+fn push_escaped(out: &mut String, text: &str, in_property: bool) -> Result<(), AllocError>
+    ensures { OnOk result (string_bytes out.new
+        ≡ string_bytes out.old ++ flat_map (escaped_for in_property) (chars text.now)) }
 {
     for c in text.chars() {
-        push_escaped(out, c)?;
+        push_character(out, c, in_property)?;
     }
     Ok(())
 }
 
-/// Writes the value of a property.
-fn push_property(out: &mut String, text: &str) -> Result<(), AllocError>
-    ensures { OnOk result (string_bytes out.new ≡ string_bytes out.old ++ property_text text.now) }
-{
-    for c in text.chars() {
-        push_escaped_in_property(out, c)?;
-    }
-    Ok(())
-}
-
-/// Writes a character of a message.
-#[tactic(auto, unfolding(crate::specs::Annotations::escaped))]
-fn push_escaped(out: &mut String, c: char) -> Result<(), AllocError>
-    ensures { OnOk result (string_bytes out.new ≡ string_bytes out.old ++ escaped c) }
+/// Writes a character of the value of a property, or else of a message.
+#[tactic(auto, unfolding(crate::specs::Annotations::escaped, crate::specs::Annotations::escaped_in_property))]
+fn push_character(out: &mut String, c: char, in_property: bool) -> Result<(), AllocError>
+    ensures { OnOk result (string_bytes out.new ≡ string_bytes out.old ++ escaped_for in_property c) }
 {
     match c {
+        ':' if in_property => out.push_str("%3A"),
+        ',' if in_property => out.push_str("%2C"),
         '%' => out.push_str("%25"),
         '\r' => out.push_str("%0D"),
         '\n' => out.push_str("%0A"),
         _ => out.push(c),
-    }
-}
-
-/// Writes a character of a property.
-#[tactic(auto, unfolding(crate::specs::Annotations::escaped_in_property))]
-fn push_escaped_in_property(out: &mut String, c: char) -> Result<(), AllocError>
-    ensures { OnOk result (string_bytes out.new ≡ string_bytes out.old ++ escaped_in_property c) }
-{
-    match c {
-        ':' => out.push_str("%3A"),
-        ',' => out.push_str("%2C"),
-        _ => push_escaped(out, c),
     }
 }

@@ -1,16 +1,16 @@
 //! An error or a warning, as programs read it.
 
 ghost use Rattle.std.specs.Prelude.{◌≡◌, IfOk, OnOk, map, string_bytes};
-ghost use Rattle.std.specs.Option.{option_map};
 ghost use Rattle.serde_json.specs.View.{members_view, view};
 ghost use Rattle.cfgjson.specs.Objects.{AddsJsonLine, IsJsonLine, diagnostic_object, text_at};
-ghost use Rattle.cfgjson.specs.Inner.{own_members, put_hint, put_symbols};
+ghost use Rattle.cfgjson.specs.Inner.{put_diagnostic, put_hint, put_symbols, severity};
 
+use crate::object::put_text;
 use crate::place::places;
 use crate::symbols::symbols;
 use cfgbase::Span;
 use cfglines::Positions;
-use serde_json::{Map, ToValue, Value, put};
+use serde_json::{Map, Value, put};
 use std::alloc::{AllocError, Global};
 use std::marker::Model;
 
@@ -87,58 +87,50 @@ fn object_of(
 ) -> Result<Value, AllocError>
     ensures { IfOk result (λ object. view object ≡ diagnostic_object name.now positions.now diagnostic.now) }
 {
-    let mut members = members_of(alloc, name, positions, diagnostic)?;
-    put_hint(alloc, &mut members, diagnostic.hint)?;
-    put_symbols(alloc, &mut members, positions.text(), diagnostic)?;
+    let mut members = Map::new(alloc);
+    put_members(alloc, &mut members, name, positions, diagnostic)?;
     Ok(Value::Object(members))
 }
 
-/// The members that each object has.
-fn members_of(
+/// Adds its members.
+fn put_members(
     alloc: Global,
+    members: &mut Map<String, Value>,
     name: &str,
     positions: &Positions<'_>,
     diagnostic: &Diagnostic<'_>,
-) -> Result<Map<String, Value>, AllocError>
-    ensures { IfOk result (λ members. members_view members.entries
-        ≡ own_members name.now positions.now diagnostic.now) }
+) -> Result<(), AllocError>
+    ensures { OnOk result (members_view members.new.entries
+        ≡ put_diagnostic name.now positions.now diagnostic.now (members_view members.old.entries)) }
 {
-    let severity = if diagnostic.is_error {
-        "error"
-    } else {
-        "warning"
-    };
+    put_text(alloc, members, "file", name)?;
+    put_text(alloc, members, "severity", severity(diagnostic.is_error))?;
+    put_text(alloc, members, "kind", diagnostic.kind)?;
+    put_text(alloc, members, "text", diagnostic.text)?;
     let places = places(alloc, positions, diagnostic.spans)?;
-    let mut members = Map::new(alloc);
-    put(&mut members, alloc, "file", name.to_value(alloc)?)?;
-    put(&mut members, alloc, "severity", severity.to_value(alloc)?)?;
-    put(
-        &mut members,
-        alloc,
-        "kind",
-        diagnostic.kind.to_value(alloc)?,
-    )?;
-    put(
-        &mut members,
-        alloc,
-        "text",
-        diagnostic.text.to_value(alloc)?,
-    )?;
-    put(&mut members, alloc, "places", Value::Array(places))?;
-    Ok(members)
+    put(members, alloc, "places", Value::Array(places))?;
+    put_hint(alloc, members, diagnostic)?;
+    put_symbols(alloc, members, positions.text(), diagnostic)
+}
+
+/// The word for how severe it is.
+pub(crate) fn severity(is_error: bool) -> &'static str
+    ensures { result.now ≡ severity is_error }
+{
+    if is_error { "error" } else { "warning" }
 }
 
 /// Adds the note, if there is one.
 fn put_hint(
     alloc: Global,
     members: &mut Map<String, Value>,
-    hint: Option<&str>,
+    diagnostic: &Diagnostic<'_>,
 ) -> Result<(), AllocError>
     ensures { OnOk result (members_view members.new.entries
-        ≡ put_hint (option_map (λ words. words.now) hint.entry) (members_view members.old.entries)) }
+        ≡ put_hint diagnostic.now.hint (members_view members.old.entries)) }
 {
-    match hint {
-        Some(hint) => put(members, alloc, "hint", hint.to_value(alloc)?),
+    match diagnostic.hint {
+        Some(hint) => put_text(alloc, members, "hint", hint),
         None => Ok(()),
     }
 }

@@ -6,6 +6,7 @@ pub mod annotation;
 pub mod diagnostic;
 pub mod laws;
 pub mod lines;
+mod object;
 mod place;
 pub mod sarif;
 mod symbols;

@@ -1,12 +1,14 @@
 //! Where spans are in a text.
 
-ghost use Rattle.std.specs.Prelude.{◌≡◌, IfOk, map};
-ghost use Rattle.serde_json.specs.View.{items_of, items_view, view};
+ghost use Rattle.std.specs.Prelude.{◌≡◌, IfOk, OnOk, map};
+ghost use Rattle.serde_json.specs.View.{items_of, items_view, members_view, view};
 ghost use Rattle.cfgjson.specs.Objects.{place_of, position_of};
+ghost use Rattle.cfgjson.specs.Inner.{put_place, put_position};
 
+use crate::object::put_count;
 use cfgbase::Span;
 use cfglines::Positions;
-use serde_json::{Value, json};
+use serde_json::{Map, Value, put};
 use std::alloc::{AllocError, Global};
 
 /// Where each of the spans is.
@@ -29,24 +31,48 @@ pub(crate) fn places(
 fn place(alloc: Global, positions: &Positions<'_>, span: Span) -> Result<Value, AllocError>
     ensures { IfOk result (λ place. view place ≡ place_of positions.now span) }
 {
-    let (line, column) = position(positions, span.start());
-    let (end_line, end_column) = position(positions, span.end());
-    json!(in alloc; {
-        "line": line,
-        "column": column,
-        "end_line": end_line,
-        "end_column": end_column,
-        "start": span.start(),
-        "end": span.end()
-    })
+    let mut members = Map::new(alloc);
+    put_place(alloc, &mut members, positions, span)?;
+    Ok(Value::Object(members))
 }
 
-/// The line and the column of a byte, or null if it is inside a character or beyond the text's end.
-fn position(positions: &Positions<'_>, byte: usize) -> (Value, Value)
-    ensures { (view result.0, view result.1) ≡ position_of positions.now byte }
+/// Adds where a span starts and ends.
+fn put_place(
+    alloc: Global,
+    members: &mut Map<String, Value>,
+    positions: &Positions<'_>,
+    span: Span,
+) -> Result<(), AllocError>
+    ensures { OnOk result (members_view members.new.entries
+        ≡ put_place positions.now span (members_view members.old.entries)) }
+{
+    let (start, end) = (span.start(), span.end());
+    put_position(alloc, members, positions, start, "line", "column")?;
+    put_position(alloc, members, positions, end, "end_line", "end_column")?;
+    put_count(alloc, members, "start", start)?;
+    put_count(alloc, members, "end", end)
+}
+
+/// Adds the line and the column of a byte by these names, or null if it is inside a character or beyond the text's end.
+fn put_position(
+    alloc: Global,
+    members: &mut Map<String, Value>,
+    positions: &Positions<'_>,
+    byte: usize,
+    line_name: &str,
+    column_name: &str,
+) -> Result<(), AllocError>
+    ensures { OnOk result (members_view members.new.entries
+        ≡ put_position line_name.now column_name.now (position_of positions.now byte) (members_view members.old.entries)) }
 {
     match positions.line_and_column(byte) {
-        Some((line, column)) => (Value::from(line), Value::from(column)),
-        None => (Value::Null, Value::Null),
+        Some((line, column)) => {
+            put_count(alloc, members, line_name, line)?;
+            put_count(alloc, members, column_name, column)
+        }
+        None => {
+            put(members, alloc, line_name, Value::Null)?;
+            put(members, alloc, column_name, Value::Null)
+        }
     }
 }

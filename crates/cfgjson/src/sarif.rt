@@ -1,18 +1,19 @@
 //! An error or a warning as a result of SARIF.
 
-ghost use Rattle.std.specs.Prelude.{◌≡◌, [], ◌∷◌, ◌++◌, None, Some, IfOk, OnOk, map, string_bytes};
-ghost use Rattle.std.specs.Option.{option_map};
-ghost use Rattle.serde_json.specs.View.{items_of, items_view, view};
+ghost use Rattle.std.specs.Prelude.{◌≡◌, [], ◌∷◌, ◌++◌, IfOk, OnOk, map, option_and_then, string_bytes};
+ghost use Rattle.serde_json.specs.View.{items_of, items_view, members_view, view};
 ghost use Rattle.serde_json.specs.Written.{compact_text};
 ghost use Rattle.cfgjson.specs.Sarif.{location_of, main_location, message_of, other_locations};
 ghost use Rattle.cfgjson.specs.Sarif.{region, region_of, result_line, result_text, sarif_result};
 ghost use Rattle.cfgjson.specs.Sarif as sarif;
+ghost use Rattle.cfgjson.specs.Inner.{put_ends, put_file, put_locations, put_region, put_result};
 
-use crate::diagnostic::Diagnostic;
+use crate::diagnostic::{Diagnostic, severity};
+use crate::object::{object_with, put_count, put_text};
 use crate::uri::uri_of;
 use cfgbase::Span;
 use cfglines::Positions;
-use serde_json::{Value, json};
+use serde_json::{Map, ToValue, Value, put};
 use std::alloc::{AllocError, Global};
 
 /// Writes an error or a warning about the text of a file of this name as a result of SARIF, on a line, after a comma
@@ -59,22 +60,28 @@ fn object_of(
 ) -> Result<Value, AllocError>
     ensures { IfOk result (λ object. view object ≡ sarif_result name.now positions.now diagnostic.now) }
 {
-    let uri = uri_of(alloc, name)?;
-    let main = main_locations(alloc, &uri, positions, diagnostic.spans)?;
-    let others = other_locations(alloc, &uri, positions, diagnostic.spans)?;
+    let mut members = Map::new(alloc);
+    put_members(alloc, &mut members, name, positions, diagnostic)?;
+    Ok(Value::Object(members))
+}
+
+/// Adds its members.
+fn put_members(
+    alloc: Global,
+    members: &mut Map<String, Value>,
+    name: &str,
+    positions: &Positions<'_>,
+    diagnostic: &Diagnostic<'_>,
+) -> Result<(), AllocError>
+    ensures { OnOk result (members_view members.new.entries
+        ≡ put_result name.now positions.now diagnostic.now (members_view members.old.entries)) }
+{
+    put_text(alloc, members, "level", severity(diagnostic.is_error))?;
+    put_text(alloc, members, "ruleId", diagnostic.kind)?;
     let message = message_of(alloc, diagnostic)?;
-    let level = if diagnostic.is_error {
-        "error"
-    } else {
-        "warning"
-    };
-    json!(in alloc; {
-        "level": level,
-        "locations": main,
-        "message": message,
-        "relatedLocations": others,
-        "ruleId": diagnostic.kind
-    })
+    put(members, alloc, "message", message)?;
+    let uri = uri_of(alloc, name)?;
+    put_locations(alloc, members, &uri, positions, diagnostic.spans)
 }
 
 /// What a result says, as an object.
@@ -82,7 +89,7 @@ fn message_of(alloc: Global, diagnostic: &Diagnostic<'_>) -> Result<Value, Alloc
     ensures { IfOk result (λ message. view message ≡ message_of (result_text diagnostic.now)) }
 {
     let text = result_text(alloc, diagnostic)?;
-    json!(in alloc; { "text": text })
+    object_with(alloc, "text", Value::String(text))
 }
 
 /// What a result says, with the note on it if there is one.
@@ -94,6 +101,23 @@ fn result_text(alloc: Global, diagnostic: &Diagnostic<'_>) -> Result<String, All
         Some(hint) => format!(in alloc; "{text}: {hint}"),
         None => String::from_str(alloc, text),
     }
+}
+
+/// Adds where a result is, and where its other spans are.
+fn put_locations(
+    alloc: Global,
+    members: &mut Map<String, Value>,
+    uri: &str,
+    positions: &Positions<'_>,
+    spans: &[Span],
+) -> Result<(), AllocError>
+    ensures { OnOk result (members_view members.new.entries
+        ≡ put_locations uri.now positions.now spans.now (members_view members.old.entries)) }
+{
+    let main = main_locations(alloc, uri, positions, spans)?;
+    put(members, alloc, "locations", Value::Array(main))?;
+    let others = other_locations(alloc, uri, positions, spans)?;
+    put(members, alloc, "relatedLocations", Value::Array(others))
 }
 
 /// Where a result is: where its first span is, or else the file as a whole.
@@ -122,8 +146,8 @@ fn main_location(
     ensures { IfOk result (λ place. view place ≡ main_location uri.now positions.now spans.now) }
 {
     match spans {
-        [] => whole_file(alloc, uri),
-        [first, ..] => location(alloc, uri, positions, *first),
+        [] => location(alloc, uri, positions, None),
+        [first, ..] => location(alloc, uri, positions, Some(*first)),
     }
 }
 
@@ -155,42 +179,65 @@ fn locations(
 {
     let mut places = Vec::new(alloc);
     for span in spans {
-        places.push(location(alloc, uri, positions, *span)?)?;
+        places.push(location(alloc, uri, positions, Some(*span))?)?;
     }
     Ok(places)
 }
 
-/// Where a span is.
+/// The file with this URI, or the region of a span in it.
 fn location(
     alloc: Global,
     uri: &str,
     positions: &Positions<'_>,
-    span: Span,
+    span: Option<Span>,
 ) -> Result<Value, AllocError>
-    ensures { IfOk result (λ place. view place ≡ location_of uri.now positions.now span) }
+    ensures { IfOk result (λ place. view place
+        ≡ sarif.location uri.now (option_and_then (region_of positions.now) span)) }
 {
-    match region_of(alloc, positions, span)? {
-        Some(region) => region_in(alloc, uri, region),
-        None => whole_file(alloc, uri),
+    let mut place = Map::new(alloc);
+    put_place(alloc, &mut place, uri, positions, span)?;
+    object_with(alloc, "physicalLocation", Value::Object(place))
+}
+
+/// Adds the file with this URI, and the region of a span in it.
+fn put_place(
+    alloc: Global,
+    place: &mut Map<String, Value>,
+    uri: &str,
+    positions: &Positions<'_>,
+    span: Option<Span>,
+) -> Result<(), AllocError>
+    ensures { OnOk result (members_view place.new.entries
+        ≡ put_region (option_and_then (region_of positions.now) span) (put_file uri.now (members_view place.old.entries))) }
+{
+    let uri = uri.to_value(alloc)?;
+    let file = object_with(alloc, "uri", uri)?;
+    put(place, alloc, "artifactLocation", file)?;
+    match span {
+        Some(span) => put_region(alloc, place, positions, span),
+        None => Ok(()),
     }
 }
 
-/// The region of a span, if it starts and ends at character boundaries of the text.
+/// Adds the region of a span, if it starts and ends at character boundaries of the text.
 #[tactic(auto, unfolding(crate::specs::Sarif::region_of))]
-fn region_of(
+fn put_region(
     alloc: Global,
+    place: &mut Map<String, Value>,
     positions: &Positions<'_>,
     span: Span,
-) -> Result<Option<Value>, AllocError>
-    ensures { IfOk result (λ found. option_map (λ region. view region) found ≡ region_of positions.now span) }
+) -> Result<(), AllocError>
+    ensures { OnOk result (members_view place.new.entries
+        ≡ put_region (region_of positions.now span) (members_view place.old.entries)) }
 {
     let Some(start) = positions.line_and_column(span.start()) else {
-        return Ok(None);
+        return Ok(());
     };
     let Some(end) = positions.line_and_column(span.end()) else {
-        return Ok(None);
+        return Ok(());
     };
-    Ok(Some(region(alloc, start, end)?))
+    let region = region(alloc, start, end)?;
+    put(place, alloc, "region", region)
 }
 
 /// The region between these lines and columns.
@@ -198,24 +245,22 @@ fn region_of(
 fn region(alloc: Global, start: (usize, usize), end: (usize, usize)) -> Result<Value, AllocError>
     ensures { IfOk result (λ found. view found ≡ region start end) }
 {
-    json!(in alloc; {
-        "startLine": start.0,
-        "startColumn": start.1,
-        "endLine": end.0,
-        "endColumn": end.1
-    })
+    let mut region = Map::new(alloc);
+    put_ends(alloc, &mut region, start, end)?;
+    Ok(Value::Object(region))
 }
 
-/// A region of the file with this URI.
-fn region_in(alloc: Global, uri: &str, region: Value) -> Result<Value, AllocError>
-    ensures { IfOk result (λ place. view place ≡ sarif.location uri.now (Some (view region))) }
+/// Adds these lines and columns.
+fn put_ends(
+    alloc: Global,
+    region: &mut Map<String, Value>,
+    start: (usize, usize),
+    end: (usize, usize),
+) -> Result<(), AllocError>
+    ensures { OnOk result (members_view region.new.entries ≡ put_ends start end (members_view region.old.entries)) }
 {
-    json!(in alloc; { "physicalLocation": { "artifactLocation": { "uri": uri }, "region": region } })
-}
-
-/// The file with this URI as a whole.
-fn whole_file(alloc: Global, uri: &str) -> Result<Value, AllocError>
-    ensures { IfOk result (λ place. view place ≡ sarif.location uri.now None) }
-{
-    json!(in alloc; { "physicalLocation": { "artifactLocation": { "uri": uri } } })
+    put_count(alloc, region, "startLine", start.0)?;
+    put_count(alloc, region, "startColumn", start.1)?;
+    put_count(alloc, region, "endLine", end.0)?;
+    put_count(alloc, region, "endColumn", end.1)
 }
