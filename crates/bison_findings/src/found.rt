@@ -1,12 +1,18 @@
 //! All findings that the words of a Bison file alone decide.
 
-ghost use Rattle.std.specs.Prelude.{◌≡◌, ◌++◌, OnOk};
+ghost use Rattle.std.specs.Prelude.{◌≡◌, ◌++◌, length, map, List, OnOk};
+ghost use Rattle.bison_words.specs.Words.{word_view};
+ghost use Rattle.bison_findings.specs.Aliases.{repeated_aliases};
+ghost use Rattle.bison_findings.specs.Commas.{ReportsStrayComma};
+ghost use Rattle.bison_findings.specs.Defines.{ReportsMisspelledDefine};
 ghost use Rattle.bison_findings.specs.Found.{AreBisonFindings};
+ghost use Rattle.text_findings.specs.Finding.{ShownFinding};
+ghost use Rattle.text_findings.specs.Reports.{ReportsBelow};
 
 use crate::aliases::push_repeated_aliases;
 use crate::commas::push_stray_commas;
 use crate::defines::push_misspelled_defines;
-use bison_words::read_words;
+use bison_words::{Word, read_words};
 use std::alloc::{AllocError, Global};
 use text_findings::Finding;
 
@@ -25,7 +31,21 @@ pub fn push_bison_findings(
         × (all.new.items ≡ all.old.items ++ found)) }
 {
     let read = read_words(alloc, text)?;
-    let words = read.words.as_slice();
+    push_word_findings(alloc, all, text, read.words.as_slice())
+}
+
+/// Adds the findings that these words of the text decide.
+fn push_word_findings(
+    alloc: Global,
+    all: &mut Vec<Finding>,
+    text: &str,
+    words: &[Word<'_>],
+) -> Result<(), AllocError>
+    ensures { OnOk result ((defines commas : List ShownFinding)
+        × ReportsBelow (ReportsMisspelledDefine (map word_view words.now)) (length (map word_view words.now)) defines
+        × ReportsBelow (ReportsStrayComma text.now (map word_view words.now)) (length (map word_view words.now)) commas
+        × (all.new.items ≡ all.old.items ++ (defines ++ (repeated_aliases (map word_view words.now) ++ commas)))) }
+{
     push_misspelled_defines(alloc, all, words)?;
     push_repeated_aliases(alloc, all, words)?;
     push_stray_commas(alloc, all, text, words)
