@@ -1,5 +1,5 @@
 -- What the crate's private functions say about one another.
-use Rattle.std.specs.Prelude.{◌≡◌, ℕ, List, Option, map}
+use Rattle.std.specs.Prelude.{◌≡◌, ℕ, if◌then◌else◌, List, [], Option, map}
 use Rattle.std.specs.Io.KnownBytes.{Appends}
 use Rattle.cfgsink.specs.Sinks.{AppendsPrefix}
 use Rattle.cfgsink.specs.declared.sink.WriteError.{WriteError}
@@ -13,7 +13,8 @@ use Rattle.cfglint_shell.specs.declared.arguments.Options as options_code
 use Rattle.cfglint_shell.specs.declared.usage.UsageError as error_code
 use Rattle.cfglint_shell.specs.declared.usage.UsageError.TheVariants as error
 use Rattle.cfglint_shell.specs.Run.{Answer, Answered, Ending, NoMemory, Unwritten}
-use Rattle.cfglint_shell.specs.Requests.{Requested, Help, Lint, Version, Options, Wrong, Step, Goes, Stops, UsageError, UnknownOption, UnknownKind, UnknownDefaultKind, UnknownFormat, UnknownUnit, UnknownColor, UnknownFinding, MissingValue, NoFile, StandardInputTwice}
+use Rattle.cfglint_shell.specs.Tally.{Tally, summary}
+use Rattle.cfglint_shell.specs.Requests.{has_summary, Requested, Help, Lint, Version, Options, Wrong, Step, Goes, Stops, UsageError, UnknownOption, UnknownKind, UnknownDefaultKind, UnknownFormat, UnknownUnit, UnknownColor, UnknownFinding, MissingValue, NoFile, StandardInputTwice}
 
 -- the code's options
 abbrev pub options_view : options_code.Options → Options
@@ -52,6 +53,10 @@ step_view options (step.Stops stop) = Stops (stop_view stop)
 abbrev pub requested_view : requested_code.Requested → Requested
 requested_view (variants.Stops stop) = stop_view stop
 requested_view (variants.Lint options) = Lint (options_view options)
+
+-- the last line of the output with these options, if it has a summary
+abbrev pub last_line : Options → Tally → List ℕ
+last_line options tally = if has_summary options then summary options.lint.kind tally else []
 
 -- how a run with this result ends, and what its output then gets, which then gives this reason
 abbrev pub IsEnding : Answer → WriteError → Option (List ℕ) → Option (List ℕ) → Ending → Type 0

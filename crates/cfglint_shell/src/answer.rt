@@ -10,7 +10,7 @@ ghost use Rattle.cfglint_shell.specs.Run.{unwritten_line, unwritten_status};
 
 use crate::arguments::Options;
 use crate::sarif_log::document;
-use crate::summary::summary;
+use crate::summary::push_summary;
 use crate::tally::Tally;
 use crate::usage::UsageError;
 use cfgsink::sink::{Sink, SinkFault, SinkWithReasons, WriteError, write_whole};
@@ -72,11 +72,8 @@ impl Answer {
         ensures { IfOk result (λ answer. answer ≡ answer_of (options_view options.now) tally) }
     {
         let status = tally.status(options.denies);
-        let last = if options.has_summary() {
-            summary(alloc, &tally, options.lint.kind)?
-        } else {
-            String::new(alloc)
-        };
+        let mut last = String::new(alloc);
+        push_summary(&mut last, &tally, options)?;
         let Tally {
             lines: mut output,
             faults: errors,

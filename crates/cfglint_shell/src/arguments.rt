@@ -16,7 +16,7 @@ use crate::file_kind::KindRequest;
 use crate::format::Format;
 use crate::linter::LintOptions;
 use crate::unit::unit_of_word;
-use crate::usage::{UsageError, ValueOption};
+use crate::usage::{UsageError, ValueOption, option_part};
 use cfgrammar::ColumnUnit;
 use finding_kinds::{FindingKind, Level, Levels};
 use std::alloc::{AllocError, Global};
@@ -200,15 +200,11 @@ impl<'a> Options<'a> {
     fn take_option(&mut self, argument: &'a str) -> Step<'a>
         ensures { step_view (options_view self.new) result ≡ with_option (options_view self.old) argument.now }
     {
-        let (name, value) = match argument.split_once('=') {
-            Some((name, value)) => (name, Some(value)),
-            None => (argument, None),
-        };
-        let Some(option) = ValueOption::of_name(name) else {
+        let Some(option) = ValueOption::of_name(option_part(argument)) else {
             return Step::Stops(Stop::Wrong(UsageError::UnknownOption(argument)));
         };
-        match value {
-            Some(value) => self.take_value(option, value),
+        match argument.split_once('=') {
+            Some((_, value)) => self.take_value(option, value),
             None => Step::Goes(Expected::Value(option)),
         }
     }

@@ -4,7 +4,7 @@ ghost use Rattle.std.specs.Prelude.{◌≡◌};
 ghost use Rattle.cfglint_shell.specs.Formats.{color_choice_named, colors_by};
 
 /// What `--color` requests.
-#[derive(Clone, Copy, Debug)]
+#[derive(Clone, Copy)]
 pub(crate) enum ColorChoice {
     /// Colours as before it.
     Auto,

@@ -7,7 +7,7 @@ use crate::file_kind::FileKind;
 use cfgprogram::kinds::{YaccKind, YaccOriginalActionKind};
 
 /// How many files were read as each kind.
-#[derive(Clone, Copy, Debug)]
+#[derive(Clone, Copy)]
 pub(crate) struct KindCounts {
     original_noaction: u64,
     original_useraction: u64,

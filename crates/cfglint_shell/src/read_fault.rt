@@ -2,13 +2,10 @@
 
 ghost use Rattle.std.specs.Prelude.{◌≡◌, ◌++◌, None, true, false, IfOk, IsUtf8, OnOk, length, string_bytes};
 ghost use Rattle.std.specs.Str.{IsValidUpTo};
-ghost use Rattle.cfgjson.specs.Annotations.{annotation};
-ghost use Rattle.cfgjson.specs.Objects.{json_line};
-ghost use Rattle.cfgjson.specs.Sarif.{result_line};
 ghost use Rattle.cfgrammar.specs.Lines.{line_number};
 ghost use Rattle.cfgrammar.specs.Render.{column_in};
 ghost use Rattle.cfglint_shell.specs.ReadFaults.{fault_line, fault_lines, invalid_encoding, reason_text};
-ghost use Rattle.cfglint_shell.specs.ReadFaults.{shown_fault, unreadable_file};
+ghost use Rattle.cfglint_shell.specs.ReadFaults.{unreadable_file};
 
 use crate::format::Format;
 use cfgjson::{Diagnostic, push_annotation, push_line, push_result};
@@ -60,19 +57,26 @@ impl<'a> ReadFault<'a> {
         })
     }
 
+    /// Where its text has which lines.
+    pub(crate) fn positions(&self, alloc: Global) -> Result<Positions<'a>, AllocError>
+        ensures { IfOk result (λ positions. positions ≡ self.now.text) }
+    {
+        Positions::new(alloc, self.text)
+    }
+
     /// Writes the line that says so of a file of this name, with its column in this unit.
     pub(crate) fn push_line(
         &self,
-        alloc: Global,
         out: &mut String,
         unit: ColumnUnit,
         name: &str,
+        positions: &Positions<'_>,
     ) -> Result<(), AllocError>
+        requires { positions.now ≡ self.now.text }
         ensures { OnOk result (string_bytes out.new ≡ string_bytes out.old ++ fault_line unit name.now self.now) }
     {
-        let positions = Positions::new(alloc, self.text)?;
         let name = Visible(name);
-        let (line, column) = end_of(unit, &positions);
+        let (line, column) = end_of(unit, positions);
         writeln!(
             out,
             "{name}:{line}:{column}: error: {} [{}]",
@@ -87,56 +91,21 @@ impl<'a> ReadFault<'a> {
         out: &mut String,
         format: Format,
         name: &str,
+        positions: &Positions<'_>,
     ) -> Result<(), AllocError>
+        requires { positions.now ≡ self.now.text }
         ensures { OnOk result (string_bytes out.new
             ≡ string_bytes out.old ++ fault_lines format name.now self.now) }
     {
+        let end = self.text.len();
+        let spans = [Span::new(end, end)];
+        let shown = error_at(self.kind, &self.message, &spans);
         match format {
             Format::Text => Ok(()),
-            Format::Json => self.push_json(alloc, out, name),
-            Format::Github => self.push_annotation(alloc, out, name),
-            Format::Sarif => self.push_result(alloc, out, name),
+            Format::Json => push_line(alloc, out, name, positions, &shown),
+            Format::Github => push_annotation(out, name, positions, &shown),
+            Format::Sarif => push_result(alloc, out, name, positions, &shown),
         }
-    }
-
-    /// Writes the JSON object that says so of a file of this name, on a line.
-    fn push_json(&self, alloc: Global, out: &mut String, name: &str) -> Result<(), AllocError>
-        ensures { OnOk result (string_bytes out.new
-            ≡ string_bytes out.old ++ json_line name.now self.now.text (shown_fault self.now)) }
-    {
-        let positions = Positions::new(alloc, self.text)?;
-        let end = self.text.len();
-        let spans = [Span::new(end, end)];
-        let shown = error_at(self.kind, &self.message, &spans);
-        push_line(alloc, out, name, &positions, &shown)
-    }
-
-    /// Writes the annotation of GitHub that says so of a file of this name, on a line.
-    fn push_annotation(&self, alloc: Global, out: &mut String, name: &str) -> Result<(), AllocError>
-        ensures { OnOk result (string_bytes out.new
-            ≡ string_bytes out.old ++ annotation name.now self.now.text (shown_fault self.now)) }
-    {
-        let positions = Positions::new(alloc, self.text)?;
-        let end = self.text.len();
-        let spans = [Span::new(end, end)];
-        push_annotation(
-            out,
-            name,
-            &positions,
-            &error_at(self.kind, &self.message, &spans),
-        )
-    }
-
-    /// Writes the result of SARIF that says so of a file of this name, on a line.
-    fn push_result(&self, alloc: Global, out: &mut String, name: &str) -> Result<(), AllocError>
-        ensures { OnOk result (string_bytes out.new
-            ≡ string_bytes out.old ++ result_line name.now self.now.text (shown_fault self.now)) }
-    {
-        let positions = Positions::new(alloc, self.text)?;
-        let end = self.text.len();
-        let spans = [Span::new(end, end)];
-        let shown = error_at(self.kind, &self.message, &spans);
-        push_result(alloc, out, name, &positions, &shown)
     }
 }
 

@@ -1,14 +1,16 @@
 //! The last line of the report.
 
-ghost use Rattle.std.specs.Prelude.{◌≡◌, ◌++◌, IfOk, OnOk, string_bytes, true};
+ghost use Rattle.std.specs.Prelude.{◌≡◌, ◌++◌, OnOk, string_bytes, true};
+ghost use Rattle.cfglint_shell.specs.Inner.{last_line, options_view};
 ghost use Rattle.cfglint_shell.specs.KindCounts.{kinds};
-ghost use Rattle.cfglint_shell.specs.Tally.{counted, kinds_text, listed, read_as, separator, summary};
+ghost use Rattle.cfglint_shell.specs.Tally.{counted, kinds_text, listed, read_as, separator};
 
+use crate::arguments::Options;
 use crate::file_kind::{FileKind, KindRequest};
 use crate::kind_counts::KindCounts;
 use crate::tally::Tally;
 use cfgprogram::kinds::{YaccKind, YaccOriginalActionKind};
-use std::alloc::{AllocError, Global};
+use std::alloc::AllocError;
 
 /// The kinds, in the order of the summary.
 const KINDS: [FileKind; 6] = [
@@ -20,24 +22,24 @@ const KINDS: [FileKind; 6] = [
     FileKind::Bison,
 ];
 
-/// How many files there were, and what was found in them; and as which kinds they were read, unless this kind is
-/// requested by its name.
-pub(crate) fn summary(
-    alloc: Global,
+/// Writes how many files there were, and what was found in them; and as which kinds they were read, unless the options
+/// name one. Nothing, if they have no summary.
+pub(crate) fn push_summary(
+    text: &mut String,
     tally: &Tally,
-    requested: Option<KindRequest>,
-) -> Result<String, AllocError>
-    ensures { IfOk result (λ text. string_bytes text ≡ summary requested tally.now) }
+    options: &Options<'_>,
+) -> Result<(), AllocError>
+    ensures { OnOk result (string_bytes text.new
+        ≡ string_bytes text.old ++ last_line (options_view options.now) tally.now) }
 {
-    let mut text = String::new(alloc);
-    write_counted(&mut text, u128::from(tally.texts), "file")?;
-    text.push_str(": ")?;
-    write_counted(&mut text, tally.errors, "error")?;
-    text.push_str(", ")?;
-    write_counted(&mut text, tally.warnings, "warning")?;
-    write_kinds(&mut text, &tally.kinds_read, requested)?;
-    text.push_str("\n")?;
-    Ok(text)
+    if !options.has_summary() {
+        return Ok(());
+    }
+    write_counted(text, "", u128::from(tally.texts), "file")?;
+    write_counted(text, ": ", tally.errors, "error")?;
+    write_counted(text, ", ", tally.warnings, "warning")?;
+    write_kinds(text, &tally.kinds_read, options.lint.kind)?;
+    text.push_str("\n")
 }
 
 /// Writes as which kinds the files were read, unless this kind is requested by its name.
@@ -82,15 +84,15 @@ fn write_kind(
 {
     let separator = if is_first { "; " } else { ", " };
     let name = kind.name();
-    text.push_str(separator)?;
-    write_counted(text, u128::from(count), "file")?;
+    write_counted(text, separator, u128::from(count), "file")?;
     write!(text, " read as {name}")
 }
 
-/// Writes a count of things of this name: `1 file`, `2 files`.
-fn write_counted(text: &mut String, count: u128, name: &str) -> Result<(), AllocError>
-    ensures { OnOk result (string_bytes text.new ≡ string_bytes text.old ++ counted count name.now) }
+/// Writes a count of things of this name after a text: `1 file`, `2 files`.
+fn write_counted(text: &mut String, before: &str, count: u128, name: &str) -> Result<(), AllocError>
+    ensures { OnOk result (string_bytes text.new
+        ≡ string_bytes text.old ++ (before.now ++ counted count name.now)) }
 {
     let plural = if count == 1 { "" } else { "s" };
-    write!(text, "{count} {name}{plural}")
+    write!(text, "{before}{count} {name}{plural}")
 }

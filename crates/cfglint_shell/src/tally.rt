@@ -84,8 +84,9 @@ impl Tally {
     ) -> Result<(), AllocError>
         ensures { OnOk result (self.new ≡ with_fault options.now name.now fault.now self.old) }
     {
-        fault.push_reported(alloc, &mut self.lines, options.format, name)?;
-        fault.push_line(alloc, &mut self.faults, options.columns, name)?;
+        let positions = fault.positions(alloc)?;
+        fault.push_reported(alloc, &mut self.lines, options.format, name, &positions)?;
+        fault.push_line(&mut self.faults, options.columns, name, &positions)?;
         self.is_short = true;
         Ok(())
     }

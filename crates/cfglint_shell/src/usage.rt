@@ -94,7 +94,7 @@ the output can't be written; 3 if there is no memory left
 ";
 
 /// An option that has a value.
-#[derive(Clone, Copy, Debug, PartialEq, Eq)]
+#[derive(Clone, Copy)]
 pub(crate) enum ValueOption {
     Kind,
     DefaultKind,
@@ -146,7 +146,7 @@ impl ValueOption {
 }
 
 /// What is wrong with arguments.
-#[derive(Clone, Copy, Debug)]
+#[derive(Clone, Copy)]
 pub(crate) enum UsageError<'a> {
     /// There is no such option.
     UnknownOption(&'a str),
