@@ -1,8 +1,6 @@
 //! Misspelled variables of `%define`, and values of theirs.
 
 ghost use Rattle.std.specs.Prelude.{◌≡◌, ◌++◌, length, map, option_map, IfOk, OnOk};
-ghost use Rattle.std.specs.List.{list_any};
-ghost use Rattle.std.specs.Str.{bytes_eq};
 ghost use Rattle.bison_words.specs.Words.{word_view};
 ghost use Rattle.bison_findings.specs.Defines.{ReportsMisspelledDefine, identifier_of, is_among, is_define, misspelled};
 ghost use Rattle.bison_findings.specs.Defines.{misspelled_among, misspelled_value, misspelled_variable, misspelled_word};
@@ -75,8 +73,6 @@ struct MisspelledDefines<'a>(&'a [Word<'a>]);
 
 impl Reporter for MisspelledDefines<'_> {
     ghost use Rattle.std.specs.Prelude.{length, map};
-    ghost use Rattle.std.specs.List.{list_any};
-    ghost use Rattle.std.specs.Str.{bytes_eq};
     ghost use Rattle.bison_words.specs.Words.{word_view};
     ghost use Rattle.bison_findings.specs.Defines.{ReportsMisspelledDefine};
 
@@ -208,14 +204,7 @@ fn misspelled_among(
 fn is_among(names: &[&str], word: &str) -> bool
     ensures { result ≡ is_among (map (λ name. name.now) names.now) word.now }
 {
-    is_one_of(names, word)
-}
-
-/// The same, over the names as they are held.
-fn is_one_of(names: &[&str], word: &str) -> bool
-    ensures { result ≡ list_any (λ name. bytes_eq word.now name.now) names.now }
-{
-    names.iter().any(|name| word == *name)
+    names.contains(&word)
 }
 
 /// The finding that a word is unknown, but near to this one.
