@@ -1,6 +1,7 @@
 //! What is written for a large row instead of all its results.
 
 use crate::page::Page;
+use crate::pen;
 use crate::row::Row;
 
 /// How many characters of a line are written.
@@ -31,25 +32,17 @@ fn digest(bytes: &[u8]) -> u64 {
     digest
 }
 
-/// Writes the first line that begins like this, without its leading blanks. If the line is long, only a prefix is
-/// written.
+/// Writes the first line that begins like this, after a bar and without its leading blanks. If the line is long, only a
+/// prefix is written.
 fn write_line(out: &mut Page, prefix: &str, results: &str) {
     for line in results.lines() {
-        if line.trim_start().starts_with(prefix) {
-            return write_prefix(out, line);
+        let line = line.trim_start();
+        if line.starts_with(prefix) {
+            return match line.char_indices().nth(WIDTH) {
+                Some((end, _)) => writeln!(out, "    |{} ..", line.get(..end).unwrap_or("")),
+                None => pen::line(out, "    |", line),
+            };
         }
     }
-    writeln!(out, "    no line begins with {prefix}");
-}
-
-/// Writes a line after a bar, or a prefix of it if it is long.
-fn write_prefix(out: &mut Page, line: &str) {
-    out.push_str("    |");
-    for character in line.trim_start().chars().take(WIDTH) {
-        out.push(character);
-    }
-    if line.trim_start().chars().count() > WIDTH {
-        out.push_str(" ..");
-    }
-    out.push('\n');
+    pen::line(out, "    no line begins with ", prefix);
 }

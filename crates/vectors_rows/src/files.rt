@@ -64,7 +64,8 @@ fn write_results<A: Answers>(
     if row.first("show") == Some("digest") {
         let mut whole = Page::new(rt.alloc());
         results.write(&mut whole, rt, row, text.as_str());
-        write_digest(out, row, whole.text()?);
+        out.follow(&whole);
+        write_digest(out, row, whole.as_str());
     } else {
         results.write(out, rt, row, text.as_str());
     }

@@ -8,16 +8,10 @@ use cfgrammar::yacc::{YaccKind, YaccOriginalActionKind};
 pub fn kind_of(row: &Row<'_>) -> Option<YaccKind> {
     match row.first("kind").unwrap_or("") {
         "section" => None,
-        name => Some(kind_named(name)),
-    }
-}
-
-fn kind_named(name: &str) -> YaccKind {
-    match name {
-        "grmtools" => YaccKind::Grmtools,
-        "eco" => YaccKind::Eco,
-        "original-noaction" => YaccKind::Original(YaccOriginalActionKind::NoAction),
-        "original-useraction" => YaccKind::Original(YaccOriginalActionKind::UserAction),
-        _ => YaccKind::Original(YaccOriginalActionKind::GenericParseTree),
+        "grmtools" => Some(YaccKind::Grmtools),
+        "eco" => Some(YaccKind::Eco),
+        "original-noaction" => Some(YaccKind::Original(YaccOriginalActionKind::NoAction)),
+        "original-useraction" => Some(YaccKind::Original(YaccOriginalActionKind::UserAction)),
+        _ => Some(YaccKind::Original(YaccOriginalActionKind::GenericParseTree)),
     }
 }

@@ -21,26 +21,24 @@ pub enum Piece<'a> {
 /// Writes pieces, one after the other. One call with all of a line's pieces is proved faster than a call for each.
 pub fn pieces(out: &mut Page, pieces: &[Piece<'_>]) {
     for piece in pieces {
-        write_piece(out, *piece);
-    }
-}
-
-fn write_piece(out: &mut Page, piece: Piece<'_>) {
-    match piece {
-        Piece::Text(word)
-        | Piece::If(true, word)
-        | Piece::NumberOr(_, None, word)
-        | Piece::NameOr(_, None, word)
-        | Piece::TextOr(_, None, word)
-        | Piece::SpanOr(None, word) => out.push_str(word),
-        Piece::If(false, _) => {}
-        Piece::Number(before, value) | Piece::NumberOr(before, Some(value), _) => {
-            number(out, before, value)
+        match *piece {
+            Piece::Text(word)
+            | Piece::If(true, word)
+            | Piece::NumberOr(_, None, word)
+            | Piece::NameOr(_, None, word)
+            | Piece::TextOr(_, None, word)
+            | Piece::SpanOr(None, word) => out.push_str(word),
+            Piece::If(false, _) => {}
+            Piece::Number(before, value) | Piece::NumberOr(before, Some(value), _) => {
+                number(out, before, value)
+            }
+            Piece::Name(before, word) | Piece::NameOr(before, Some(word), _) => {
+                name(out, before, word)
+            }
+            Piece::TextOr(before, Some(word), _) => name(out, before, word.as_str()),
+            Piece::Flag(before, is_so) => flag(out, before, is_so),
+            Piece::Span(position) | Piece::SpanOr(Some(position), _) => span(out, position),
         }
-        Piece::Name(before, word) | Piece::NameOr(before, Some(word), _) => name(out, before, word),
-        Piece::TextOr(before, Some(word), _) => name(out, before, word.as_str()),
-        Piece::Flag(before, is_so) => flag(out, before, is_so),
-        Piece::Span(position) | Piece::SpanOr(Some(position), _) => span(out, position),
     }
 }
 

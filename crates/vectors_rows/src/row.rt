@@ -34,7 +34,7 @@ impl<'a> Row<'a> {
     /// The number after the name in a line that begins with the word, or 0 if no number is there.
     pub fn number_of(&self, word: &str, name: &str) -> Option<usize> {
         for (first, rest) in &self.lines {
-            let (named, count) = rest.split_once(' ').unwrap_or((*rest, ""));
+            let (named, count) = first_word(*rest);
             if *first == word && named == name {
                 return Some(number(count));
             }
@@ -51,32 +51,19 @@ pub fn rows(alloc: Global, text: &str) -> Result<Vec<Row<'_>>, AllocError> {
     Ok(rows)
 }
 
+/// Adds the rows of a file.
 fn add_rows<'a>(alloc: Global, text: &'a str, rows: &mut Vec<Row<'a>>) -> Result<(), AllocError> {
     for line in text.lines() {
-        match line.strip_prefix("  ") {
-            Some(line) => add_line(rows, line)?,
-            None => add_row(alloc, rows, line)?,
+        if let Some(line) = line.strip_prefix("  ") {
+            if let Some(row) = rows.last_mut() {
+                row.lines.push(first_word(line))?;
+            }
+        } else if !line.is_empty() && !line.starts_with('#') {
+            let (tries, name) = first_word(line);
+            let lines = Vec::new(alloc);
+            rows.push(Row { tries, name, lines })?;
         }
     }
-    Ok(())
-}
-
-/// Adds a line to the last row, if there is one.
-fn add_line<'a>(rows: &mut Vec<Row<'a>>, line: &'a str) -> Result<(), AllocError> {
-    if let Some(row) = rows.last_mut() {
-        row.lines.push(line.split_once(' ').unwrap_or((line, "")))?;
-    }
-    Ok(())
-}
-
-/// Adds a row that begins with a line, unless the line is skipped.
-fn add_row<'a>(alloc: Global, rows: &mut Vec<Row<'a>>, line: &'a str) -> Result<(), AllocError> {
-    if line.is_empty() || line.starts_with('#') {
-        return Ok(());
-    }
-    let (tries, name) = line.split_once(' ').unwrap_or((line, ""));
-    let lines = Vec::new(alloc);
-    rows.push(Row { tries, name, lines })?;
     Ok(())
 }
 
@@ -87,13 +74,18 @@ pub fn number(word: &str) -> usize {
 
 /// The two numbers that two words spell.
 pub fn numbers(words: &str) -> (usize, usize) {
-    let (first, second) = words.split_once(' ').unwrap_or((words, ""));
+    let (first, second) = first_word(words);
     (number(first), number(second))
 }
 
 /// The first two words, and the text after them.
 pub fn words(line: &str) -> (&str, &str, &str) {
-    let (first, rest) = line.split_once(' ').unwrap_or((line, ""));
-    let (second, rest) = rest.split_once(' ').unwrap_or((rest, ""));
+    let (first, rest) = first_word(line);
+    let (second, rest) = first_word(rest);
     (first, second, rest)
+}
+
+/// The first word, and the text after it.
+pub fn first_word(line: &str) -> (&str, &str) {
+    line.split_once(' ').unwrap_or((line, ""))
 }

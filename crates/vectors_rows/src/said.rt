@@ -1,7 +1,6 @@
 //! Pieces that a tree and its grammar have in common: precedences, and what a file says of its parser.
 
 use crate::page::Page;
-use crate::pen;
 use std::fmt::Debug;
 
 /// Writes a precedence: its level, and how its tokens associate.
@@ -17,18 +16,11 @@ pub fn write_settings(
     programs: &Option<String>,
 ) {
     if let Some((name, param_type)) = param {
-        pen::name(out, "    parse-param ", name.as_str());
-        pen::name(out, " ", param_type.as_str());
-        out.push('\n');
+        writeln!(out, "    parse-param {name:?} {param_type:?}");
     }
-    write_text(out, "    parse-generics ", generics);
-    write_text(out, "    programs ", programs);
-}
-
-/// Writes a text in double quotes as a line, if it exists.
-fn write_text(out: &mut Page, before: &str, text: &Option<String>) {
-    if let Some(text) = text {
-        pen::name(out, before, text.as_str());
-        out.push('\n');
+    for (word, text) in [("parse-generics", generics), ("programs", programs)] {
+        if let Some(text) = text {
+            writeln!(out, "    {word} {text:?}");
+        }
     }
 }

@@ -13,7 +13,7 @@ use std::alloc::{AllocError, Global};
 use std::fmt::Debug;
 use std::mem;
 use vectors_rows::page::Page;
-use vectors_rows::pen;
+use vectors_rows::pen::{self, Piece};
 use vectors_rows::row::{Row, number, words};
 use vectors_rows::text::of_turn;
 
@@ -21,9 +21,6 @@ use vectors_rows::text::of_turn;
 trait Key: Ord + Clone + Debug + Drop {
     /// The key that a word names.
     fn of(alloc: Global, word: &str) -> Result<Self, AllocError>;
-
-    /// Writes a text and the key.
-    fn print(&self, out: &mut Page, before: &str);
 
     ghost faithful: { IsFaithful Self.cmp Self.is_clone };
 }
@@ -34,10 +31,6 @@ impl Key for u32 {
     fn of(_: Global, word: &str) -> Result<u32, AllocError> {
         Ok(small(word))
     }
-
-    fn print(&self, out: &mut Page, before: &str) {
-        pen::number(out, before, *self as usize);
-    }
 }
 
 impl Key for String {
@@ -45,10 +38,6 @@ impl Key for String {
 
     fn of(alloc: Global, word: &str) -> Result<String, AllocError> {
         String::from_str(alloc, word)
-    }
-
-    fn print(&self, out: &mut Page, before: &str) {
-        pen::name(out, before, self.as_str());
     }
 }
 
@@ -77,29 +66,18 @@ impl<K: Key> Maps<K> {
     }
 }
 
-/// Runs a script on two maps, of which the second is merged into the first.
+/// Runs a script on two maps, of which the second is merged into the first. If memory runs out for that, what is then
+/// in the first is checked.
 fn play<K: Key>(out: &mut Page, row: &Row<'_>) {
     let mut maps = Maps::<K>::new(out.alloc);
     for (position, line) in row.lines.iter().enumerate() {
         match line.0 {
-            "merge" => merge_printed(out, row, position, &mut maps, line.1),
+            "merge" => match merge(out, &mut maps, line.1) {
+                Ok(()) => write_map(out, row, &mut maps.map),
+                Err(_) => stops::print_stop(out, row, position, &maps.map),
+            },
             _ => play_line(out, row, position, &mut maps, *line),
         }
-    }
-}
-
-/// Merges the other map, and writes how that ended and the map. If memory runs out, what is then in the map is checked.
-fn merge_printed<K: Key>(
-    out: &mut Page,
-    row: &Row<'_>,
-    position: usize,
-    maps: &mut Maps<K>,
-    refused: &str,
-) {
-    write_call(out, "    merge ", refused);
-    match merge(out, maps, refused) {
-        Ok(()) => write_map(out, row, &mut maps.map),
-        Err(_) => stops::print_stop(out, row, position, &maps.map),
     }
 }
 
@@ -131,8 +109,10 @@ fn play_line<K: Key>(
 
 /// Writes whether two maps are equal, as a line.
 fn compare<K: Key>(out: &mut Page, before: &str, map: &MarkMap<K, u32>, other: &MarkMap<K, u32>) {
-    pen::flag(out, before, *map == *other);
-    out.push('\n');
+    pen::pieces(
+        out,
+        &[Piece::Flag(before, *map == *other), Piece::Text("\n")],
+    );
 }
 
 /// Makes a call, and writes it, its result and what is then in the map.
@@ -196,22 +176,12 @@ fn call<K: Key>(out: &mut Page, map: &mut MarkMap<K, u32>, line: &str) -> Result
         return Ok(());
     }
     let key = K::of(out.alloc, key)?;
-    call_with(out, map, &key, name, value)
-}
-
-/// Makes a call with a key, and writes its result.
-fn call_with<K: Key>(
-    out: &mut Page,
-    map: &mut MarkMap<K, u32>,
-    key: &K,
-    name: &str,
-    value: &str,
-) -> Result<(), AllocError> {
     if name == "entry" {
         let (name, word, _) = words(value);
-        return entry::call(out, map, key, act_of(name, word));
+        entry::call(out, map, &key, act_of(name, word))
+    } else {
+        make_call(out, map, &key, act_of(name, value))
     }
-    make_call(out, map, key, act_of(name, value))
 }
 
 /// What a call does with a key.
@@ -246,62 +216,44 @@ fn make_call<K: Key>(
     key: &K,
     act: Act,
 ) -> Result<(), AllocError> {
-    match act {
-        Act::Insert(value) => insert(out, map, key, value),
+    let done = match act {
+        Act::Insert(value) => {
+            let old = map.insert(key.clone()?, value);
+            return write_filled(out, "", &old, (key, value));
+        }
         Act::Remove => {
-            write_old(out, map.remove(key));
-            Ok(())
+            writeln!(out, "{:?}", map.remove(key));
+            return Ok(());
         }
-        Act::MarkUsed => write_done(out, map.mark_used(key), "()\n"),
-        Act::MarkRequired => write_done(out, map.mark_required(key), "()\n"),
-        Act::SetMergeBehavior(behavior) => {
-            write_done(out, map.set_merge_behavior(key, behavior), "()\n")
-        }
-        Act::InsertEntry(_) | Act::Look => Ok(()),
-    }
-}
-
-/// Gives a key a value, and writes its old value. If memory ran out, both are returned.
-fn insert<K: Key>(
-    out: &mut Page,
-    map: &mut MarkMap<K, u32>,
-    key: &K,
-    value: u32,
-) -> Result<(), AllocError> {
-    match map.insert(key.clone()?, value) {
-        Ok(old) => {
-            write_old(out, old);
-            Ok(())
-        }
-        Err(back) => refused(out, &back, (key, value)),
-    }
-}
-
-/// Returns that memory ran out. Writes before if the key and value that came back aren't those that were passed.
-fn refused<K: Key>(
-    out: &mut Page,
-    (key, value): &(K, u32),
-    handed: (&K, u32),
-) -> Result<(), AllocError> {
-    let is_handed_back = *key == *handed.0 && *value == handed.1;
-    pen::text_if(out, !is_handed_back, "another key and value come back, ");
-    Err(AllocError)
-}
-
-/// Writes a result, if a call was made.
-fn write_done(
-    out: &mut Page,
-    done: Result<(), AllocError>,
-    answer: &str,
-) -> Result<(), AllocError> {
+        Act::MarkUsed => map.mark_used(key),
+        Act::MarkRequired => map.mark_required(key),
+        Act::SetMergeBehavior(behavior) => map.set_merge_behavior(key, behavior),
+        Act::InsertEntry(_) | Act::Look => return Ok(()),
+    };
     done?;
-    out.push_str(answer);
+    out.push_str("()\n");
     Ok(())
 }
 
-/// Writes the old value of a key, and ends the line.
-fn write_old(out: &mut Page, old: Option<u32>) {
-    writeln!(out, "{old:?}");
+/// Writes what a key that was given a value had or has. If memory ran out, writes whether another key and value came
+/// back than those that were passed, and returns that.
+fn write_filled<K: Key, T: Debug>(
+    out: &mut Page,
+    before: &str,
+    filled: &Result<T, (K, u32)>,
+    (key, value): (&K, u32),
+) -> Result<(), AllocError> {
+    match filled {
+        Ok(answer) => {
+            writeln!(out, "{before}{answer:?}");
+            Ok(())
+        }
+        Err(back) => {
+            let is_other = back.0 != *key || back.1 != value;
+            pen::text_if(out, is_other, "another key and value come back, ");
+            Err(AllocError)
+        }
+    }
 }
 
 /// The number that a word spells, or what is left of it if it is large.
@@ -318,8 +270,9 @@ fn behavior(word: &str) -> MergeBehavior {
     }
 }
 
-/// Merges the other map, where one value isn't converted, and writes how that ended.
+/// Merges the other map, where one value isn't converted, and writes the call and how it ended.
 fn merge<K: Key>(out: &mut Page, maps: &mut Maps<K>, refused: &str) -> Result<(), AllocError> {
+    write_call(out, "    merge ", refused);
     let theirs = mem::replace(&mut maps.other, MarkMap::new(out.alloc));
     write_merged(out, &merged(&mut maps.map, theirs, number(refused)))
 }
@@ -360,37 +313,23 @@ fn write_conflict<K: Key>(out: &mut Page, conflict: &MergeError<K, Box<u32>>) {
 
 /// Writes a map: the value and marks of each of the row's keys, and its lists of keys.
 fn write_map<K: Key>(out: &mut Page, row: &Row<'_>, map: &mut MarkMap<K, u32>) {
-    out.push_str("       ");
-    write_watched(out, row.first("watch").unwrap_or(""), map);
-    write_keys(out, map);
-    write_entries(out, map);
-    match row.first("show") {
-        Some("without-memory") => out.push('\n'),
-        _ => write_marked(out, map),
-    }
-}
-
-/// Writes the value and marks of each of these keys.
-fn write_watched<K: Key>(out: &mut Page, watched: &str, map: &mut MarkMap<K, u32>) {
-    for word in watched.split_whitespace() {
-        entry::write_key(out, map, word);
-    }
-    out.push('\n');
-}
-
-/// Writes the keys.
-fn write_keys<K: Key>(out: &mut Page, map: &MarkMap<K, u32>) {
+    entry::write_watched(out, row.first("watch").unwrap_or(""), map);
     out.push_str("        keys");
     for key in map.keys() {
-        key.print(out, " ");
+        write_key(out, " ", key);
     }
+    write_entries(out, map);
+    if row.first("show") != Some("without-memory") {
+        write_marked(out, map);
+    }
+    out.push('\n');
 }
 
 /// Writes the entries.
 fn write_entries<K: Key>(out: &mut Page, map: &MarkMap<K, u32>) {
     out.push_str("; entries");
     for (key, value) in map {
-        key.print(out, " ");
+        write_key(out, " ", key);
         pen::number(out, " ", *value as usize);
     }
 }
@@ -398,27 +337,24 @@ fn write_entries<K: Key>(out: &mut Page, map: &MarkMap<K, u32>) {
 /// Writes the unused keys and the missing ones.
 fn write_marked<K: Key>(out: &mut Page, map: &MarkMap<K, u32>) {
     match map.unused(out.alloc) {
-        Ok(keys) => write_unused(out, &keys),
+        Ok(keys) => write_list(out, "; unused", &keys),
         Err(_) => out.tear(),
     }
     match map.missing(out.alloc) {
-        Ok(keys) => write_missing(out, &keys),
+        Ok(keys) => write_list(out, "; missing", &keys),
         Err(_) => out.tear(),
     }
 }
 
-fn write_unused<K: Key>(out: &mut Page, keys: &[K]) {
-    out.push_str("; unused");
+/// Writes a text, and keys after it.
+fn write_list<K: Debug>(out: &mut Page, before: &str, keys: &[K]) {
+    out.push_str(before);
     for key in keys {
-        key.print(out, " ");
+        write_key(out, " ", key);
     }
 }
 
-fn write_missing<K: Key>(out: &mut Page, keys: &[&K]) {
-    out.push_str("; missing");
-    for key in keys {
-        let key: &K = *key;
-        key.print(out, " ");
-    }
-    out.push('\n');
+/// Writes a text and a key.
+fn write_key<K: Debug>(out: &mut Page, before: &str, key: &K) {
+    write!(out, "{before}{key:?}");
 }

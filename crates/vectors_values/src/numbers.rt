@@ -1,6 +1,6 @@
 //! Rows on spans, on indices, and on lists of bits.
 
-ghost use Rattle.std.specs.Prelude.{◌≡◌, ◌<◌, length};
+ghost use Rattle.std.specs.Prelude.{◌≡◌, length};
 
 use cfgrammar::{Location, PIdx, RIdx, SIdx, Span, Storage, Symbol, TIdx, Vob};
 use vectors_rows::page::Page;
@@ -13,42 +13,33 @@ pub fn print(out: &mut Page, row: &Row<'_>, text: &str) {
         return print_without_memory(out, row);
     }
     let script = if text.is_empty() { "a script" } else { text };
-    for line in &row.lines {
-        print_line(out, row, script, *line);
-    }
-}
-
-fn print_line(out: &mut Page, row: &Row<'_>, script: &str, (word, rest): (&str, &str)) {
-    match word {
-        "span" => write_span(out, Some(script), numbers(rest)),
-        "number" => write_number(out, number(rest)),
-        "bits" => write_bits(out, row, numbers(rest)),
-        _ => {}
+    for (word, rest) in &row.lines {
+        match *word {
+            "span" => write_span(out, Some(script), numbers(*rest)),
+            "number" => write_number(out, number(*rest)),
+            "bits" => write_bits(out, row, numbers(*rest)),
+            _ => {}
+        }
     }
 }
 
 /// Writes the results for each value of the row, and for the row's list of bits, which were all made before.
 fn print_without_memory(out: &mut Page, row: &Row<'_>) {
     let (len, first) = numbers(row.first("bits").unwrap_or(""));
-    match (
-        Vob::from_elem(out.alloc, first == 1, len),
-        Vob::from_elem(out.alloc, true, len),
-    ) {
-        (Ok(mut bits), Ok(others)) => write_values(out, row, &mut bits, &others),
-        _ => out.tear(),
-    }
-}
-
-/// Writes the results for each span and each number of the row, and for a list of bits.
-fn write_values(out: &mut Page, row: &Row<'_>, bits: &mut Vob, others: &Vob) {
+    let Ok(mut bits) = Vob::from_elem(out.alloc, first == 1, len) else {
+        return out.tear();
+    };
+    let Ok(others) = Vob::from_elem(out.alloc, true, len) else {
+        return out.tear();
+    };
     pen::without_memory(out);
     for (word, rest) in &row.lines {
         let (first, second) = numbers(*rest);
         match *word {
             "span" => write_span(out, None, (first, second)),
             "number" => write_number(out, first),
-            "or" if others.len() == bits.len() => write_or(out, bits, 1, others),
-            other => write_call(out, bits, other, first, second),
+            "or" if others.len() == bits.len() => write_or(out, &mut bits, 1, &others),
+            other => write_call(out, &mut bits, other, first, second),
         }
     }
 }
@@ -60,7 +51,10 @@ fn write_span(out: &mut Page, script: Option<&str>, (start, end): (usize, usize)
     }
     write_parts(out, Span::new(start, end));
     if let Some(script) = script {
-        write_other(out, script);
+        match String::from_str(out.alloc, script) {
+            Ok(words) => write_copied(out, &Location::Other(words)),
+            Err(_) => out.tear(),
+        }
     }
     out.push('\n');
 }
@@ -81,13 +75,6 @@ fn write_parts(out: &mut Page, span: Span) {
     pen::flag(out, " ", position == Location::CommandLine);
 }
 
-fn write_other(out: &mut Page, script: &str) {
-    match String::from_str(out.alloc, script) {
-        Ok(words) => write_copied(out, &Location::Other(words)),
-        Err(_) => out.tear(),
-    }
-}
-
 /// Writes whether a location equals a copy.
 fn write_copied(out: &mut Page, position: &Location) {
     match position.clone() {
@@ -99,8 +86,7 @@ fn write_copied(out: &mut Page, position: &Location) {
 /// Writes a number as each index type stores it.
 fn write_number(out: &mut Page, number: usize) {
     pen::number(out, "    ", number);
-    out.push(':');
-    write_stored::<u8>(out, " u8", number);
+    write_stored::<u8>(out, ": u8", number);
     write_stored::<u16>(out, " u16", number);
     write_stored::<u32>(out, " u32", number);
     out.push('\n');
@@ -137,48 +123,33 @@ fn write_stored<S: Storage>(out: &mut Page, storage: &str, number: usize) {
 
 /// Writes a list of bits that are all off or all on, the results of the row's calls, and the list after each.
 fn write_bits(out: &mut Page, row: &Row<'_>, (len, first): (usize, usize)) {
-    match Vob::from_elem(out.alloc, first == 1, len) {
-        Ok(mut bits) => write_calls(out, row, &mut bits),
-        Err(_) => out.tear(),
-    }
-}
-
-/// Writes a list of bits, the results of the row's calls, and the list after each.
-fn write_calls(out: &mut Page, row: &Row<'_>, bits: &mut Vob) {
-    write_list(out, bits);
+    let Ok(mut bits) = Vob::from_elem(out.alloc, first == 1, len) else {
+        return out.tear();
+    };
+    write_list(out, &bits);
     for (word, rest) in &row.lines {
         let (position, bit) = numbers(*rest);
-        match *word {
-            "or" => write_or_all(out, bits, position),
-            _ => write_call(out, bits, *word, position, bit),
+        if *word != "or" {
+            write_call(out, &mut bits, *word, position, bit);
+            continue;
+        }
+        match Vob::from_elem(out.alloc, position == 1, bits.len()) {
+            Ok(other) => write_or(out, &mut bits, position, &other),
+            Err(_) => out.tear(),
         }
     }
 }
 
-/// Writes the result of a call on a list of bits.
+/// Writes the result of a call on a list of bits, and the list that the call may have changed.
 fn write_call(out: &mut Page, bits: &mut Vob, word: &str, position: usize, bit: usize) {
     match word {
-        "set" if position < bits.len() => write_set(out, bits, position, bit),
+        "set" if position < bits.len() => {
+            let is_changed = bits.set(position, bit == 1);
+            writeln!(out, "    set({position}, {bit}): {is_changed}");
+            write_list(out, bits);
+        }
         "get" => writeln!(out, "    get({position}): {:?}", bits.get(position)),
         _ => {}
-    }
-}
-
-/// Sets a bit, and writes whether that changed it, and the list.
-fn write_set(out: &mut Page, bits: &mut Vob, position: usize, bit: usize)
-    requires { position < length bits.old }
-{
-    pen::numbers(out, ("    set(", position), (", ", bit));
-    pen::flag(out, "): ", bits.set(position, bit == 1));
-    out.push('\n');
-    write_list(out, bits);
-}
-
-/// Adds the bits of a list of bits that are all off or all on.
-fn write_or_all(out: &mut Page, bits: &mut Vob, bit: usize) {
-    match Vob::from_elem(out.alloc, bit == 1, bits.len()) {
-        Ok(other) => write_or(out, bits, bit, &other),
-        Err(_) => out.tear(),
     }
 }
 
@@ -187,10 +158,14 @@ fn write_or_all(out: &mut Page, bits: &mut Vob, bit: usize) {
 fn write_or(out: &mut Page, bits: &mut Vob, position: usize, other: &Vob)
     requires { length other.now ≡ length bits.old }
 {
-    pen::number(out, "    or(", position);
-    pen::flag(out, "..): ", bits.or(other));
-    pen::flag(out, ", equal: ", *bits == *other);
-    out.push('\n');
+    let is_changed = bits.or(other);
+    let pieces = [
+        Piece::Number("    or(", position),
+        Piece::Flag("..): ", is_changed),
+        Piece::Flag(", equal: ", *bits == *other),
+        Piece::Text("\n"),
+    ];
+    pen::pieces(out, &pieces);
     write_list(out, bits);
 }
 
@@ -199,11 +174,8 @@ fn write_list(out: &mut Page, bits: &Vob) {
     pen::number(out, "    ", bits.len());
     out.push_str(" bits ");
     for position in 0..bits.len() {
-        out.push_str(if bits.get(position) == Some(true) {
-            "1"
-        } else {
-            "0"
-        });
+        let is_on = bits.get(position) == Some(true);
+        out.push(if is_on { '1' } else { '0' });
     }
     out.push('\n');
 }

@@ -24,132 +24,122 @@ use std::hash::Hash;
 
 fn have<
     A: Copy + Debug + Hash + Ord,
-    B: Copy + Debug + Eq + Hash,
+    B: Copy + Debug + Eq,
     C: Copy + Debug + Eq,
     D: Clone + Debug + Eq,
-    E: Clone + Debug,
+    E: Clone + Debug + Eq,
     F: Debug + Eq,
-    G: Debug + PartialEq,
+    G: Debug,
     H: Debug,
     I: Debug,
 >() {}
 
-fn are_printed<A: Error, B: span::Spanned, C: Display, D: Display>() {}
+fn are_shown<
+    A: Copy + Debug + Eq + Hash,
+    B: Copy + Debug + Eq + Hash,
+    C: Clone + Debug,
+    D: Clone + Debug,
+    E: Clone + Debug,
+    F: Debug + PartialEq,
+>() {}
+
+fn are_printed<
+    A: Error,
+    B: Error,
+    C: span::Spanned,
+    D: span::Spanned,
+    E: Display,
+    F: Display,
+    G: Display,
+    H: Display,
+    I: Display,
+>() {}
 
 /// Each type with the traits of its column.
 pub fn traits() {
     have::<
         RIdx<u32>,
-        Span,
         YaccKind,
+        MergeBehavior,
         Location,
-        HeaderError<Span>,
+        YaccGrammarErrorKind,
         Vob,
-        HeaderValue<Span>,
         FeedError,
         YaccFault,
-    >();
-    have::<
-        PIdx<u32>,
-        Symbol<u32>,
-        YaccOriginalActionKind,
-        Rule,
-        GrammarAST,
-        Value<Span>,
-        HeaderValue<Span>,
-        HeaderFault,
-        KindFault<Span>,
-    >();
-    have::<
-        SIdx<u32>,
-        Span,
-        SpansKind,
-        Production,
-        ASTWithValidityInfo,
-        Setting<Span>,
-        HeaderValue<Span>,
-        StartFault,
-        CostError,
-    >();
-    have::<
-        TIdx<u32>,
-        Span,
-        HeaderErrorKind,
-        ast::Symbol,
-        Location,
-        Namespaced<Span>,
-        HeaderValue<Span>,
-        SentenceError,
-        ReportFault,
-    >();
-    have::<
-        RIdx<u32>,
-        Span,
-        MergeBehavior,
-        YaccGrammarError,
-        Location,
-        MarkMap<u32, String>,
-        HeaderValue<Span>,
-        SinkFault,
         YaccFirsts<u32>,
     >();
     have::<
-        RIdx<u32>,
-        Span,
+        PIdx<u32>,
+        YaccOriginalActionKind,
         AssocKind,
-        YaccGrammarErrorKind,
-        Location,
-        Vob,
-        HeaderValue<Span>,
+        Rule,
+        YaccGrammarWarning,
+        Value<Span>,
+        HeaderFault,
+        KindFault<Span>,
         YaccFollows<u32>,
+    >();
+    have::<
+        SIdx<u32>,
+        SpansKind,
+        Precedence,
+        Production,
+        YaccGrammarWarningKind,
+        Setting<Span>,
+        StartFault,
+        CostError,
         MergeError<u32, String>,
     >();
     have::<
-        RIdx<u32>,
-        Span,
-        Precedence,
-        YaccGrammarWarning,
-        Location,
-        Vob,
-        HeaderValue<Span>,
+        TIdx<u32>,
+        HeaderErrorKind,
+        HeaderErrorKind,
+        ast::Symbol,
+        ASTModificationError,
+        Namespaced<Span>,
+        SentenceError,
+        ReportFault,
         MergeFault<u32, String, ()>,
-        Vob,
     >();
     have::<
-        RIdx<u32>,
-        Span,
-        Span,
-        YaccGrammarWarningKind,
-        Location,
-        Vob,
-        HeaderValue<Span>,
-        Vob,
-        Vob,
-    >();
-    have::<
-        RIdx<u32>,
-        Span,
-        Span,
+        TIdx<u32>,
+        HeaderErrorKind,
+        HeaderErrorKind,
+        YaccGrammarError,
         ASTModificationError,
-        Location,
-        Vob,
+        MarkMap<u32, String>,
+        SinkFault,
+        ReportFault,
+        ReportFault,
+    >();
+    are_shown::<
+        Span,
+        Symbol<u32>,
+        HeaderError<Span>,
+        GrammarAST,
+        ASTWithValidityInfo,
         HeaderValue<Span>,
-        Vob,
-        Vob,
     >();
-    are_printed::<YaccGrammarError, YaccGrammarError, YaccGrammarErrorKind, YaccGrammarError>();
     are_printed::<
+        YaccGrammarError,
         ASTModificationError,
+        YaccGrammarError,
         YaccGrammarWarning,
+        YaccGrammarErrorKind,
         YaccGrammarWarningKind,
-        YaccGrammarWarning,
+        HeaderErrorKind,
+        ast::Symbol,
+        Visible<'static>,
     >();
-    are_printed::<HeaderError<Span>, HeaderError<Span>, HeaderErrorKind, HeaderError<Span>>();
-    are_printed::<MergeError<u32, String>, HeaderError<Span>, ast::Symbol, ASTModificationError>();
     are_printed::<
+        HeaderError<Span>,
         MergeError<u32, String>,
         HeaderError<Span>,
-        Visible<'static>,
+        HeaderError<Span>,
+        YaccGrammarError,
+        ASTModificationError,
+        YaccGrammarWarning,
+        HeaderError<Span>,
         MergeError<u32, String>,
     >();
 }

@@ -1,6 +1,6 @@
 //! Calls on the entry of a key.
 
-use super::{Act, Key, refused, write_done};
+use super::{Act, Key, write_filled, write_key};
 use cfgrammar::markmap::{Entry, MarkMap, OccupiedEntry, VacantEntry};
 use std::alloc::AllocError;
 use vectors_rows::page::Page;
@@ -80,22 +80,6 @@ fn occupy<K: Key>(entry: VacantEntry<'_, K, u32>, value: u32) -> Result<usize, (
     }
 }
 
-fn write_filled<K: Key>(
-    out: &mut Page,
-    before: &str,
-    filled: &Result<usize, (K, u32)>,
-    handed: (&K, u32),
-) -> Result<(), AllocError> {
-    match filled {
-        Ok(number) => {
-            pen::number(out, before, *number);
-            out.push('\n');
-            Ok(())
-        }
-        Err(back) => refused(out, back, handed),
-    }
-}
-
 /// Marks the key of an entry without a value, or writes the key.
 fn mark_vacant<K: Key>(
     out: &mut Page,
@@ -106,40 +90,41 @@ fn mark_vacant<K: Key>(
         Act::MarkRequired => entry.mark_required(),
         Act::SetMergeBehavior(behavior) => entry.set_merge_behavior(behavior),
         _ => {
-            entry.key().print(out, "vacant, ");
-            out.push('\n');
+            writeln!(out, "vacant, {:?}", entry.key());
             return Ok(());
         }
     };
-    write_done(out, done, "vacant, ()\n")
+    done?;
+    out.push_str("vacant, ()\n");
+    Ok(())
 }
 
-/// Writes a key, its value and its marks.
-pub(super) fn write_key<K: Key>(out: &mut Page, map: &mut MarkMap<K, u32>, word: &str) {
-    match K::of(out.alloc, word) {
-        Ok(key) => {
-            write_marks(out, map, &key);
-            write_mark(out, &map.entry(key));
+/// Writes each of these keys with its value and its marks.
+pub(super) fn write_watched<K: Key>(out: &mut Page, watched: &str, map: &mut MarkMap<K, u32>) {
+    out.push_str("       ");
+    for word in watched.split_whitespace() {
+        match K::of(out.alloc, word) {
+            Ok(key) => {
+                write_marks(out, map, &key);
+                write_mark(out, &map.entry(key));
+            }
+            Err(_) => out.tear(),
         }
-        Err(_) => out.tear(),
     }
+    out.push('\n');
 }
 
 /// Writes a key, its value, and whether it is used and required.
 fn write_marks<K: Key>(out: &mut Page, map: &MarkMap<K, u32>, key: &K) {
-    key.print(out, " [");
-    write_value(out, map.get(key));
-    let is_there = map.get(key).is_some();
-    pen::text_if(out, map.contains_key(key) != is_there, " (or not)");
-    pen::text_if(out, map.is_used(key), " used");
-    pen::text_if(out, map.is_required(key), " required");
-}
-
-fn write_value(out: &mut Page, value: Option<&u32>) {
-    match value {
-        Some(value) => pen::number(out, " ", *value as usize),
-        None => out.push_str(" -"),
-    }
+    write_key(out, " [", key);
+    let value = map.get(key).map(|value| *value as usize);
+    let pieces = [
+        Piece::NumberOr(" ", value, " -"),
+        Piece::If(map.contains_key(key) != value.is_some(), " (or not)"),
+        Piece::If(map.is_used(key), " used"),
+        Piece::If(map.is_required(key), " required"),
+    ];
+    pen::pieces(out, &pieces);
 }
 
 /// Writes the mark of a key with a value.
