@@ -38,8 +38,16 @@ struct Sentences<'a> {
 }
 
 impl Writer<YaccGrammar<u32>, YaccFault> for Sentences<'_> {
+    /// Writes the results for the costs of a grammar.
     fn write(&self, out: &mut Page, grammar: &mut YaccGrammar<u32>) {
-        print_grammar(out, self.row, grammar);
+        let (row, requested) = (self.row, Cell::new(0));
+        match grammar.sentence_generator(out.alloc, |tidx| requested_cost(row, &requested, tidx)) {
+            Ok(generator) => {
+                let is_requested = requested.get() == usize::from(grammar.tokens_len());
+                print_costs(out, row, grammar, &generator, is_requested);
+            }
+            Err(_) => out.tear(),
+        }
     }
 
     fn refuse(&self, out: &mut Page, fault: &YaccFault) {
@@ -50,39 +58,21 @@ impl Writer<YaccGrammar<u32>, YaccFault> for Sentences<'_> {
     }
 }
 
-/// Writes the results for the costs of a grammar.
-fn print_grammar(out: &mut Page, row: &Row<'_>, grammar: &YaccGrammar<u32>) {
-    let requested = Cell::new(0);
-    let made = grammar.sentence_generator(out.alloc, |tidx| requested_cost(row, &requested, tidx));
-    let is_requested = requested.get() == usize::from(grammar.tokens_len());
-    match made {
-        Ok(generator) => print_costs(out, row, grammar, &generator, is_requested),
-        Err(_) => out.tear(),
-    }
-}
-
-/// What a token costs. The call is counted if the token is the next one in order.
+/// What a token costs by the row's `costs`, if the list is long enough, or else by its `cost`, or else 1. The call is
+/// counted if the token is the next one in order.
 fn requested_cost(row: &Row<'_>, requested: &Cell<usize>, tidx: TIdx<u32>) -> u8
     ensures { 0 < result }
 {
     let number = usize::from(tidx);
     let is_next = number == requested.get();
-    let next = if is_next {
+    requested.set(if is_next {
         number.saturating_add(1)
     } else {
         usize::MAX
-    };
-    requested.set(next);
-    cost_of(row, tidx)
-}
-
-/// What a token costs by the row's `costs`, if the list is long enough, or else by its `cost`, or else 1.
-fn cost_of(row: &Row<'_>, tidx: TIdx<u32>) -> u8
-    ensures { 0 < result }
-{
+    });
     let listed = row
         .first("costs")
-        .and_then(|costs| costs.split(' ').nth(usize::from(tidx)));
+        .and_then(|costs| costs.split(' ').nth(number));
     let word = listed.or(row.first("cost")).unwrap_or("");
     word.parse().unwrap_or(1).max(1)
 }

@@ -2,7 +2,7 @@
 
 use cfgrammar::TIdx;
 use cfgrammar::yacc::YaccGrammar;
-use lexcheck::{LexReport, check};
+use lexcheck::check;
 use std::collections::HashMap;
 use vectors_rows::page::Page;
 use vectors_rows::pen;
@@ -15,27 +15,13 @@ pub(crate) fn write_names(out: &mut Page, grammar: &YaccGrammar<u32>, names: &st
     }
 }
 
+/// Writes the differences between the tokens and these names, and whether the map of tokens is wrong.
 fn write_checked(out: &mut Page, grammar: &YaccGrammar<u32>, names: &[&str]) {
-    match check(out.alloc, grammar, names) {
-        Ok(report) => write_report(out, grammar, names, &report),
-        Err(_) => out.tear(),
-    }
-}
-
-fn write_report(
-    out: &mut Page,
-    grammar: &YaccGrammar<u32>,
-    names: &[&str],
-    report: &LexReport<u32>,
-) {
+    let Ok(report) = check(out.alloc, grammar, names) else {
+        return out.tear();
+    };
     write!(out, "names {names:?}: {report:?}");
-    pen::unless_copied(out, report, ", and a copy that isn't the same");
-    write_map(out, grammar);
-    out.push('\n');
-}
-
-/// Writes whether the map of tokens is wrong.
-fn write_map(out: &mut Page, grammar: &YaccGrammar<u32>) {
+    pen::unless_copied(out, &report, ", and a copy that isn't the same");
     match grammar.tokens_map(out.alloc) {
         Ok(tokens) => {
             let is_other = !is_mapped(grammar, &tokens);
@@ -43,6 +29,7 @@ fn write_map(out: &mut Page, grammar: &YaccGrammar<u32>) {
         }
         Err(_) => out.tear(),
     }
+    out.push('\n');
 }
 
 /// Whether a map has exactly the tokens that have a name, each under its name.

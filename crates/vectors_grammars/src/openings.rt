@@ -1,77 +1,58 @@
 //! How often the analyses of a grammar open its productions.
 
+use cfgrammar::PIdx;
 use cfgrammar::yacc::YaccGrammar;
 use cfgrammar::yacc::firsts::firsts_over;
 use cfgrammar::yacc::follows::follows_over;
 use cfgrammar::yacc::grammar::Productions;
-use cfgrammar::{PIdx, Storage};
-use std::alloc::{AllocError, Global};
+use std::alloc::AllocError;
 use vectors_rows::page::Page;
 
-/// Writes the greatest number of times that a production was opened for the FIRST sets, and for the FOLLOW sets, if
-/// that is 0 or more than rules x (tokens + 1) + 1.
-pub(crate) fn write_openings(out: &mut Page, grammar: &YaccGrammar<u32>) {
-    let firsts = opened_by_firsts(out.alloc, grammar);
-    write_unexpected(out, grammar, firsts, "firsts");
-    let follows = opened_by_follows(out.alloc, grammar);
-    write_unexpected(out, grammar, follows, "follows");
+/// Finds the FIRST sets of a grammar, and writes what isn't expected of the openings.
+pub(crate) fn write_of_firsts(out: &mut Page, grammar: &YaccGrammar<u32>) {
+    let Ok(mut productions) = grammar.productions(out.alloc) else {
+        return out.tear();
+    };
+    let is_refused = is_refused(firsts_over(out.alloc, &mut productions));
+    write_unexpected(out, grammar, "firsts", is_refused, &productions);
 }
 
-/// Writes the greatest number of times that a production was opened, if that isn't expected.
-fn write_unexpected(
-    out: &mut Page,
-    grammar: &YaccGrammar<u32>,
-    most: Result<u64, AllocError>,
-    sets: &str,
-) {
-    match most {
-        Ok(most) if is_expected(grammar, most) => {}
-        Ok(most) => writeln!(out, "    opened {most} times for {sets}"),
-        Err(_) => out.tear(),
-    }
+/// Finds the FOLLOW sets of a grammar, and writes what isn't expected of the openings.
+pub(crate) fn write_of_follows(out: &mut Page, grammar: &YaccGrammar<u32>) {
+    let Ok(firsts) = grammar.firsts(out.alloc) else {
+        return out.tear();
+    };
+    let Ok(mut productions) = grammar.productions(out.alloc) else {
+        return out.tear();
+    };
+    let is_refused = is_refused(follows_over(out.alloc, &mut productions, &firsts));
+    write_unexpected(out, grammar, "follows", is_refused, &productions);
 }
 
-/// Whether this may be the greatest number of times that a production was opened.
-fn is_expected(grammar: &YaccGrammar<u32>, most: u64) -> bool {
-    let rules = u64::from(grammar.rules_len().0);
-    let tokens = u64::from(grammar.tokens_len().0);
-    0 < most && most <= rules.saturating_mul(tokens + 1).saturating_add(1)
-}
-
-/// The greatest count of a production's openings, after the FIRST sets were found.
-fn opened_by_firsts(alloc: Global, grammar: &YaccGrammar<u32>) -> Result<u64, AllocError> {
-    let mut productions = grammar.productions(alloc)?;
-    let is_refused = was_refused(firsts_over(alloc, &mut productions));
-    counted(grammar, is_refused, greatest_count(&productions))
-}
-
-/// The greatest count of a production's openings, after the FOLLOW sets were found.
-fn opened_by_follows(alloc: Global, grammar: &YaccGrammar<u32>) -> Result<u64, AllocError> {
-    let firsts = grammar.firsts(alloc)?;
-    let mut productions = grammar.productions(alloc)?;
-    let is_refused = was_refused(follows_over(alloc, &mut productions, &firsts));
-    counted(grammar, is_refused, greatest_count(&productions))
-}
-
-fn was_refused<T: Drop>(answer: Result<T, AllocError>) -> bool {
+/// Whether a call was refused memory. What it returned is dropped here.
+pub(crate) fn is_refused<T: Drop>(answer: Result<T, AllocError>) -> bool {
     answer.is_err()
 }
 
-/// A count, or out of memory if an analysis failed. In that case too, no production may have been opened more often.
-fn counted(grammar: &YaccGrammar<u32>, is_refused: bool, most: u64) -> Result<u64, AllocError> {
-    if is_refused && (most == 0 || is_expected(grammar, most)) {
-        return Err(AllocError);
-    }
-    Ok(most)
-}
-
-/// The greatest count of a production's openings.
-fn greatest_count<S: Storage, P: Productions<S>>(productions: &P) -> u64 {
+/// Writes the greatest number of times that a production was opened, if that is 0 or more than rules x (tokens + 1) +
+/// 1. If the analysis was refused memory, no production may have been opened more often either.
+fn write_unexpected<P: Productions<u32>>(
+    out: &mut Page,
+    grammar: &YaccGrammar<u32>,
+    sets: &str,
+    is_refused: bool,
+    productions: &P,
+) {
     let mut most = 0;
-    for number in 0..usize::from(productions.prods_len()) {
-        if let Some(number) = S::from_usize(number) {
-            most = most.max(productions.opened(PIdx(number)));
-        }
+    for number in 0..productions.prods_len().0 {
+        most = most.max(productions.opened(PIdx(number)));
     }
-    most
+    let rules = u64::from(grammar.rules_len().0);
+    let tokens = u64::from(grammar.tokens_len().0);
+    let is_above = most > rules.saturating_mul(tokens + 1).saturating_add(1);
+    if is_refused && !is_above {
+        out.tear();
+    } else if most == 0 || is_above {
+        writeln!(out, "    opened {most} times for {sets}");
+    }
 }

@@ -33,21 +33,9 @@ fn write_paths_of(out: &mut Page, grammar: &YaccGrammar<u32>, from: RIdx<u32>)
 /// Writes whether the first of two rules leads to the other.
 pub(crate) fn write_path(out: &mut Page, grammar: &YaccGrammar<u32>, names: &str) {
     let (from, to) = names.split_once(' ').unwrap_or((names, ""));
-    match (grammar.rule_idx(from), grammar.rule_idx(to)) {
-        (Some(from), Some(to)) => write_leads(out, grammar, names, from, to),
-        _ => pen::line(out, "no such path: ", names),
-    }
-}
-
-fn write_leads(
-    out: &mut Page,
-    grammar: &YaccGrammar<u32>,
-    names: &str,
-    from: RIdx<u32>,
-    to: RIdx<u32>,
-)
-    requires { from.0 < length grammar.now.rules }
-{
+    let (Some(from), Some(to)) = (grammar.rule_idx(from), grammar.rule_idx(to)) else {
+        return pen::line(out, "no such path: ", names);
+    };
     match grammar.has_path(out.alloc, from, to) {
         Ok(leads) => writeln!(out, "path {names}: {leads}"),
         Err(_) => out.tear(),

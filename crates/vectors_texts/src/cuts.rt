@@ -2,9 +2,9 @@
 
 use crate::errors::write_kind;
 use crate::read::parse;
+use cfgrammar::Span;
 use cfgrammar::yacc::ast::{ASTWithValidityInfo, GrammarAST};
 use cfgrammar::yacc::{YaccFault, YaccGrammarError, YaccKind};
-use cfgrammar::{Span, Spanned};
 use indexmap::IndexMap;
 use std::cell::Cell;
 use vectors_rows::made::{Writer, write_made};
@@ -12,46 +12,43 @@ use vectors_rows::page::Page;
 use vectors_rows::pen::{self, Piece};
 
 /// How many texts were grammars, how many had a list of errors, and how many of these lists were empty.
-#[derive(Drop)]
+#[derive(Clone, Copy)]
 pub(crate) struct Counts {
-    grammars: Cell<usize>,
-    refused: Cell<usize>,
-    empty: Cell<usize>,
+    grammars: usize,
+    refused: usize,
+    empty: usize,
 }
 
 impl Counts {
-    pub(crate) fn new() -> Self {
-        Counts {
-            grammars: Cell::new(0),
-            refused: Cell::new(0),
-            empty: Cell::new(0),
-        }
+    /// The counts before the first text.
+    pub(crate) fn new() -> Cell<Self> {
+        Cell::new(Counts {
+            grammars: 0,
+            refused: 0,
+            empty: 0,
+        })
     }
 
-    fn add(&self, is_valid: bool, errors: &[YaccGrammarError]) {
-        if is_valid {
-            return add_one(&self.grammars);
-        }
-        add_one(&self.refused);
-        if errors.is_empty() {
-            add_one(&self.empty);
+    /// These counts and a text, which is a grammar or has these errors.
+    fn and(self, is_valid: bool, errors: &[YaccGrammarError]) -> Self {
+        let is_empty = !is_valid && errors.is_empty();
+        Counts {
+            grammars: self.grammars.saturating_add(usize::from(is_valid)),
+            refused: self.refused.saturating_add(usize::from(!is_valid)),
+            empty: self.empty.saturating_add(usize::from(is_empty)),
         }
     }
 
     /// Writes all three.
-    pub(crate) fn write(&self, out: &mut Page) {
+    pub(crate) fn write(self, out: &mut Page) {
         let counts = [
-            Piece::Number("    grammars ", self.grammars.get()),
-            Piece::Number(", lists of errors ", self.refused.get()),
-            Piece::Number(", empty ones ", self.empty.get()),
+            Piece::Number("    grammars ", self.grammars),
+            Piece::Number(", lists of errors ", self.refused),
+            Piece::Number(", empty ones ", self.empty),
             Piece::Text("\n"),
         ];
         pen::pieces(out, &counts);
     }
-}
-
-fn add_one(count: &Cell<usize>) {
-    count.set(count.get().saturating_add(1));
 }
 
 /// Writes a line for each prefix of the text that ends at a character boundary.
@@ -60,38 +57,35 @@ pub fn write_cuts(out: &mut Page, kind: Option<YaccKind>, text: &str) {
 }
 
 /// Writes a line for each prefix of the text that ends at a character boundary and has a number of bytes in this range,
-/// and counts it.
+/// and counts it: its length, its errors, each as its kind and its spans, and how much was read from it.
 pub(crate) fn write_counted(
     out: &mut Page,
-    counts: &Counts,
+    counts: &Cell<Counts>,
     kind: Option<YaccKind>,
     text: &str,
     (least, most): (usize, usize),
 ) {
     for len in least..=most {
         if let Some(cut) = text.get(..len) {
-            write_cut(out, counts, kind, cut);
+            pen::number(out, "    ", len);
+            out.push(':');
+            let parsed = parse(out.alloc, kind, cut);
+            write_made(out, &Cut { counts }, parsed);
         }
     }
-}
-
-/// Writes the length of a text, its errors, each as its kind and its spans, and how much was read from it.
-fn write_cut(out: &mut Page, counts: &Counts, kind: Option<YaccKind>, text: &str) {
-    pen::number(out, "    ", text.len());
-    out.push_str(":");
-    let parsed = parse(out.alloc, kind, text);
-    write_made(out, &Cut { counts }, parsed);
 }
 
 /// Writes what was parsed of a prefix, and counts it.
 #[derive(Drop)]
 struct Cut<'a> {
-    counts: &'a Counts,
+    counts: &'a Cell<Counts>,
 }
 
 impl Writer<ASTWithValidityInfo, YaccFault> for Cut<'_> {
     fn write(&self, out: &mut Page, parsed: &mut ASTWithValidityInfo) {
-        self.counts.add(parsed.is_valid(), parsed.errors());
+        let counts = self.counts.get();
+        self.counts
+            .set(counts.and(parsed.is_valid(), parsed.errors()));
         write_errors(out, parsed.errors());
         write_read(out, parsed.ast());
     }
@@ -99,7 +93,7 @@ impl Writer<ASTWithValidityInfo, YaccFault> for Cut<'_> {
     fn refuse(&self, out: &mut Page, fault: &YaccFault) {
         match fault {
             YaccFault::Errors(errors) => {
-                self.counts.add(false, errors);
+                self.counts.set(self.counts.get().and(false, errors));
                 write_errors(out, errors);
                 out.push_str("; no kind\n");
             }
@@ -111,12 +105,12 @@ impl Writer<ASTWithValidityInfo, YaccFault> for Cut<'_> {
 /// Writes errors, each as its kind and its spans.
 pub(crate) fn write_errors(out: &mut Page, errors: &[YaccGrammarError]) {
     for error in errors {
-        write_kind(out, error);
-        pen::spans(out, error.spans());
+        write_kind(out, " ", error);
     }
 }
 
-/// Writes how much was read from a text.
+/// Writes how much was read from a text: lengths, where those of lists that say something of tokens are written if they
+/// aren't 0 or the list can be missing, and what is said of the parser.
 fn write_read(out: &mut Page, ast: &GrammarAST) {
     let lengths = [
         Piece::Number("; ", ast.rules().len()),
@@ -125,7 +119,19 @@ fn write_read(out: &mut Page, ast: &GrammarAST) {
         Piece::Text(" tokens"),
     ];
     pen::pieces(out, &lengths);
-    write_said_of_tokens(out, ast);
+    let said_of_tokens = [
+        (positive(ast.precs().len()), " precedences"),
+        (positive(ast.epp().len()), " epp"),
+        (length(ast.avoid_insert()), " avoid_insert"),
+        (length(ast.implicit_tokens()), " implicit_tokens"),
+        (positive(ast.expect_unused().len()), " expect-unused"),
+    ];
+    for (count, word) in said_of_tokens {
+        if let Some(count) = count {
+            pen::number(out, ", ", count);
+            out.push_str(word);
+        }
+    }
     let said_of_parser = [
         Piece::If(ast.parse_param().is_some(), ", parse-param"),
         Piece::If(ast.parse_generics().is_some(), ", parse-generics"),
@@ -135,30 +141,12 @@ fn write_read(out: &mut Page, ast: &GrammarAST) {
     pen::pieces(out, &said_of_parser);
 }
 
-/// Writes for how many tokens something was read, if for any, and how long the existing lists are.
-fn write_said_of_tokens(out: &mut Page, ast: &GrammarAST) {
-    write_count(out, ast.precs().len(), " precedences");
-    write_count(out, ast.epp().len(), " epp");
-    write_table(out, ast.avoid_insert(), " avoid_insert");
-    write_table(out, ast.implicit_tokens(), " implicit_tokens");
-    write_count(out, ast.expect_unused().len(), " expect-unused");
+/// A count, unless it is 0.
+fn positive(count: usize) -> Option<usize> {
+    (count > 0).then_some(count)
 }
 
-/// Writes the count, unless it is 0.
-fn write_count(out: &mut Page, count: usize, word: &str) {
-    if count > 0 {
-        write_length(out, count, word);
-    }
-}
-
-/// Writes how many tokens a list has, if it exists.
-fn write_table(out: &mut Page, table: &Option<IndexMap<String, Span>>, word: &str) {
-    if let Some(table) = table {
-        write_length(out, table.len(), word);
-    }
-}
-
-fn write_length(out: &mut Page, length: usize, word: &str) {
-    pen::number(out, ", ", length);
-    out.push_str(word);
+/// How many tokens a list has, if it exists.
+fn length(table: &Option<IndexMap<String, Span>>) -> Option<usize> {
+    Some(table.as_ref()?.len())
 }

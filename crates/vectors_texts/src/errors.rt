@@ -1,7 +1,8 @@
-//! Errors of a text, one per line.
+//! Errors and warnings of a text.
 
-use cfgrammar::yacc::YaccGrammarError;
-use cfgrammar::{Positions, Span, Spanned};
+use cfgrammar::yacc::ast::GrammarAST;
+use cfgrammar::yacc::{YaccGrammarError, YaccGrammarWarning};
+use cfgrammar::{Positions, Spanned};
 use vectors_rows::page::Page;
 use vectors_rows::pen;
 
@@ -14,46 +15,49 @@ pub fn write_errors(out: &mut Page, text: &str, errors: &[YaccGrammarError]) {
     write_error_lines(out, text, errors);
 }
 
-/// Writes a line for each error: its kind, its spans, the line and the column of the first span's start, what the spans
-/// mean, and its text.
+/// Writes a line for each error: its kind, its spans, the line and the column of the first span's start (of the text's
+/// if there are no spans), what the spans mean, and its text.
 pub fn write_error_lines(out: &mut Page, text: &str, errors: &[YaccGrammarError]) {
-    match Positions::new(out.alloc, text) {
-        Ok(positions) => write_located_errors(out, &positions, errors),
-        Err(_) => out.tear(),
-    }
-}
-
-fn write_located_errors(out: &mut Page, positions: &Positions<'_>, errors: &[YaccGrammarError]) {
+    let Ok(positions) = Positions::new(out.alloc, text) else {
+        return out.tear();
+    };
     for error in errors {
-        write_error(out, positions, error);
+        write_kind(out, "    ", error);
+        let start = match error.spans().first() {
+            Some(span) => span.start(),
+            None => 0,
+        };
+        match positions.line_and_column(start) {
+            Some((line, column)) => pen::numbers(out, (" ", line), (":", column)),
+            None => out.push_str(" no place"),
+        }
+        writeln!(out, " {:?}: {error}", error.spanskind());
     }
 }
 
-fn write_error(out: &mut Page, positions: &Positions<'_>, error: &YaccGrammarError) {
-    out.push_str("   ");
-    write_kind(out, error);
+/// Writes a text, and the kind of an error and its spans.
+pub(crate) fn write_kind(out: &mut Page, before: &str, error: &YaccGrammarError) {
+    write!(out, "{before}{:?}", error.kind());
     pen::spans(out, error.spans());
-    write_position(out, positions, first_start(error.spans()));
-    writeln!(out, " {:?}: {error}", error.spanskind());
 }
 
-/// Where the first span starts, or 0 if there are no spans.
-fn first_start(spans: &[Span]) -> usize {
-    match spans.first() {
-        Some(span) => span.start(),
-        None => 0,
+/// Writes the warnings of a syntax.
+pub fn write_warnings(out: &mut Page, ast: &GrammarAST) {
+    let Ok(warnings) = ast.warnings(out.alloc) else {
+        return out.tear();
+    };
+    let mut before = "warnings: ";
+    for warning in &warnings {
+        write_warning(out, before, warning);
+        before = ", ";
     }
+    pen::text_if(out, warnings.is_empty(), "warnings: none");
+    out.push('\n');
 }
 
-/// Writes the line and the column of a byte offset.
-fn write_position(out: &mut Page, positions: &Positions<'_>, byte: usize) {
-    match positions.line_and_column(byte) {
-        Some((line, column)) => pen::numbers(out, (" ", line), (":", column)),
-        None => out.push_str(" no place"),
-    }
-}
-
-/// Writes a space and the kind of an error.
-pub fn write_kind(out: &mut Page, error: &YaccGrammarError) {
-    write!(out, " {:?}", error.kind());
+/// Writes a text, and a warning by its kind and its spans.
+fn write_warning(out: &mut Page, before: &str, warning: &YaccGrammarWarning) {
+    write!(out, "{before}{:?}", warning.kind());
+    pen::spans(out, warning.spans());
+    pen::unless_copied(out, warning, ", and a copy that isn't the same");
 }

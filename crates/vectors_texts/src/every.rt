@@ -2,6 +2,7 @@
 
 use crate::cuts::{Counts, write_counted};
 use cfgrammar::yacc::{YaccKind, YaccOriginalActionKind};
+use std::cell::Cell;
 use std::io::ErrorKind;
 use vectors_rows::digest::write_digest;
 use vectors_rows::page::Page;
@@ -33,39 +34,30 @@ pub fn print(out: &mut Page, rt: &HostRuntime, row: &Row<'_>, file: &str) {
     }
     out.follow(&whole);
     write_digest(out, row, whole.as_str());
-    counts.write(out);
+    counts.get().write(out);
 }
 
+/// Writes the results for the text of each row that is requested.
 fn print_rows(
     out: &mut Page,
     rt: &HostRuntime,
-    counts: &Counts,
+    counts: &Cell<Counts>,
     requested: &Row<'_>,
     rows: &[Row<'_>],
 ) {
     for row in rows {
         if requested.first("only").unwrap_or(row.name) == row.name {
-            print_row(out, rt, counts, requested, row);
+            match of_row(rt, row) {
+                Ok(text) => print_text(out, counts, requested, text.as_str()),
+                Err(fault) if fault.kind() == ErrorKind::OutOfMemory => out.tear(),
+                Err(fault) => writeln!(out, "no text: {fault}"),
+            }
         }
     }
 }
 
-fn print_row(
-    out: &mut Page,
-    rt: &HostRuntime,
-    counts: &Counts,
-    requested: &Row<'_>,
-    row: &Row<'_>,
-) {
-    match of_row(rt, row) {
-        Ok(text) => print_text(out, counts, requested, text.as_str()),
-        Err(fault) if fault.kind() == ErrorKind::OutOfMemory => out.tear(),
-        Err(fault) => writeln!(out, "no text: {fault}"),
-    }
-}
-
 /// Writes the results for each prefix of a text, or for those of the lengths that the row requests, as each kind.
-fn print_text(out: &mut Page, counts: &Counts, requested: &Row<'_>, text: &str) {
+fn print_text(out: &mut Page, counts: &Cell<Counts>, requested: &Row<'_>, text: &str) {
     if requested.first("only").is_none() && (text.is_empty() || text.len() > LONGEST) {
         return;
     }

@@ -1,5 +1,6 @@
 //! Rows on the texts of errors and warnings.
 
+use crate::errors::write_kind;
 use cfgrammar::yacc::{YaccGrammarError, YaccGrammarErrorKind as Kind, YaccGrammarWarningKind};
 use cfgrammar::{Span, Spanned};
 use std::alloc::{AllocError, Global};
@@ -52,11 +53,14 @@ fn print_error(out: &mut Page, held: &str, line: &str) {
     }
 }
 
-/// The kind and the spans of the error that a line describes.
+/// The kind and the spans of the error that a line describes. A kind that contains a name gets `held`.
 fn parts_of(alloc: Global, held: &str, line: &str) -> Result<(Kind, Vec<Span>), AllocError> {
     let (name, rest) = line.split_once(' ').unwrap_or((line, ""));
     let spans = spans_of(alloc, numbers(rest))?;
-    let kind = kind_of(alloc, name, held)?;
+    let kind = match plain_kind(name) {
+        Some(kind) => kind,
+        None => kind_with(String::from_str(alloc, held)?, name),
+    };
     Ok((kind, spans))
 }
 
@@ -82,17 +86,8 @@ fn write_error(out: &mut Page, error: &YaccGrammarError) {
 
 /// Writes the kind of an error, its spans, and what they mean.
 pub(crate) fn write_parts(out: &mut Page, error: &YaccGrammarError) {
-    write!(out, "    {:?}", error.kind());
-    pen::spans(out, error.spans());
+    write_kind(out, "    ", error);
     write!(out, " {:?}", error.spanskind());
-}
-
-/// The kind with this name. A kind that contains a name gets `held`.
-fn kind_of(alloc: Global, name: &str, held: &str) -> Result<Kind, AllocError> {
-    match plain_kind(name) {
-        Some(kind) => Ok(kind),
-        None => Ok(kind_with(String::from_str(alloc, held)?, name)),
-    }
 }
 
 /// The kind with this name, among those that contain no name. A kind that contains a character gets `µ`.

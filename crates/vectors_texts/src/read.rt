@@ -1,7 +1,8 @@
 //! Texts, read as a kind.
 
+use cfgrammar::yacc::YaccKind;
 use cfgrammar::yacc::ast::ASTWithValidityInfo;
-use cfgrammar::yacc::{YaccGrammarResult, YaccKind};
+use cfgrammar::yacc::parser::YaccGrammarResult;
 use std::alloc::Global;
 
 /// Reads a text as a kind, or as the one that it names.

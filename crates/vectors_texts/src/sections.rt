@@ -1,11 +1,10 @@
 //! Rows on sections on their own.
 
-ghost use Rattle.std.specs.Str.{IsCharBoundary};
-
 mod held;
 mod plain;
 
 use self::held::{Held, write_held, write_value};
+use crate::pages::are_same;
 use cfgrammar::header::{
     GrmtoolsSectionParser, Header, HeaderError, HeaderFault, HeaderValue, Value,
 };
@@ -14,8 +13,9 @@ use cfgrammar::{Location, Span, Spanned};
 use std::alloc::{AllocError, Global};
 use vectors_rows::made::write_made;
 use vectors_rows::page::Page;
+use vectors_rows::pen::{self, Piece};
 use vectors_rows::row::Row;
-use vectors_rows::{pen, text};
+use vectors_rows::text;
 
 /// Writes the results for the section at the start of a text, of each of its prefixes, or for an entry at each of its
 /// offsets; or the values of all kinds.
@@ -50,17 +50,12 @@ fn write_section(out: &mut Page, text: &str) {
     let (mut required, mut optional) = (Page::new(out.alloc), Page::new(out.alloc));
     parse_section(&mut required, text, true);
     parse_section(&mut optional, text, false);
-    out.follow(&required);
-    out.follow(&optional);
-    write_both(out, required.as_str(), optional.as_str());
-}
-
-fn write_both(out: &mut Page, required: &str, optional: &str) {
-    if required == optional {
-        return pen::words(out, ":", required);
+    if are_same(out, &required, &optional) {
+        pen::words(out, ":", required.as_str());
+    } else {
+        pen::words(out, ", required:", required.as_str());
+        pen::words(out, "    not required:", optional.as_str());
     }
-    pen::words(out, ", required:", required);
-    pen::words(out, "    not required:", optional);
 }
 
 /// Writes the results for a section: where it ends, and a line for each key; or its errors.
@@ -71,14 +66,7 @@ fn parse_section(out: &mut Page, text: &str, required: bool) {
     }
 }
 
-fn write_fault(out: &mut Page, fault: &HeaderFault) {
-    match fault {
-        HeaderFault::Errors(errors) => write_errors(out, errors),
-        HeaderFault::OutOfMemory => out.tear(),
-    }
-}
-
-/// Writes where a section ends, and a line for each key: its span and its value.
+/// Writes where a section ends, and a line for each key.
 fn write_parsed(out: &mut Page, (header, end): &(Header<Span>, usize)) {
     pen::number(out, " ends at ", *end);
     out.push('\n');
@@ -99,75 +87,39 @@ fn write_key(out: &mut Page, key: &str, held: &HeaderValue<Span>) {
 
 /// Writes the text with spans, and whether the text with locations differs.
 fn write_printed(out: &mut Page, printed: &Page, located: &Page) {
-    out.follow(printed);
-    out.follow(located);
+    let is_same = are_same(out, printed, located);
     out.push_str(printed.as_str());
-    pen::text_if(
-        out,
-        printed.as_str() != located.as_str(),
-        " and with other locations",
-    );
+    pen::text_if(out, !is_same, " and with other locations");
 }
 
 /// Writes the results for an entry at each character boundary.
 fn write_entries(out: &mut Page, text: &str) {
     for position in 0..=text.len() {
         if text.is_char_boundary(position) {
-            parse_entry(out, text, position);
+            pen::number(out, "entry at ", position);
+            out.push(':');
+            match GrmtoolsSectionParser::new(text, true).parse_key_value(out.alloc, position) {
+                Ok(entry) => write_entry(out, &entry),
+                Err(fault) => write_fault(out, &fault),
+            }
         }
     }
 }
 
-fn parse_entry(out: &mut Page, text: &str, position: usize)
-    requires { IsCharBoundary text.now position }
-{
-    pen::number(out, "entry at ", position);
-    out.push_str(":");
-    match GrmtoolsSectionParser::new(text, true).parse_key_value(out.alloc, position) {
-        Ok(entry) => write_entry(out, &entry),
-        Err(fault) => write_fault(out, &fault),
-    }
-}
-
-/// Writes a line for each error: its kind, its spans, what they mean, and its text.
-fn write_errors(out: &mut Page, errors: &[HeaderError<Span>]) {
-    for (index, error) in errors.iter().enumerate() {
-        out.push_str(if index == 0 { " " } else { "    " });
-        write_error(out, error);
-    }
-}
-
-fn write_error(out: &mut Page, error: &HeaderError<Span>) {
-    write!(out, "{:?}", error.kind);
-    pen::spans(out, error.spans());
-    writeln!(out, " {:?}: {error}", error.spanskind());
-    match error.clone() {
-        Ok(copy) => write_other(out, error, &copy),
-        Err(_) => out.tear(),
-    }
-}
-
-/// Writes whether a copy of an error differs in kind or spans.
-fn write_other(out: &mut Page, error: &HeaderError<Span>, copy: &HeaderError<Span>) {
-    let is_same = copy.kind == error.kind && copy.spans() == error.spans();
-    pen::text_if(out, !is_same, "    and a copy that isn't the same\n");
-}
-
-/// Writes a key with its span, its value, and where it ends. With locations instead of spans it is the same.
+/// Writes a key with its span, its value, and where it ends. With locations instead of spans the value is the same.
 fn write_entry(out: &mut Page, (key, span, value, end): &(String, Span, Value<Span>, usize)) {
-    pen::name(out, " ", key.as_str());
-    pen::span(out, *span);
-    out.push_str(": ");
-    write_both_ways(out, value);
-    pen::number(out, ", then ", *end);
-    out.push('\n');
-}
-
-fn write_both_ways(out: &mut Page, value: &Value<Span>) {
     let (mut printed, mut located) = (Page::new(out.alloc), Page::new(out.alloc));
     write_value(&mut printed, value);
     write_made(&mut located, &Held, to_location(out.alloc, value));
+    let pieces = [
+        Piece::Name(" ", key.as_str()),
+        Piece::Span(*span),
+        Piece::Text(": "),
+    ];
+    pen::pieces(out, &pieces);
     write_printed(out, &printed, &located);
+    pen::number(out, ", then ", *end);
+    out.push('\n');
 }
 
 /// A value with locations instead of spans.
@@ -175,6 +127,33 @@ fn to_location(alloc: Global, value: &Value<Span>) -> Result<Value<Location>, Al
     match value {
         Value::Setting(setting) => Ok(Value::Setting(setting.to_location(alloc)?)),
         Value::Flag(..) => value.to_location(alloc),
+    }
+}
+
+/// Writes a line for each error: its kind, its spans, what they mean, and its text.
+fn write_fault(out: &mut Page, fault: &HeaderFault) {
+    let HeaderFault::Errors(errors) = fault else {
+        return out.tear();
+    };
+    let mut before = " ";
+    for error in errors {
+        out.push_str(before);
+        write_error(out, error);
+        before = "    ";
+    }
+}
+
+/// Writes an error, and whether a copy differs in kind or spans.
+fn write_error(out: &mut Page, error: &HeaderError<Span>) {
+    write!(out, "{:?}", error.kind);
+    pen::spans(out, error.spans());
+    writeln!(out, " {:?}: {error}", error.spanskind());
+    match error.clone() {
+        Ok(copy) => {
+            let is_same = copy.kind == error.kind && copy.spans() == error.spans();
+            pen::text_if(out, !is_same, "    and a copy that isn't the same\n");
+        }
+        Err(_) => out.tear(),
     }
 }
 
@@ -187,12 +166,8 @@ fn write_kinds(out: &mut Page) {
         YaccKind::Grmtools,
         YaccKind::Eco,
     ] {
-        write_kind(out, *kind);
+        write!(out, "{kind:?}: ");
+        write_made(out, &Held, Value::try_from_kind(out.alloc, *kind));
+        out.push('\n');
     }
-}
-
-fn write_kind(out: &mut Page, kind: YaccKind) {
-    write!(out, "{kind:?}: ");
-    write_made(out, &Held, Value::try_from_kind(out.alloc, kind));
-    out.push('\n');
 }

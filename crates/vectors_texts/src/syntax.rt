@@ -1,6 +1,7 @@
 //! The syntax of a text, as its readers return it.
 
 use crate::cuts::write_errors;
+use crate::pages::are_same;
 use cfgrammar::Span;
 use cfgrammar::yacc::Precedence;
 use cfgrammar::yacc::ast::{ASTWithValidityInfo, GrammarAST, Production, Rule, Symbol};
@@ -17,9 +18,9 @@ pub fn write_syntax(out: &mut Page, parsed: &ASTWithValidityInfo) {
     let (mut shown, mut of_copy) = (Page::new(out.alloc), Page::new(out.alloc));
     write_parts(&mut shown, parsed.ast());
     write_made(&mut of_copy, &Whole, parsed.ast().clone());
-    out.follow(&shown);
-    out.follow(&of_copy);
-    write_shown(out, shown.as_str(), of_copy.as_str());
+    let is_same = are_same(out, &shown, &of_copy);
+    pen::words(out, "syntax\n", shown.as_str());
+    pen::text_if(out, !is_same, "    and a copy that isn't the same\n");
 }
 
 /// Writes the results for a text that was read, of calls that don't allocate: whether it is valid, its kind, its
@@ -31,16 +32,6 @@ pub fn write_without_memory(out: &mut Page, parsed: &ASTWithValidityInfo) {
     write_errors(out, parsed.errors());
     out.push('\n');
     write_parts(out, parsed.ast());
-}
-
-fn write_shown(out: &mut Page, shown: &str, of_copy: &str) {
-    out.push_str("syntax\n");
-    out.push_str(shown);
-    pen::text_if(
-        out,
-        of_copy != shown,
-        "    and a copy that isn't the same\n",
-    );
 }
 
 /// Writes all of a tree.
@@ -64,27 +55,32 @@ pub fn write_lengths(out: &mut Page, ast: &GrammarAST) {
     pen::pieces(out, &pieces);
 }
 
+/// Writes the start, if there is one; what the declarations say of conflicts, of the parser, of the programs and of
+/// individual tokens; and the rules, the productions and the tokens.
 fn write_parts(out: &mut Page, ast: &GrammarAST) {
-    write_start(out, ast.start());
-    write_said_of_file(out, ast);
-    write_said_of_tokens(out, ast);
+    if let Some((name, span)) = ast.start() {
+        write_named(out, "    start ", (name.as_str(), *span), "\n");
+    }
+    let expected = [
+        ("    expect ", ast.expect()),
+        ("    expect-rr ", ast.expectrr()),
+    ];
+    for (word, expected) in expected {
+        if let Some((number, span)) = expected {
+            pen::number(out, word, *number);
+            pen::span(out, *span);
+            out.push('\n');
+        }
+    }
+    write_settings(out, ast.parse_param(), ast.parse_generics(), ast.programs());
+    write_unused(out, ast);
+    write_precedences(out, ast);
+    write_printed_forms(out, ast);
+    write_table(out, "    avoid_insert:", ast.avoid_insert());
+    write_table(out, "    implicit_tokens:", ast.implicit_tokens());
     write_rules(out, ast);
     write_productions(out, ast);
     write_tokens(out, ast);
-}
-
-/// Writes what the declarations say of conflicts, of the parser and of the programs.
-fn write_said_of_file(out: &mut Page, ast: &GrammarAST) {
-    write_expected(out, "    expect ", ast.expect());
-    write_expected(out, "    expect-rr ", ast.expectrr());
-    write_settings(out, ast.parse_param(), ast.parse_generics(), ast.programs());
-}
-
-/// Writes the start's name and its span, if there is a start.
-fn write_start(out: &mut Page, start: &Option<(String, Span)>) {
-    if let Some((name, span)) = start {
-        write_named(out, "    start ", (name.as_str(), *span), "\n");
-    }
 }
 
 /// Writes a name and its span between two texts.
@@ -92,24 +88,6 @@ fn write_named(out: &mut Page, before: &str, (name, span): (&str, Span), after: 
     pen::name(out, before, name);
     pen::span(out, span);
     out.push_str(after);
-}
-
-/// Writes how many conflicts are expected, and where the text says so.
-fn write_expected(out: &mut Page, word: &str, expected: &Option<(usize, Span)>) {
-    if let Some((number, span)) = expected {
-        pen::number(out, word, *number);
-        pen::span(out, *span);
-        out.push('\n');
-    }
-}
-
-/// Writes what the declarations say of individual tokens.
-fn write_said_of_tokens(out: &mut Page, ast: &GrammarAST) {
-    write_unused(out, ast);
-    write_precedences(out, ast);
-    write_printed_forms(out, ast);
-    write_table(out, "    avoid_insert:", ast.avoid_insert());
-    write_table(out, "    implicit_tokens:", ast.implicit_tokens());
 }
 
 /// Writes a line for each symbol that is expected to be unused.
@@ -157,34 +135,26 @@ fn write_rules(out: &mut Page, ast: &GrammarAST) {
     }
 }
 
-/// Writes a line for each production.
-fn write_productions(out: &mut Page, ast: &GrammarAST) {
-    for (index, production) in ast.prods().iter().enumerate() {
-        write_production(out, index, production);
-    }
-}
-
 /// Writes a rule: its name, the name's span, and its productions. It is found by its name.
 fn write_rule(out: &mut Page, ast: &GrammarAST, rule: &Rule) {
     let (name, span) = &rule.name;
     write_named(out, "    rule ", (name.as_str(), *span), ":");
-    write_indices(out, &rule.pidxs);
+    for index in &rule.pidxs {
+        pen::number(out, " ", *index);
+    }
+    let is_found = ast.get_rule(name.as_str()) == Some(rule);
     let pieces = [
         Piece::TextOr(", type ", &rule.actiont, ""),
-        Piece::If(!is_found(ast, rule), ", not by its name"),
+        Piece::If(!is_found, ", not by its name"),
         Piece::Text("\n"),
     ];
     pen::pieces(out, &pieces);
 }
 
-/// Whether a rule is found by its name.
-fn is_found(ast: &GrammarAST, rule: &Rule) -> bool {
-    ast.get_rule(rule.name.0.as_str()) == Some(rule)
-}
-
-fn write_indices(out: &mut Page, indices: &[usize]) {
-    for index in indices {
-        pen::number(out, " ", *index);
+/// Writes a line for each production.
+fn write_productions(out: &mut Page, ast: &GrammarAST) {
+    for (index, production) in ast.prods().iter().enumerate() {
+        write_production(out, index, production);
     }
 }
 
@@ -196,25 +166,24 @@ fn write_production(out: &mut Page, index: usize, production: &Production) {
         Piece::Text(":"),
     ];
     pen::pieces(out, &pieces);
-    write_symbols(out, &production.symbols);
-    pen::pieces(
-        out,
-        &[Piece::TextOr(", precedence of ", &production.precedence, "")],
-    );
-    write_action(out, &production.action);
-}
-
-fn write_symbols(out: &mut Page, symbols: &[Symbol]) {
-    for symbol in symbols {
+    for symbol in &production.symbols {
         write_symbol(out, symbol);
     }
+    let (action, span) = named(&production.action);
+    let pieces = [
+        Piece::TextOr(", precedence of ", &production.precedence, ""),
+        Piece::NameOr(", action ", action, ""),
+        Piece::SpanOr(span, ""),
+        Piece::Text("\n"),
+    ];
+    pen::pieces(out, &pieces);
 }
 
-/// Writes an action and its span, if it exists, and ends the line.
-fn write_action(out: &mut Page, action: &Option<(String, Span)>) {
-    match action {
-        Some((action, span)) => write_named(out, ", action ", (action.as_str(), *span), "\n"),
-        None => out.push('\n'),
+/// A name and its span, each as what may be missing.
+pub(crate) fn named(name: &Option<(String, Span)>) -> (Option<&str>, Option<Span>) {
+    match name {
+        Some((name, span)) => (Some(name.as_str()), Some(*span)),
+        None => (None, None),
     }
 }
 
@@ -229,19 +198,16 @@ fn write_symbol(out: &mut Page, symbol: &Symbol) {
 /// Writes each token: its name, the name's span, and whether a `%token` declares it.
 fn write_tokens(out: &mut Page, ast: &GrammarAST) {
     for (index, (name, span)) in ast.tokens().iter().zip(ast.spans()).enumerate() {
-        write_token(out, ast, index, name.as_str(), *span);
+        let name = name.as_str();
+        let is_declared = ast.token_directives().contains(&index);
+        let pieces = [
+            Piece::Number("    token ", index),
+            Piece::Name(" ", name),
+            Piece::Span(*span),
+            Piece::If(is_declared, " declared"),
+            Piece::If(!ast.has_token(name), ", not by its name"),
+            Piece::Text("\n"),
+        ];
+        pen::pieces(out, &pieces);
     }
-}
-
-fn write_token(out: &mut Page, ast: &GrammarAST, index: usize, name: &str, span: Span) {
-    let is_declared = ast.token_directives().contains(&index);
-    let pieces = [
-        Piece::Number("    token ", index),
-        Piece::Name(" ", name),
-        Piece::Span(span),
-        Piece::If(is_declared, " declared"),
-        Piece::If(!ast.has_token(name), ", not by its name"),
-        Piece::Text("\n"),
-    ];
-    pen::pieces(out, &pieces);
 }

@@ -1,15 +1,16 @@
 //! Rows on calls that modify a syntax: another start, rules, productions and programs.
 
-use crate::{copies, warnings};
+use crate::copies::write_copies;
+use crate::errors::write_warnings;
+use crate::pages::are_same;
+use crate::syntax::named;
 use cfgrammar::Span;
-use cfgrammar::yacc::ast::{
-    ASTModificationError, ASTWithValidityInfo, GrammarAST, Rule, StartFault,
-};
+use cfgrammar::yacc::ast::{ASTWithValidityInfo, GrammarAST, Rule, StartFault};
 use cfgrammar::yacc::{YaccKind, YaccOriginalActionKind};
 use std::alloc::{AllocError, Global};
 use vectors_rows::made::{Writer, write_made};
 use vectors_rows::page::Page;
-use vectors_rows::pen;
+use vectors_rows::pen::{self, Piece};
 use vectors_rows::row::{Row, number, words};
 
 /// Writes the results of each call of the row on the row's text: each `start` on what was read, which isn't changed,
@@ -29,9 +30,14 @@ struct Script<'a> {
 impl Writer<ASTWithValidityInfo, AllocError> for Script<'_> {
     fn write(&self, out: &mut Page, parsed: &mut ASTWithValidityInfo) {
         write_start(out, parsed);
-        change_starts(out, self.row, parsed);
+        for (word, rest) in &self.row.lines {
+            if *word == "start" {
+                let changed = restarted(out.alloc, parsed, *rest);
+                write_made(out, &Start, changed);
+            }
+        }
         write_start(out, parsed);
-        copies::write_copies(out, parsed);
+        write_copies(out, parsed);
         write_made(out, self, parsed.ast().clone());
     }
 }
@@ -48,15 +54,6 @@ impl Writer<GrammarAST, AllocError> for Script<'_> {
     }
 }
 
-fn change_starts(out: &mut Page, row: &Row<'_>, parsed: &ASTWithValidityInfo) {
-    for (word, rest) in &row.lines {
-        if *word == "start" {
-            let changed = restarted(out.alloc, parsed, *rest);
-            write_made(out, &Start, changed);
-        }
-    }
-}
-
 /// Writes the start of a tree that has another start.
 struct Start;
 
@@ -67,16 +64,14 @@ impl Writer<ASTWithValidityInfo, StartFault> for Start {
 
     fn refuse(&self, out: &mut Page, fault: &StartFault) {
         match fault {
-            StartFault::Modification(error) => write_refused(out, error),
+            StartFault::Modification(error) => {
+                write!(out, "    {error}");
+                pen::unless_copied(out, error, ", and a copy that isn't the same");
+                out.push('\n');
+            }
             StartFault::OutOfMemory => out.tear(),
         }
     }
-}
-
-fn write_refused(out: &mut Page, error: &ASTModificationError) {
-    write!(out, "    {error}");
-    pen::unless_copied(out, error, ", and a copy that isn't the same");
-    out.push('\n');
 }
 
 /// What was parsed, with the start that a line names, or why that can't be the start.
@@ -85,36 +80,25 @@ pub fn restarted(
     parsed: &ASTWithValidityInfo,
     line: &str,
 ) -> Result<ASTWithValidityInfo, StartFault> {
-    let rule = rule_of(alloc, line)?;
-    parsed.clone_and_change_start_rule(alloc, rule)
-}
-
-/// Writes the start, the number of errors, and the warnings.
-fn write_start(out: &mut Page, parsed: &ASTWithValidityInfo) {
-    write_named(out, parsed.ast().start());
-    pen::number(out, ", ", parsed.errors().len());
-    out.push_str(" errors, ");
-    warnings::write_warnings(out, parsed.ast());
-}
-
-/// Writes the start's name and its span, if there is a start.
-fn write_named(out: &mut Page, start: &Option<(String, Span)>) {
-    match start {
-        Some((name, span)) => {
-            pen::name(out, "    start ", name.as_str());
-            pen::span(out, *span);
-        }
-        None => out.push_str("    no start"),
-    }
-}
-
-/// The rule that a line names.
-fn rule_of(alloc: Global, line: &str) -> Result<Rule, AllocError> {
-    Ok(Rule {
+    let rule = Rule {
         name: name_of(alloc, line)?,
         pidxs: Vec::new(alloc),
         actiont: None,
-    })
+    };
+    parsed.clone_and_change_start_rule(alloc, rule)
+}
+
+/// Writes the start's name and its span, if there is a start, the number of errors, and the warnings.
+fn write_start(out: &mut Page, parsed: &ASTWithValidityInfo) {
+    let (name, span) = named(parsed.ast().start());
+    let pieces = [
+        Piece::NameOr("    start ", name, "    no start"),
+        Piece::SpanOr(span, ""),
+        Piece::Number(", ", parsed.errors().len()),
+        Piece::Text(" errors, "),
+    ];
+    pen::pieces(out, &pieces);
+    write_warnings(out, parsed.ast());
 }
 
 /// The name that a line gives, and its span: the name is the first word, and the two ends of the span are the others.
@@ -132,48 +116,46 @@ fn change_printed(out: &mut Page, ast: &mut GrammarAST, line: (&str, &str)) {
     out.follow(&before);
     if change(out.alloc, ast, line).is_err() {
         out.push_str("out of memory\n");
-        write_difference(out, ast, before.as_str());
+        let mut now = Page::new(out.alloc);
+        write_tree(&mut now, ast);
+        let is_same = are_same(out, &before, &now);
+        pen::text_if(out, !is_same, "    with another tree\n");
         let changed = change(out.alloc, ast, line);
         out.note(changed);
     }
 }
 
-/// Writes whether a tree differs from what it was before.
-fn write_difference(out: &mut Page, ast: &GrammarAST, before: &str) {
-    let mut now = Page::new(out.alloc);
-    write_tree(&mut now, ast);
-    out.follow(&now);
-    pen::text_if(out, now.as_str() != before, "    with another tree\n");
-}
-
+/// Adds a rule, adds an empty production to the rule with a name, if that exists, or sets the programs.
 fn change(
     alloc: Global,
     ast: &mut GrammarAST,
     (word, line): (&str, &str),
 ) -> Result<(), AllocError> {
     match word {
-        "rule" => add_rule(alloc, ast, line),
-        "production" => add_production(alloc, ast, line),
-        "programs" => set_programs(alloc, ast, line),
+        "rule" => ast.add_rule(name_of(alloc, line)?, None),
+        "production" if ast.get_rule(line).is_some() => {
+            let rule = String::from_str(alloc, line)?;
+            ast.add_prod(rule, Vec::new(alloc), None, None, Span::new(0, 0))
+        }
+        "programs" => {
+            ast.set_programs(String::from_str(alloc, line)?);
+            Ok(())
+        }
         _ => Ok(()),
     }
 }
 
-/// Writes a tree: its rules, the number of productions, its programs and its warnings.
+/// Writes a tree: a line for each rule, with its name, its span and the productions that it lists, the number of
+/// productions, the programs and the warnings.
 pub(crate) fn write_tree(out: &mut Page, ast: &GrammarAST) {
-    write_rules(out, ast);
+    for (name, rule) in ast.rules() {
+        pen::words(out, "    ", name.as_str());
+        pen::span(out, rule.name.1);
+        writeln!(out, ": {:?}", rule.pidxs);
+    }
     pen::number(out, "    ", ast.prods().len());
     write_programs(out, " productions, ", ast.programs(), ", ");
-    warnings::write_warnings(out, ast);
-}
-
-fn add_rule(alloc: Global, ast: &mut GrammarAST, line: &str) -> Result<(), AllocError> {
-    ast.add_rule(name_of(alloc, line)?, None)
-}
-
-fn set_programs(alloc: Global, ast: &mut GrammarAST, text: &str) -> Result<(), AllocError> {
-    ast.set_programs(String::from_str(alloc, text)?);
-    Ok(())
+    write_warnings(out, ast);
 }
 
 /// Sets the row's programs, and then others, by the two calls that do so.
@@ -201,26 +183,4 @@ fn write_programs(out: &mut Page, before: &str, programs: &Option<String>, after
         None => out.push_str("programs None"),
     }
     out.push_str(after);
-}
-
-/// Adds an empty production to the rule with this name, if it exists.
-fn add_production(alloc: Global, ast: &mut GrammarAST, name: &str) -> Result<(), AllocError> {
-    if ast.get_rule(name).is_none() {
-        return Ok(());
-    }
-    let rule = String::from_str(alloc, name)?;
-    ast.add_prod(rule, Vec::new(alloc), None, None, Span::new(0, 0))
-}
-
-/// Writes a line for each rule: its name, its span, and the productions that it lists.
-fn write_rules(out: &mut Page, ast: &GrammarAST) {
-    for (name, rule) in ast.rules() {
-        write_rule(out, name.as_str(), rule);
-    }
-}
-
-fn write_rule(out: &mut Page, name: &str, rule: &Rule) {
-    pen::words(out, "    ", name);
-    pen::span(out, rule.name.1);
-    writeln!(out, ": {:?}", rule.pidxs);
 }

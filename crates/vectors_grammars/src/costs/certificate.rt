@@ -1,6 +1,6 @@
 //! Lists of least costs and of choices, and what the two checkers say of them.
 
-ghost use Rattle.std.specs.Prelude.{◌≡◌, IsTrue, length};
+ghost use Rattle.std.specs.Prelude.{◌≡◌};
 ghost use Rattle.cfgrammar.specs.Numbered.{core};
 
 use cfgrammar::PIdx;
@@ -63,25 +63,16 @@ impl Certificate {
         Ok(Certificate { least, choices })
     }
 
-    /// Whether `check_least` is true of the costs.
-    pub(crate) fn is_least(&self, grammar: &YaccGrammar<u32>, costs: &[u8]) -> bool {
-        self.is_whole(grammar, costs) && check_least(grammar, costs, &self.least)
-    }
-
-    /// Whether `check_reached` is true of the costs and the choices.
-    pub(crate) fn is_reached(&self, grammar: &YaccGrammar<u32>, costs: &[u8]) -> bool {
-        self.is_whole(grammar, costs)
-            && self.choices.len() == self.least.len()
-            && check_reached(grammar, costs, &self.least, &self.choices)
-    }
-
-    /// Whether there is a cost for each token and each rule.
-    fn is_whole(&self, grammar: &YaccGrammar<u32>, costs: &[u8]) -> bool
-        ensures costs { IsTrue result → length costs.now ≡ length grammar.now.tokens }
-        ensures least { IsTrue result → length self.now.least.items ≡ length grammar.now.rules }
-    {
-        costs.len() == usize::from(grammar.tokens_len())
-            && self.least.len() == usize::from(grammar.rules_len())
+    /// Whether `check_least` is true of the costs, and `check_reached` of the costs and the choices.
+    pub(crate) fn checked(&self, grammar: &YaccGrammar<u32>, costs: &[u8]) -> (bool, bool) {
+        if costs.len() != usize::from(grammar.tokens_len())
+            || self.least.len() != usize::from(grammar.rules_len())
+        {
+            return (false, false);
+        }
+        let is_reached = self.choices.len() == self.least.len()
+            && check_reached(grammar, costs, &self.least, &self.choices);
+        (check_least(grammar, costs, &self.least), is_reached)
     }
 }
 
@@ -105,8 +96,7 @@ pub(crate) fn write_failures(
     let Ok(certificate) = Certificate::of_generator(out.alloc, grammar, generator) else {
         return out.tear();
     };
-    let is_least = certificate.is_least(grammar, generator.token_costs());
-    let is_reached = certificate.is_reached(grammar, generator.token_costs());
+    let (is_least, is_reached) = certificate.checked(grammar, generator.token_costs());
     let pieces = [
         Piece::If(!is_least, "    the least costs don't pass\n"),
         Piece::If(!is_reached, "    the choices don't pass\n"),

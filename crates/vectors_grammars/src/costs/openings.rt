@@ -3,10 +3,10 @@
 ghost use Rattle.std.specs.Prelude.{◌≡◌};
 ghost use Rattle.cfgrammar.specs.Numbered.{core};
 
-use cfgrammar::RIdx;
+use crate::openings::is_refused;
 use cfgrammar::yacc::firsts::firsts_over;
 use cfgrammar::yacc::grammar::Productions;
-use cfgrammar::yacc::sentences::{CostError, SentenceError, min_sentence_over};
+use cfgrammar::yacc::sentences::{SentenceError, min_sentence_over};
 use cfgrammar::yacc::{SentenceGenerator, YaccGrammar};
 use std::alloc::AllocError;
 use vectors_rows::page::Page;
@@ -17,7 +17,7 @@ pub(crate) fn write_openings(out: &mut Page, grammar: &YaccGrammar<u32>) {
     let Ok(mut productions) = grammar.productions(out.alloc) else {
         return out.tear();
     };
-    if was_refused(firsts_over(out.alloc, &mut productions)) {
+    if is_refused(firsts_over(out.alloc, &mut productions)) {
         out.tear();
     }
     out.push_str("    opened for firsts:");
@@ -25,7 +25,8 @@ pub(crate) fn write_openings(out: &mut Page, grammar: &YaccGrammar<u32>) {
     out.push('\n');
 }
 
-/// Writes how many productions are opened in total on the way to a minimal sentence of the rule with this name.
+/// Writes how many productions are opened in total on the way to a minimal sentence of the rule with this name. If
+/// memory runs out on the way, no more may have been opened than for a sentence of this cost.
 pub(crate) fn write_opened(
     out: &mut Page,
     grammar: &YaccGrammar<u32>,
@@ -41,29 +42,25 @@ pub(crate) fn write_opened(
     let Ok(mut productions) = grammar.productions(out.alloc) else {
         return out.tear();
     };
-    let is_refused = wants_memory(min_sentence_over(out.alloc, &mut productions, generator, ridx));
+    let wants_memory = wants_memory(min_sentence_over(
+        out.alloc,
+        &mut productions,
+        generator,
+        ridx,
+    ));
     let opened = productions.opened_all();
-    let most = most_openings(generator.min_sentence_cost(ridx), grammar.rules_len());
-    if is_refused && opened <= u128::from(most) {
+    let most = match generator.min_sentence_cost(ridx) {
+        Ok(cost) => u64::from(cost)
+            .saturating_mul(u64::from(grammar.rules_len().0))
+            .saturating_add(1),
+        Err(_) => 0,
+    };
+    if wants_memory && opened <= u128::from(most) {
         out.tear();
     }
     writeln!(out, "    opened {name}: {opened}");
 }
 
-fn was_refused<T: Drop>(answer: Result<T, AllocError>) -> bool {
-    answer.is_err()
-}
-
 fn wants_memory<T: Drop>(answer: Result<T, SentenceError>) -> bool {
     matches!(answer, Err(SentenceError::OutOfMemory))
-}
-
-/// How many productions may be opened in total if memory runs out on the way to a sentence of this cost.
-fn most_openings(cost: Result<u16, CostError>, rules: RIdx<u32>) -> u64 {
-    match cost {
-        Ok(cost) => u64::from(cost)
-            .saturating_mul(u64::from(rules.0))
-            .saturating_add(1),
-        Err(_) => 0,
-    }
 }

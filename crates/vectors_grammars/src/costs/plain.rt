@@ -10,7 +10,8 @@ use cfgrammar::yacc::{SentenceGenerator, YaccGrammar};
 use vectors_rows::page::Page;
 use vectors_rows::pen::{self, Piece};
 
-/// Writes what both checkers say of the generator's lists, and each rule's costs and choice.
+/// Writes what both checkers say of the generator's lists, and each rule's costs and choice; if there is no least cost,
+/// also the errors of the two calls that return sentences.
 pub(crate) fn write_without_memory(
     out: &mut Page,
     grammar: &YaccGrammar<u32>,
@@ -22,29 +23,21 @@ pub(crate) fn write_without_memory(
         return out.tear();
     };
     pen::without_memory(out);
-    let costs = generator.token_costs();
+    let (is_least, is_reached) = certificate.checked(grammar, generator.token_costs());
     let pieces = [
-        Piece::Flag("    least: ", certificate.is_least(grammar, costs)),
-        Piece::Flag(", reached: ", certificate.is_reached(grammar, costs)),
+        Piece::Flag("    least: ", is_least),
+        Piece::Flag(", reached: ", is_reached),
         Piece::Text("\n"),
     ];
     pen::pieces(out, &pieces);
     for ridx in grammar.iter_rules() {
-        write_rule(out, generator, ridx);
+        pen::number(out, "    costs of ", usize::from(ridx));
+        write_costs(out, generator, ridx);
+        if generator.min_sentence_cost(ridx).is_err() {
+            write_refusals(out, generator, ridx);
+        }
+        out.push('\n');
     }
-}
-
-/// Writes a rule's costs and its choice; if there is no least cost, also the errors of the three calls that return
-/// sentences.
-fn write_rule(out: &mut Page, generator: &SentenceGenerator<'_, u32>, ridx: RIdx<u32>)
-    requires { ridx.0 < generator.now.grammar.rules }
-{
-    pen::number(out, "    costs of ", usize::from(ridx));
-    write_costs(out, generator, ridx);
-    if generator.min_sentence_cost(ridx).is_err() {
-        write_refusals(out, generator, ridx);
-    }
-    out.push('\n');
 }
 
 /// Writes why there is no minimal sentence.

@@ -13,7 +13,7 @@ use vectors_rows::row::Row;
 /// If a rule has more sentences, or a sentence more tokens, their number is written instead.
 const MOST: usize = 20;
 
-/// Writes a line for each rule.
+/// Writes for each rule its costs, its choice, a minimal sentence, and all of them if the row requests that.
 pub(crate) fn write_rules(
     out: &mut Page,
     row: &Row<'_>,
@@ -24,7 +24,18 @@ pub(crate) fn write_rules(
 {
     for ridx in grammar.iter_rules() {
         let name = grammar.rule_name_str(ridx);
-        write_rule(out, name, generator, ridx);
+        let pieces = [
+            Piece::Number("    rule ", usize::from(ridx)),
+            Piece::Text(" "),
+            Piece::Text(name),
+        ];
+        pen::pieces(out, &pieces);
+        write_costs(out, generator, ridx);
+        out.push_str("; sentence ");
+        match generator.min_sentence(out.alloc, ridx) {
+            Ok(sentence) => write_sentence(out, &sentence),
+            Err(error) => write_refusal(out, error),
+        }
         if is_requested(row, name) {
             let sentences = generator.min_sentences(out.alloc, ridx);
             write_sentences(out, sentences);
@@ -41,30 +52,23 @@ fn is_requested(row: &Row<'_>, name: &str) -> bool {
     }
 }
 
-/// Writes a rule's costs, its choice, and a minimal sentence.
-fn write_rule(out: &mut Page, name: &str, generator: &SentenceGenerator<'_, u32>, ridx: RIdx<u32>)
-    requires { ridx.0 < generator.now.grammar.rules }
-{
-    let pieces = [
-        Piece::Number("    rule ", usize::from(ridx)),
-        Piece::Text(" "),
-        Piece::Text(name),
-    ];
-    pen::pieces(out, &pieces);
-    write_costs(out, generator, ridx);
-    out.push_str("; sentence ");
-    match generator.min_sentence(out.alloc, ridx) {
-        Ok(sentence) => write_sentence(out, &sentence),
-        Err(error) => write_refusal(out, error),
-    }
-}
-
 /// Writes a rule's costs, and its choice: a production, and its number.
 pub(crate) fn write_costs(out: &mut Page, generator: &SentenceGenerator<'_, u32>, ridx: RIdx<u32>)
     requires { ridx.0 < generator.now.grammar.rules }
 {
-    write_cost(out, ": least ", generator.min_sentence_cost(ridx).map(Some));
-    write_cost(out, ", greatest ", generator.max_sentence_cost(ridx));
+    let costs = [
+        (": least ", generator.min_sentence_cost(ridx).map(Some)),
+        (", greatest ", generator.max_sentence_cost(ridx)),
+    ];
+    for (before, cost) in costs {
+        out.push_str(before);
+        match cost {
+            Ok(Some(cost)) => pen::number(out, "", usize::from(cost)),
+            Ok(None) => out.push_str("unbounded"),
+            Err(CostError::NoSentence) => out.push_str("none"),
+            Err(CostError::CostTooLarge) => out.push_str("too large"),
+        }
+    }
     match generator.choice(ridx) {
         Some((pidx, number)) => pen::numbers(
             out,
@@ -72,17 +76,6 @@ pub(crate) fn write_costs(out: &mut Page, generator: &SentenceGenerator<'_, u32>
             (" at ", number as usize),
         ),
         None => out.push_str("; production none"),
-    }
-}
-
-/// Writes a cost, or why there is none.
-fn write_cost(out: &mut Page, before: &str, cost: Result<Option<u16>, CostError>) {
-    out.push_str(before);
-    match cost {
-        Ok(Some(cost)) => pen::number(out, "", usize::from(cost)),
-        Ok(None) => out.push_str("unbounded"),
-        Err(CostError::NoSentence) => out.push_str("none"),
-        Err(CostError::CostTooLarge) => out.push_str("too large"),
     }
 }
 
@@ -99,20 +92,16 @@ pub(crate) fn write_refused(
     let Some(ridx) = grammar.rule_idx(name) else {
         return out.push_str(": no such rule\n");
     };
-    write_reason(
-        out,
-        "; least: ",
-        generator.min_sentence_cost(ridx).map(Some),
-    );
-    write_reason(out, "; greatest: ", generator.max_sentence_cost(ridx));
-    out.push('\n');
-}
-
-/// Writes the printed error for a cost.
-fn write_reason(out: &mut Page, before: &str, cost: Result<Option<u16>, CostError>) {
-    if let Err(reason) = cost {
-        write!(out, "{before}{reason}");
+    let costs = [
+        ("; least: ", generator.min_sentence_cost(ridx).map(Some)),
+        ("; greatest: ", generator.max_sentence_cost(ridx)),
+    ];
+    for (before, cost) in costs {
+        if let Err(reason) = cost {
+            write!(out, "{before}{reason}");
+        }
     }
+    out.push('\n');
 }
 
 /// Writes why there is no sentence.
@@ -142,20 +131,17 @@ fn write_sentence(out: &mut Page, sentence: &[TIdx<u32>]) {
 fn write_sentences(out: &mut Page, sentences: Result<Vec<Vec<TIdx<u32>>>, SentenceError>) {
     match sentences {
         Ok(sentences) if sentences.len() > MOST => pen::number(out, "; all ", sentences.len()),
-        Ok(sentences) => write_each(out, &sentences),
+        Ok(sentences) => {
+            out.push_str("; all");
+            for sentence in &sentences {
+                out.push(' ');
+                write_sentence(out, sentence);
+            }
+        }
         Err(SentenceError::OutOfMemory) => out.tear(),
         Err(error) => {
             out.push_str("; all ");
             write_refusal(out, error);
         }
-    }
-}
-
-/// Writes sentences, each after a space.
-fn write_each(out: &mut Page, sentences: &[Vec<TIdx<u32>>]) {
-    out.push_str("; all");
-    for sentence in sentences {
-        out.push(' ');
-        write_sentence(out, sentence);
     }
 }

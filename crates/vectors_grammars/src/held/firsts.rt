@@ -19,34 +19,16 @@ pub(crate) fn write_firsts<S: Storage>(out: &mut Page, grammar: &YaccGrammar<S>)
 
 /// Writes how many tokens the FIRST sets of a grammar have in total, and how many rules are nullable.
 pub(crate) fn write_lengths<S: Storage>(out: &mut Page, grammar: &YaccGrammar<S>) {
-    match grammar.firsts(out.alloc) {
-        Ok(firsts) => write_counts(out, grammar, &firsts),
-        Err(_) => out.tear(),
-    }
-}
-
-fn write_counts<S: Storage>(out: &mut Page, grammar: &YaccGrammar<S>, firsts: &YaccFirsts<S>) {
-    let mut tokens = 0usize;
-    let mut empty = 0usize;
+    let Ok(firsts) = grammar.firsts(out.alloc) else {
+        return out.tear();
+    };
+    let (mut tokens, mut empty) = (0usize, 0usize);
     for ridx in grammar.iter_rules() {
-        tokens = tokens.saturating_add(tokens_in(grammar, firsts, ridx));
+        tokens = tokens.saturating_add(firsts.firsts(ridx).count());
         empty = empty.saturating_add(usize::from(firsts.is_epsilon_set(ridx)));
     }
-    let pieces = [
-        Piece::Number("    firsts of ", tokens),
-        Piece::Number(" tokens, ", empty),
-        Piece::Text(" rules empty\n"),
-    ];
-    pen::pieces(out, &pieces);
-}
-
-/// How many tokens a rule begins with.
-fn tokens_in<S: Storage>(grammar: &YaccGrammar<S>, firsts: &YaccFirsts<S>, ridx: RIdx<S>) -> usize {
-    let mut tokens = 0usize;
-    for tidx in grammar.iter_tidxs() {
-        tokens = tokens.saturating_add(usize::from(firsts.is_set(ridx, tidx)));
-    }
-    tokens
+    pen::numbers(out, ("    firsts of ", tokens), (" tokens, ", empty));
+    out.push_str(" rules empty\n");
 }
 
 /// Writes each rule's set: the tokens by index, where the two accessors differ, and whether the rule is nullable.
@@ -58,24 +40,12 @@ pub(crate) fn write_sets<S: Storage>(
     requires { length firsts.now.firsts.rows ≡ length grammar.now.rules }
 {
     for ridx in grammar.iter_rules() {
-        write_rule(out, grammar, firsts, ridx);
+        indices::rule(out, "    first of ", ridx);
+        out.push(':');
+        write_tokens(out, grammar, firsts, ridx);
+        pen::text_if(out, firsts.is_epsilon_set(ridx), " empty");
+        out.push('\n');
     }
-}
-
-/// Writes a rule's set.
-fn write_rule<S: Storage>(
-    out: &mut Page,
-    grammar: &YaccGrammar<S>,
-    firsts: &YaccFirsts<S>,
-    ridx: RIdx<S>,
-)
-    requires { S.number ridx.0 < length firsts.now.firsts.rows }
-{
-    indices::rule(out, "    first of ", ridx);
-    out.push_str(":");
-    write_tokens(out, grammar, firsts, ridx);
-    pen::text_if(out, firsts.is_epsilon_set(ridx), " empty");
-    out.push('\n');
 }
 
 fn write_tokens<S: Storage>(
@@ -103,21 +73,18 @@ pub(crate) fn write_bit<S: Storage>(out: &mut Page, tidx: TIdx<S>, is_set: bool,
 
 /// Sets one bit of the FIRST sets of a grammar twice, and writes whether it was set before, and the sets.
 pub(crate) fn write_set(out: &mut Page, grammar: &YaccGrammar<u32>, (rule, token): (usize, usize)) {
-    match (u32::from_usize(rule), u32::from_usize(token)) {
-        (Some(rule), Some(token)) => write_with_bit(out, grammar, rule, token),
-        _ => out.push_str("no such bit\n"),
-    }
-}
-
-fn write_with_bit(out: &mut Page, grammar: &YaccGrammar<u32>, rule: u32, token: u32) {
+    let (Some(rule), Some(token)) = (u32::from_usize(rule), u32::from_usize(token)) else {
+        return out.push_str("no such bit\n");
+    };
     let Ok(mut firsts) = YaccFirsts::new(out.alloc, grammar) else {
         return out.tear();
     };
     if rule < grammar.rules_len().0 && token < grammar.tokens_len().0 {
-        let was_set = firsts.set(RIdx(rule), TIdx(token));
-        let is_set = firsts.set(RIdx(rule), TIdx(token));
-        indices::rule(out, "set(", RIdx(rule));
-        indices::token(out, ", ", TIdx(token));
+        let (rule, token) = (RIdx(rule), TIdx(token));
+        let was_set = firsts.set(rule, token);
+        let is_set = firsts.set(rule, token);
+        indices::rule(out, "set(", rule);
+        indices::token(out, ", ", token);
         write_set_twice(out, "): ", was_set, is_set);
     }
     write_sets(out, grammar, &firsts);

@@ -26,23 +26,11 @@ pub(crate) fn write_sets<S: Storage>(
     requires { length follows.now.rows ≡ length grammar.now.rules }
 {
     for ridx in grammar.iter_rules() {
-        write_rule(out, grammar, follows, ridx);
+        indices::rule(out, "    follow of ", ridx);
+        out.push(':');
+        write_tokens(out, grammar, follows, ridx);
+        out.push('\n');
     }
-}
-
-/// Writes a rule's set.
-fn write_rule<S: Storage>(
-    out: &mut Page,
-    grammar: &YaccGrammar<S>,
-    follows: &YaccFollows<S>,
-    ridx: RIdx<S>,
-)
-    requires { S.number ridx.0 < length follows.now.rows }
-{
-    indices::rule(out, "    follow of ", ridx);
-    out.push_str(":");
-    write_tokens(out, grammar, follows, ridx);
-    out.push('\n');
 }
 
 fn write_tokens<S: Storage>(
@@ -61,30 +49,13 @@ fn write_tokens<S: Storage>(
 
 /// Writes how many tokens the FOLLOW sets of a grammar have in total.
 pub(crate) fn write_lengths<S: Storage>(out: &mut Page, grammar: &YaccGrammar<S>) {
-    match YaccFollows::new(out.alloc, grammar) {
-        Ok(follows) => write_count(out, grammar, &follows),
-        Err(_) => out.tear(),
-    }
-}
-
-fn write_count<S: Storage>(out: &mut Page, grammar: &YaccGrammar<S>, follows: &YaccFollows<S>) {
+    let Ok(follows) = YaccFollows::new(out.alloc, grammar) else {
+        return out.tear();
+    };
     let mut tokens = 0usize;
     for ridx in grammar.iter_rules() {
-        tokens = tokens.saturating_add(tokens_in(grammar, follows, ridx));
+        tokens = tokens.saturating_add(follows.follows(ridx).count());
     }
     pen::number(out, "    follows of ", tokens);
     out.push_str(" tokens\n");
-}
-
-/// How many tokens follow a rule.
-fn tokens_in<S: Storage>(
-    grammar: &YaccGrammar<S>,
-    follows: &YaccFollows<S>,
-    ridx: RIdx<S>,
-) -> usize {
-    let mut tokens = 0usize;
-    for tidx in grammar.iter_tidxs() {
-        tokens = tokens.saturating_add(usize::from(follows.is_set(ridx, tidx)));
-    }
-    tokens
 }

@@ -4,7 +4,6 @@ ghost use Rattle.std.specs.Prelude.{◌≡◌, length};
 
 use super::firsts::{self, write_set_twice};
 use super::{follows, tables};
-use cfgrammar::Storage;
 use cfgrammar::yacc::YaccGrammar;
 use cfgrammar::yacc::firsts::YaccFirsts;
 use cfgrammar::yacc::follows::YaccFollows;
@@ -17,20 +16,14 @@ pub(crate) fn write_without_memory(out: &mut Page, grammar: &YaccGrammar<u32>) {
     let Ok(mut firsts) = grammar.firsts(out.alloc) else {
         return out.tear();
     };
-    write_with_firsts(out, grammar, &firsts);
+    let Ok(follows) = grammar.follows(out.alloc) else {
+        return out.tear();
+    };
+    write_with_sets(out, grammar, &firsts, &follows);
     let (rule, token) = (grammar.start_rule_idx(), grammar.eof_token_idx());
     let was_set = firsts.set(rule, token);
     let is_set = firsts.set(rule, token);
     write_set_twice(out, "    end token set: ", was_set, is_set);
-}
-
-fn write_with_firsts(out: &mut Page, grammar: &YaccGrammar<u32>, firsts: &YaccFirsts<u32>)
-    requires { length firsts.now.firsts.rows ≡ length grammar.now.rules }
-{
-    match grammar.follows(out.alloc) {
-        Ok(follows) => write_with_sets(out, grammar, firsts, &follows),
-        Err(_) => out.tear(),
-    }
 }
 
 /// Makes the productions, writes the tables and the sets, and opens the start production.
@@ -46,7 +39,10 @@ fn write_with_sets(
     let Ok(mut productions) = grammar.productions(out.alloc) else {
         return out.tear();
     };
-    write_plain(out, grammar, firsts, follows);
+    pen::without_memory(out);
+    tables::write_tables(out, grammar, false);
+    firsts::write_sets(out, grammar, firsts);
+    follows::write_sets(out, grammar, follows);
     let start = grammar.start_prod();
     let rule = productions.rule_of(start);
     let symbols = productions.open(start).len();
@@ -55,24 +51,8 @@ fn write_with_sets(
     write_opened(out, &productions);
 }
 
-/// Writes the tables and the sets.
-fn write_plain(
-    out: &mut Page,
-    grammar: &YaccGrammar<u32>,
-    firsts: &YaccFirsts<u32>,
-    follows: &YaccFollows<u32>,
-)
-    requires firsts { length firsts.now.firsts.rows ≡ length grammar.now.rules }
-    requires follows { length follows.now.rows ≡ length grammar.now.rules }
-{
-    pen::without_memory(out);
-    tables::write_tables(out, grammar, false);
-    firsts::write_sets(out, grammar, firsts);
-    follows::write_sets(out, grammar, follows);
-}
-
 /// Writes the numbers of rules and tokens, and how often each production was opened, and all in total.
-fn write_opened<S: Storage, P: Productions<S>>(out: &mut Page, productions: &P) {
+fn write_opened<P: Productions<u32>>(out: &mut Page, productions: &P) {
     indices::rule(out, ", rules ", productions.rules_len());
     indices::token(out, ", tokens ", productions.tokens_len());
     out.push_str(", opened");

@@ -2,22 +2,13 @@
 
 ghost use Rattle.std.specs.Prelude.{◌<◌, length};
 
-use super::firsts::write_firsts;
-use super::follows::write_follows;
 use cfgrammar::yacc::{Precedence, YaccGrammar};
-use cfgrammar::{PIdx, RIdx, Storage, Symbol, TIdx};
+use cfgrammar::{PIdx, Storage, Symbol};
 use vectors_rows::indices;
 use vectors_rows::page::Page;
 use vectors_rows::pen::{self, Piece};
 use vectors_rows::said::{write_precedence, write_settings};
 use vectors_rows::text::push_pictures;
-
-/// Writes all of a grammar.
-pub(crate) fn write_grammar<S: Storage>(out: &mut Page, grammar: &YaccGrammar<S>) {
-    write_tables(out, grammar, true);
-    write_firsts(out, grammar);
-    write_follows(out, grammar);
-}
 
 /// Writes all of a grammar's tables, and productions as text, which allocates, if requested.
 pub(crate) fn write_tables<S: Storage>(out: &mut Page, grammar: &YaccGrammar<S>, is_printed: bool) {
@@ -32,16 +23,9 @@ pub(crate) fn write_tables<S: Storage>(out: &mut Page, grammar: &YaccGrammar<S>,
 }
 
 /// Writes the numbers of rules, productions and tokens, the start and end ones, and what is said of the grammar as a
-/// whole.
+/// whole, where it exists: the rule for the implicit tokens, how many conflicts are expected, and the settings.
 pub(crate) fn write_lengths<S: Storage>(out: &mut Page, grammar: &YaccGrammar<S>) {
-    write_counts(out, grammar);
-    write_expected(out, grammar);
-    let (param, generics) = (grammar.parse_param(), grammar.parse_generics());
-    write_settings(out, param, generics, grammar.programs());
-}
-
-/// Writes the numbers of rules, productions and tokens, and the start and end ones.
-fn write_counts<S: Storage>(out: &mut Page, grammar: &YaccGrammar<S>) {
+    let implicit = indices::rule_number(grammar.implicit_rule());
     let pieces = [
         Piece::Number("    rules ", usize::from(grammar.rules_len())),
         Piece::Number(", start ", usize::from(grammar.start_rule_idx())),
@@ -49,51 +33,36 @@ fn write_counts<S: Storage>(out: &mut Page, grammar: &YaccGrammar<S>) {
         Piece::Number(", start ", usize::from(grammar.start_prod())),
         Piece::Number("; tokens ", usize::from(grammar.tokens_len())),
         Piece::Number(", end ", usize::from(grammar.eof_token_idx())),
-    ];
-    pen::pieces(out, &pieces);
-}
-
-/// Writes the rule for the implicit tokens, ends the line, and writes how many conflicts are expected, each if it
-/// exists.
-fn write_expected<S: Storage>(out: &mut Page, grammar: &YaccGrammar<S>) {
-    let implicit = indices::rule_number(grammar.implicit_rule());
-    let (expect, expectrr) = (grammar.expect(), grammar.expectrr());
-    let pieces = [
         Piece::NumberOr("; implicit tokens in ", implicit, ""),
-        Piece::NumberOr("\n    expect ", expect, ""),
-        Piece::NumberOr("\n    expect-rr ", expectrr, ""),
+        Piece::NumberOr("\n    expect ", grammar.expect(), ""),
+        Piece::NumberOr("\n    expect-rr ", grammar.expectrr(), ""),
         Piece::Text("\n"),
     ];
     pen::pieces(out, &pieces);
+    let (param, generics) = (grammar.parse_param(), grammar.parse_generics());
+    write_settings(out, param, generics, grammar.programs());
 }
 
-/// Writes a line for each rule.
+/// Writes each rule: its index, its name, the name's span, and its productions; and whether the two calls that return
+/// its name differ.
 fn write_rules<S: Storage>(out: &mut Page, grammar: &YaccGrammar<S>) {
     for ridx in grammar.iter_rules() {
-        write_rule(out, grammar, ridx);
+        let name = grammar.rule_name_str(ridx);
+        let pieces = [
+            Piece::Number("    rule ", usize::from(ridx)),
+            Piece::Name(" ", name),
+            Piece::Span(grammar.rule_name_span(ridx)),
+            Piece::Text(":"),
+        ];
+        pen::pieces(out, &pieces);
+        write_indices(out, grammar.rule_to_prods(ridx));
+        let pieces = [
+            Piece::TextOr(", type ", grammar.actiontype(ridx), ""),
+            Piece::If(grammar.rule_name(ridx) != name, ", another name"),
+            Piece::Text("\n"),
+        ];
+        pen::pieces(out, &pieces);
     }
-}
-
-/// Writes a rule: its index, its name, the name's span, and its productions; and whether the two calls that return its
-/// name differ.
-fn write_rule<S: Storage>(out: &mut Page, grammar: &YaccGrammar<S>, ridx: RIdx<S>)
-    requires { S.number ridx.0 < length grammar.now.rules }
-{
-    let name = grammar.rule_name_str(ridx);
-    let pieces = [
-        Piece::Number("    rule ", usize::from(ridx)),
-        Piece::Name(" ", name),
-        Piece::Span(grammar.rule_name_span(ridx)),
-        Piece::Text(":"),
-    ];
-    pen::pieces(out, &pieces);
-    write_indices(out, grammar.rule_to_prods(ridx));
-    let pieces = [
-        Piece::TextOr(", type ", grammar.actiontype(ridx), ""),
-        Piece::If(grammar.rule_name(ridx) != name, ", another name"),
-        Piece::Text("\n"),
-    ];
-    pen::pieces(out, &pieces);
 }
 
 fn write_indices<S: Storage>(out: &mut Page, pidxs: &[PIdx<S>]) {
@@ -120,20 +89,22 @@ fn write_production<S: Storage>(
         Piece::Text(" symbols:"),
     ];
     pen::pieces(out, &pieces);
-    write_body(out, grammar.prod(pidx));
-    if is_printed {
-        write_printed(out, grammar, pidx);
-    }
-    write_action(out, grammar, pidx);
-}
-
-fn write_body<S: Storage>(out: &mut Page, symbols: &[Symbol<S>]) {
-    for symbol in symbols {
+    for symbol in grammar.prod(pidx) {
         match *symbol {
             Symbol::Rule(ridx) => indices::rule(out, " rule ", ridx),
             Symbol::Token(tidx) => indices::token(out, " token ", tidx),
         }
     }
+    if is_printed {
+        write_printed(out, grammar, pidx);
+    }
+    write_level(out, ", precedence ", grammar.prod_precedence(pidx), "");
+    let pieces = [
+        Piece::TextOr(", action ", grammar.action(pidx), ""),
+        Piece::SpanOr(grammar.action_span(pidx), ""),
+        Piece::Text("\n"),
+    ];
+    pen::pieces(out, &pieces);
 }
 
 /// Writes a production as text.
@@ -147,50 +118,24 @@ fn write_printed<S: Storage>(out: &mut Page, grammar: &YaccGrammar<S>, pidx: PId
     }
 }
 
-/// Writes a production's precedence and its action, if it has them, and ends the line.
-fn write_action<S: Storage>(out: &mut Page, grammar: &YaccGrammar<S>, pidx: PIdx<S>)
-    requires { S.number pidx.0 < length grammar.now.productions }
-{
-    write_level(out, ", precedence ", grammar.prod_precedence(pidx), "");
-    let pieces = [
-        Piece::TextOr(", action ", grammar.action(pidx), ""),
-        Piece::SpanOr(grammar.action_span(pidx), ""),
-        Piece::Text("\n"),
-    ];
-    pen::pieces(out, &pieces);
-}
-
-/// Writes a line for each token.
+/// Writes each token: its index, its name, the name's span, its precedence, its printed form if that isn't its name,
+/// and whether it should not be inserted.
 fn write_tokens<S: Storage>(out: &mut Page, grammar: &YaccGrammar<S>) {
     for tidx in grammar.iter_tidxs() {
-        write_token(out, grammar, tidx);
+        let (name, epp) = (grammar.token_name(tidx), grammar.token_epp(tidx));
+        let pieces = [
+            Piece::Number("    token ", usize::from(tidx)),
+            Piece::NameOr(" ", name, ""),
+            Piece::SpanOr(grammar.token_span(tidx), ""),
+        ];
+        pen::pieces(out, &pieces);
+        write_level(out, ", precedence ", grammar.token_precedence(tidx), "");
+        if epp != name {
+            pen::name(out, ", epp ", epp.unwrap_or("none"));
+        }
+        pen::text_if(out, grammar.avoid_insert(tidx), ", avoid_insert");
+        out.push('\n');
     }
-}
-
-/// Writes a token: its index, its name, the name's span, its precedence, its printed form if that isn't its name, and
-/// whether it should not be inserted.
-fn write_token<S: Storage>(out: &mut Page, grammar: &YaccGrammar<S>, tidx: TIdx<S>)
-    requires { S.number tidx.0 < length grammar.now.tokens }
-{
-    let name = grammar.token_name(tidx);
-    let pieces = [
-        Piece::Number("    token ", usize::from(tidx)),
-        Piece::NameOr(" ", name, ""),
-        Piece::SpanOr(grammar.token_span(tidx), ""),
-    ];
-    pen::pieces(out, &pieces);
-    write_level(out, ", precedence ", grammar.token_precedence(tidx), "");
-    write_epp(out, grammar.token_epp(tidx), name);
-    pen::text_if(out, grammar.avoid_insert(tidx), ", avoid_insert");
-    out.push('\n');
-}
-
-/// Writes a token's printed form, unless that is its name.
-fn write_epp(out: &mut Page, epp: Option<&str>, name: Option<&str>) {
-    if epp == name {
-        return;
-    }
-    pen::name(out, ", epp ", epp.unwrap_or("none"));
 }
 
 /// Writes a precedence after `before`, or a text for a missing one.

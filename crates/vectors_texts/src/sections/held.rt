@@ -67,14 +67,8 @@ pub(crate) fn write_value<T: Position>(out: &mut Page, value: &Value<T>) {
 fn write_kind<T: Position>(out: &mut Page, value: &Value<T>) {
     match YaccKind::try_from_value(out.alloc, value) {
         Ok(kind) => write!(out, "; kind {kind:?}"),
-        Err(fault) => write_fault(out, &fault),
-    }
-}
-
-fn write_fault<T: Position>(out: &mut Page, fault: &KindFault<T>) {
-    match fault {
-        KindFault::Error(error) => write_refused(out, error),
-        KindFault::OutOfMemory => out.tear(),
+        Err(KindFault::Error(error)) => write_refused(out, &error),
+        Err(KindFault::OutOfMemory) => out.tear(),
     }
 }
 
@@ -89,7 +83,12 @@ fn write_refused<T: Position>(out: &mut Page, error: &HeaderError<T>) {
 fn write_setting<T: Position>(out: &mut Page, setting: &Setting<T>) {
     match setting {
         Setting::Unitary(name) => write_namespaced(out, name),
-        Setting::Constructor { ctor, arg } => write_constructor(out, ctor, arg),
+        Setting::Constructor { ctor, arg } => {
+            write_namespaced(out, ctor);
+            out.push_str("(");
+            write_namespaced(out, arg);
+            out.push_str(")");
+        }
         Setting::Num(number, position) => {
             pen::number(out, "", *number as usize);
             position.write(out);
@@ -116,23 +115,13 @@ fn write_settings<T: Position>(out: &mut Page, settings: &Vec<Setting<T>>) {
     out.push_str("]");
 }
 
-fn write_constructor<T: Position>(out: &mut Page, ctor: &Namespaced<T>, arg: &Namespaced<T>) {
-    write_namespaced(out, ctor);
-    out.push_str("(");
-    write_namespaced(out, arg);
-    out.push_str(")");
-}
-
 /// Writes a name with its span or location, after its namespace if it has one.
 fn write_namespaced<T: Position>(out: &mut Page, name: &Namespaced<T>) {
     if let Some((namespace, position)) = &name.namespace {
-        write_located(out, namespace.as_str(), position);
+        out.push_str(namespace.as_str());
+        position.write(out);
         out.push_str("::");
     }
-    write_located(out, name.member.0.as_str(), &name.member.1);
-}
-
-fn write_located<T: Position>(out: &mut Page, word: &str, position: &T) {
-    out.push_str(word);
-    position.write(out);
+    out.push_str(name.member.0.as_str());
+    name.member.1.write(out);
 }

@@ -2,7 +2,7 @@
 
 use crate::kinds::write_parts;
 use cfgrammar::header::{
-    GrmtoolsSectionParser, Header, HeaderError, HeaderFault, HeaderValue, KindFault, Value,
+    GrmtoolsSectionParser, Header, HeaderError, HeaderFault, KindFault, Value,
 };
 use cfgrammar::yacc::{YaccGrammarError, YaccKind};
 use cfgrammar::{Location, Span};
@@ -18,26 +18,21 @@ pub(crate) fn write_section(out: &mut Page, text: &str) {
     }
 }
 
-/// Makes a section's parser, and writes a line for each key.
+/// Makes a section's parser, and writes a line for each key: the span and the location that represent its value, and
+/// the kind that the value names if the key is `yacckind`.
 fn write_parsed(out: &mut Page, (header, _): &(Header<Span>, usize)) {
     pen::without_memory(out);
     let _parser = GrmtoolsSectionParser::new("", false);
     for (key, held) in header {
-        write_held(out, key.as_str(), held);
+        let position = *held.1.primary_location();
+        pen::name(out, "    ", key.as_str());
+        pen::span(out, position);
+        write!(out, " {:?}", Location::from(position));
+        if key.as_str() == "yacckind" {
+            write_kind(out, &held.1);
+        }
+        out.push('\n');
     }
-}
-
-/// Writes a key, the span or location that represents its value, and the kind that the value names if the key is
-/// `yacckind`.
-fn write_held(out: &mut Page, key: &str, held: &HeaderValue<Span>) {
-    let position = *held.1.primary_location();
-    pen::name(out, "    ", key);
-    pen::span(out, position);
-    write!(out, " {:?}", Location::from(position));
-    if key == "yacckind" {
-        write_kind(out, &held.1);
-    }
-    out.push('\n');
 }
 
 /// Writes the kind that a value names.
