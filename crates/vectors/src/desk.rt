@@ -9,9 +9,10 @@ use std::cell::{Cell, RefCell};
 use std::env::FillError;
 use std::fmt::Display;
 use std::fs::{Metadata, OpenOptions};
-use std::io::{self, BufRead, ErrorKind, Lines, Write};
+use std::io::{self, BufRead, Lines, Write};
 use std::rt::{Clock, Env, Files};
 use std::time::Duration;
+use vectors_rows::row::Row;
 
 /// A runtime whose arguments and standard input are given, whose outputs are writers, and whose files are those of
 /// another runtime. It records what is requested.
@@ -30,6 +31,11 @@ pub(crate) struct Desk<'a, R> {
     pub(crate) readers: Cell<u64>,
 }
 
+/// The error that a cell is in use, which doesn't occur here.
+fn in_use() -> io::Error {
+    io::Error::from(io::ErrorKind::ResourceBusy)
+}
+
 /// Copies bytes to the start of a buffer.
 fn fill(buf: &mut [u8], bytes: &[u8]) -> Result<usize, FillError>
     ensures { IfOk result (λ count. count ≤ length buf.new) }
@@ -41,6 +47,19 @@ fn fill(buf: &mut [u8], bytes: &[u8]) -> Result<usize, FillError>
     Ok(bytes.len())
 }
 
+/// Writes some of the bytes to a writer in a cell.
+fn write_some(writer: &RefCell<Narrow>, bytes: &[u8]) -> io::Result<usize>
+    ensures { IfOk result (λ count. count ≤ length bytes.now) }
+{
+    match writer.try_borrow_mut() {
+        Ok(mut writer) => {
+            writer.request()?;
+            writer.write(bytes)
+        }
+        Err(_) => Err(in_use()),
+    }
+}
+
 /// Writes all bytes to a writer in a cell.
 fn write_all(writer: &RefCell<Narrow>, bytes: &[u8]) -> io::Result<()> {
     match writer.try_borrow_mut() {
@@ -48,7 +67,7 @@ fn write_all(writer: &RefCell<Narrow>, bytes: &[u8]) -> io::Result<()> {
             writer.request()?;
             writer.write_all(bytes)
         }
-        Err(_) => Err(ErrorKind::ResourceBusy.into()),
+        Err(_) => Err(in_use()),
     }
 }
 
@@ -66,6 +85,17 @@ fn print<D: Display>(
                 writer.wants_memory = true;
             }
             Err(io::Error::from(fault))
+        }
+    }
+}
+
+impl<R> Desk<'_, R> {
+    /// Whether memory ran out in a run with this status, other than as the row's standard input says.
+    pub(crate) fn is_selected(&self, row: &Row<'_>, status: u8) -> bool {
+        let is_input = row.first("input") == Some("memory") && self.readers.get() > 0;
+        match (self.output.try_borrow(), self.errors.try_borrow()) {
+            (Ok(output), Ok(errors)) => output.is_selected(status, &errors, is_input),
+            _ => false,
         }
     }
 }
@@ -101,11 +131,11 @@ impl<R> Env for Desk<'_, R> {
 /// It has no clock, and a pause takes no time.
 impl<R> Clock for Desk<'_, R> {
     fn monotonic(&self) -> io::Result<Duration> {
-        Err(ErrorKind::Unsupported.into())
+        Err(io::Error::from(io::ErrorKind::Unsupported))
     }
 
     fn since_1970(&self) -> io::Result<Duration> {
-        Err(ErrorKind::Unsupported.into())
+        Err(io::Error::from(io::ErrorKind::Unsupported))
     }
 }
 
@@ -140,13 +170,7 @@ impl<R: AllocGlobal> Print for Desk<'_, R> {
     }
 
     fn write_some(&self, bytes: &[u8]) -> io::Result<usize> {
-        match self.output.try_borrow_mut() {
-            Ok(mut output) => {
-                output.request()?;
-                output.write(bytes)
-            }
-            Err(_) => Err(ErrorKind::ResourceBusy.into()),
-        }
+        write_some(&self.output, bytes)
     }
 }
 

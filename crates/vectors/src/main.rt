@@ -39,9 +39,17 @@ impl Answers for All {
             "report" => reports::print(out, row, text),
             "run" | "lint" => runs::print(out, row, text),
             "program" | "lint-program" => programs::print(out, rt, row, text),
-            "guide" => uses::results::print(out, row.name, text),
+            "guide" => guide(out, row.name, text),
             _ => writeln!(out, "no such row: {}", row.tries),
         }
+    }
+}
+
+/// Writes what the guide's caller with this name returns for a text.
+fn guide(out: &mut Page, call: &str, text: &str) {
+    match uses::results::print(out.alloc, call, text) {
+        Ok(answer) => out.push_str(answer.as_str()),
+        Err(_) => out.tear(),
     }
 }
 

@@ -4,14 +4,39 @@ use std::alloc::Global;
 use std::io::{self, ErrorKind, Write};
 use vectors_rows::row::Row;
 
-/// A writer that accepts a few bytes at a time, up to a total.
+/// What a writer does when its room is used up.
+#[derive(Clone, Copy)]
+pub(crate) enum End {
+    /// It fails as a closed pipe does.
+    Fails,
+    IsInterrupted,
+    IsFull,
+    IsOverQuota,
+    IsTooLarge,
+    TakesNone,
+}
+
+impl End {
+    /// The error of a writer that fails.
+    fn error(self) -> Option<ErrorKind> {
+        match self {
+            End::Fails => Some(ErrorKind::BrokenPipe),
+            End::IsInterrupted => Some(ErrorKind::Interrupted),
+            End::IsFull => Some(ErrorKind::StorageFull),
+            End::IsOverQuota => Some(ErrorKind::QuotaExceeded),
+            End::IsTooLarge => Some(ErrorKind::FileTooLarge),
+            End::TakesNone => None,
+        }
+    }
+}
+
+/// A writer that accepts a few bytes at a time, up to a total; then it ends.
 #[derive(Drop)]
 pub(crate) struct Narrow {
     taken: Vec<u8>,
     step: usize,
     room: usize,
-    /// Why it fails when its room is used up; if there is no reason, it takes none.
-    end: Option<ErrorKind>,
+    end: End,
     /// Whether it takes bytes only at every second request.
     blocks: bool,
     is_blocked: bool,
@@ -22,7 +47,7 @@ pub(crate) struct Narrow {
 }
 
 impl Narrow {
-    pub(crate) fn new(alloc: Global, step: usize, room: usize, end: Option<ErrorKind>) -> Self {
+    pub(crate) fn new(alloc: Global, step: usize, room: usize, end: End) -> Self {
         Narrow {
             taken: Vec::new(alloc),
             step,
@@ -40,28 +65,16 @@ impl Narrow {
     /// interrupted, and `no-space NAME`, `over-quota NAME` and `too-large NAME` why it then fails. `blocks NAME` says
     /// that it takes bytes only at every second request. Otherwise it accepts all bytes.
     pub(crate) fn of_row(alloc: Global, row: &Row<'_>, name: &str) -> Self {
-        let ends = [
-            ("too-large", Some(ErrorKind::FileTooLarge)),
-            ("over-quota", Some(ErrorKind::QuotaExceeded)),
-            ("no-space", Some(ErrorKind::StorageFull)),
-            ("interrupts", Some(ErrorKind::Interrupted)),
-            ("full", None),
-        ];
-        let mut writer = Narrow::wide(alloc);
-        writer.step = row.number_of("step", name).unwrap_or(usize::MAX);
-        writer.room = row.number_of("room", name).unwrap_or(usize::MAX);
+        let step = row.number_of("step", name).unwrap_or(usize::MAX);
+        let room = row.number_of("room", name).unwrap_or(usize::MAX);
+        let mut writer = Narrow::new(alloc, step, room, end_of_row(row, name));
         writer.blocks = row.number_of("blocks", name).is_some();
-        for (word, end) in ends {
-            if row.number_of(word, name).is_some() {
-                writer.end = end;
-            }
-        }
         writer
     }
 
     /// A writer that accepts all bytes.
     pub(crate) fn wide(alloc: Global) -> Self {
-        Narrow::new(alloc, usize::MAX, usize::MAX, Some(ErrorKind::BrokenPipe))
+        Narrow::new(alloc, usize::MAX, usize::MAX, End::Fails)
     }
 
     /// Counts a request.
@@ -93,10 +106,27 @@ impl Narrow {
     }
 }
 
+/// What the writer of a row does when its room is used up.
+fn end_of_row(row: &Row<'_>, name: &str) -> End {
+    let ends = [
+        ("full", End::TakesNone),
+        ("interrupts", End::IsInterrupted),
+        ("no-space", End::IsFull),
+        ("over-quota", End::IsOverQuota),
+        ("too-large", End::IsTooLarge),
+    ];
+    for (word, end) in ends {
+        if row.number_of(word, name).is_some() {
+            return end;
+        }
+    }
+    End::Fails
+}
+
 impl Write for Narrow {
     fn write(&mut self, bytes: &[u8]) -> io::Result<usize> {
         let count = bytes.len().min(self.step).min(self.room);
-        match self.end {
+        match self.end.error() {
             Some(kind) if count == 0 => return Err(kind.into()),
             _ => {}
         }

@@ -14,10 +14,11 @@ use vectors_rows::row::Row;
 /// Runs the row's program over a runtime with the row's arguments, its text as standard input, and the files of the
 /// folder. Writes the status, what was written to the two outputs, and what was read.
 pub(crate) fn print<R: Files + AllocGlobal>(out: &mut Page, rt: &R, row: &Row<'_>, text: &str) {
-    let Ok(words) = words_of(out.alloc, row.first("words").unwrap_or("")) else {
+    let given = row.first("words").unwrap_or("");
+    let Ok(words) = words_of(out.alloc, given) else {
         return out.tear();
     };
-    let mut desk = Desk {
+    let desk = Desk {
         rt,
         words: words.as_slice(),
         input: input(row, text),
@@ -32,24 +33,14 @@ pub(crate) fn print<R: Files + AllocGlobal>(out: &mut Page, rt: &R, row: &Row<'_
         "lint-program" => cfglint::run_over(&desk, is_terminal).status(),
         _ => cfgtool::run_over(&desk).status(),
     };
-    write_run(out, row, status, &mut desk);
-}
-
-/// Writes a run's status, what the two outputs accepted, which files were requested, and how often standard input was;
-/// unless memory ran out in it, other than as the row's standard input says.
-fn write_run<R>(out: &mut Page, row: &Row<'_>, status: u8, desk: &mut Desk<'_, R>) {
-    let readers = desk.readers.get();
-    let is_input = row.first("input") == Some("memory") && readers > 0;
-    let (output, errors) = (desk.output.get_mut(), desk.errors.get_mut());
-    if output.is_selected(status, errors, is_input) {
+    if desk.is_selected(row, status) {
         return out.tear();
     }
-    let words = row.first("words").unwrap_or("");
-    writeln!(out, "{} {words}\nstatus {status}", program_of(row));
-    write_taken(out, "output", output);
-    write_taken(out, "errors", errors);
-    let opened = desk.opened.get_mut();
-    writeln!(out, "files:{opened}\nstandard input: {readers} times");
+    writeln!(out, "{} {given}", program_of(row));
+    writeln!(out, "status {status}");
+    write_taken(out, "output", &desk.output);
+    write_taken(out, "errors", &desk.errors);
+    write_read(out, &desk);
 }
 
 /// A program's name, which neither uses, and the arguments. In an argument, � represents a byte that isn't UTF-8.
@@ -86,8 +77,21 @@ fn input<'a>(row: &Row<'_>, text: &'a str) -> Given<'a> {
 }
 
 /// Writes what an output accepted.
-fn write_taken(out: &mut Page, name: &str, taken: &Narrow) {
+fn write_taken(out: &mut Page, name: &str, taken: &RefCell<Narrow>) {
+    let Ok(taken) = taken.try_borrow() else {
+        writeln!(out, "{name} in use");
+        return;
+    };
     let bytes = taken.bytes();
     writeln!(out, "{name} of {} bytes", bytes.len());
     write_bytes(out, bytes);
+}
+
+/// Writes which files were requested, and how often standard input was.
+fn write_read<R>(out: &mut Page, desk: &Desk<'_, R>) {
+    match desk.opened.try_borrow() {
+        Ok(opened) => writeln!(out, "files:{opened}"),
+        Err(_) => out.push_str("files in use\n"),
+    }
+    writeln!(out, "standard input: {} times", desk.readers.get());
 }

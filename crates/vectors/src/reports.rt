@@ -1,16 +1,15 @@
 //! Rows on the reports of a text.
 
-use crate::narrow::Narrow;
+use crate::narrow::{End, Narrow};
 use crate::rooms::{Run, write_rooms};
 use crate::runs::write_taken;
 use cfgtool::arguments::command_of;
 use cfgtool::kinds::kind_of;
 use cfgtool::{Counted, KindArg, Outcome, ReportFault, Sink, report, report_lex};
 use std::alloc::{AllocError, Global};
-use std::io::ErrorKind;
 use vectors_rows::page::Page;
 use vectors_rows::pen;
-use vectors_rows::row::{Row, first_word};
+use vectors_rows::row::Row;
 use vectors_rows::text::of_turn;
 
 /// A report on a text: what the command prints, or else the differences between its tokens and the names.
@@ -48,7 +47,8 @@ impl Run for Report<'_> {
 /// Writes the result of the report that the row's arguments request, and what was written; also over writers of every
 /// room, if the row requests that.
 pub(crate) fn print(out: &mut Page, row: &Row<'_>, text: &str) {
-    let (kind, command) = first_word(row.first("words").unwrap_or(""));
+    let arguments = row.first("words").unwrap_or("");
+    let (kind, command) = arguments.split_once(' ').unwrap_or((arguments, ""));
     let Ok(names) = of_turn(out.alloc, row.first("names").unwrap_or(""), 0) else {
         return out.tear();
     };
@@ -81,8 +81,7 @@ fn write_counted(out: &mut Page, writer: &mut Narrow) {
 /// Writes the result of a report.
 fn print_report(out: &mut Page, row: &Row<'_>, requested: &Report<'_>) {
     if row.first("show") == Some("without-memory") {
-        let broken = Some(ErrorKind::BrokenPipe);
-        return write_counted(out, &mut Narrow::new(requested.alloc, 1, 0, broken));
+        return write_counted(out, &mut Narrow::new(requested.alloc, 1, 0, End::Fails));
     }
     let mut output = Narrow::of_row(requested.alloc, row, "out");
     let Ok(word) = requested.ended(&mut output) else {
@@ -90,7 +89,8 @@ fn print_report(out: &mut Page, row: &Row<'_>, requested: &Report<'_>) {
     };
     writeln!(out, "report {}: {word}", requested.command);
     write_taken(out, "output", &output);
-    if row.first("rooms").is_some() {
-        write_rooms(out, requested, output.bytes());
+    match row.first("rooms") {
+        Some(_) => write_rooms(out, requested, output.bytes()),
+        None => {}
     }
 }

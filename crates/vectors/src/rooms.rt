@@ -1,10 +1,9 @@
 //! Writers of every room.
 
-use crate::narrow::Narrow;
+use crate::narrow::{End, Narrow};
 use std::alloc::AllocError;
-use std::io::ErrorKind;
 use vectors_rows::page::Page;
-use vectors_rows::pen::{self, Piece};
+use vectors_rows::pen;
 
 /// What is run over one writer after another.
 pub(crate) trait Run {
@@ -16,24 +15,15 @@ pub(crate) trait Run {
 /// bytes each accepted, and the word. They accept one byte at a time, four, or all that they are given.
 pub(crate) fn write_rooms<R: Run>(out: &mut Page, run: &R, whole: &[u8]) {
     for step in [1, 4, usize::MAX] {
-        write_ended(out, run, (step, Some(ErrorKind::BrokenPipe)), whole);
-        write_ended(out, run, (step, Some(ErrorKind::Interrupted)), whole);
-        write_ended(out, run, (step, None), whole);
+        write_ended(out, run, (step, End::Fails), whole);
+        write_ended(out, run, (step, End::IsInterrupted), whole);
+        write_ended(out, run, (step, End::TakesNone), whole);
     }
 }
 
 /// Writes how a run ends on writers that accept this many bytes at a time and end like this.
-fn write_ended<R: Run>(
-    out: &mut Page,
-    run: &R,
-    (step, end): (usize, Option<ErrorKind>),
-    whole: &[u8],
-) {
-    let word = match end {
-        Some(ErrorKind::Interrupted) => "is interrupted",
-        Some(_) => "fails",
-        None => "takes none",
-    };
+fn write_ended<R: Run>(out: &mut Page, run: &R, (step, end): (usize, End), whole: &[u8]) {
+    let word = word_of(end);
     write!(
         out,
         "    at most {step} bytes at a time, and {word} at the end:"
@@ -48,15 +38,21 @@ fn write_ended<R: Run>(
     out.push('\n');
 }
 
+/// A word for how a writer ends.
+fn word_of(end: End) -> &'static str {
+    match end {
+        End::IsInterrupted => "is interrupted",
+        End::TakesNone => "takes none",
+        _ => "fails",
+    }
+}
+
 /// Writes how many bytes a writer accepted and how the run ended; and what is wrong: that they are no prefix of all
 /// bytes, or that more than one write failed.
 fn write_room(out: &mut Page, writer: &Narrow, word: &str, whole: &[u8]) {
-    let pieces = [
-        Piece::Number(" ", writer.bytes().len()),
-        Piece::Text(":"),
-        Piece::Text(word),
-        Piece::If(!whole.starts_with(writer.bytes()), " (no beginning)"),
-        Piece::If(writer.faults > 1, " (tried again)"),
-    ];
-    pen::pieces(out, &pieces);
+    pen::number(out, " ", writer.bytes().len());
+    out.push_str(":");
+    out.push_str(word);
+    pen::text_if(out, !whole.starts_with(writer.bytes()), " (no beginning)");
+    pen::text_if(out, writer.faults > 1, " (tried again)");
 }

@@ -34,13 +34,14 @@ impl SourceWithReasons for TwoFiles {
 /// Runs the row's program on its arguments, where its file contains the text or what the row gives instead. Writes the
 /// status, what was written to the two outputs, and how many faults these had.
 pub(crate) fn print(out: &mut Page, row: &Row<'_>, text: &str) {
+    let words = row.first("words").unwrap_or("");
     let mut output = Narrow::of_row(out.alloc, row, "out");
     let mut errors = Narrow::of_row(out.alloc, row, "err");
     let Ok(status) = run_over(out.alloc, row, text, &mut output, &mut errors) else {
         return out.tear();
     };
-    let words = row.first("words").unwrap_or("");
-    writeln!(out, "{} {words}\nstatus {status}", program_of(row));
+    writeln!(out, "{} {words}", program_of(row));
+    writeln!(out, "status {status}");
     write_taken(out, "output", &output);
     write_taken(out, "errors", &errors);
     write_requested_rooms(out, row, text, (output.bytes(), errors.bytes()))
@@ -91,12 +92,17 @@ impl Run for OneOutput<'_> {
         } else {
             run_over(self.alloc, self.row, self.text, writer, &mut other)?
         };
-        Ok(match status {
-            0 => "0",
-            1 => "1",
-            2 => "2",
-            _ => "3",
-        })
+        Ok(word_of(status))
+    }
+}
+
+/// A word for a status.
+fn word_of(status: u8) -> &'static str {
+    match status {
+        0 => "0",
+        1 => "1",
+        2 => "2",
+        _ => "3",
     }
 }
 
@@ -110,7 +116,9 @@ fn run_over(
 ) -> Result<u8, AllocError> {
     let words = row.first("words").unwrap_or("");
     let args: Vec<&str> = words.split_whitespace().collect(alloc)?;
-    let mut source = files_of(alloc, row, text)?;
+    let first = Some(input(alloc, row, text)?);
+    let second = second_input(alloc, row)?;
+    let mut source = TwoFiles { first, second };
     let mut to_output = Counted::new(&mut *output);
     let mut to_errors = Counted::new(&mut *errors);
     let status = match row.tries {
@@ -126,22 +134,25 @@ fn run_over(
     Ok(status)
 }
 
-/// The row's file, and the second one, if the row gives it: a lexer's names, or a grammar.
-fn files_of(alloc: Global, row: &Row<'_>, text: &str) -> Result<TwoFiles, AllocError> {
-    let second = match row.first("names") {
-        Some(line) => Some(Input::Bytes(of_turn(alloc, line, 0)?.into_bytes())),
-        None => None,
-    };
-    let first = match row.first("input") {
+/// The content of the row's file.
+fn input(alloc: Global, row: &Row<'_>, text: &str) -> Result<Input, AllocError> {
+    Ok(match row.first("input") {
         Some("unreadable") => Input::Unreadable,
         Some("memory") => Input::OutOfMemory,
         Some("latin") => Input::Bytes([0x41, 0xff].to_vec(alloc)?),
         _ => Input::Bytes(text.as_bytes().to_vec(alloc)?),
-    };
-    Ok(TwoFiles {
-        first: Some(first),
-        second,
     })
+}
+
+/// The content of the second file, if the row gives it: a lexer's names, or a grammar.
+fn second_input(alloc: Global, row: &Row<'_>) -> Result<Option<Input>, AllocError> {
+    match row.first("names") {
+        Some(line) => {
+            let names = of_turn(alloc, line, 0)?;
+            Ok(Some(Input::Bytes(names.into_bytes())))
+        }
+        None => Ok(None),
+    }
 }
 
 /// Writes what an output accepted.

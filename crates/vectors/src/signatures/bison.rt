@@ -1,12 +1,12 @@
 //! What is read of Yacc and Bison files.
 
-use cfgrammar::Span;
 use cfgrammar::bison::{
     Associativity, BisonFault, BisonFile, Error, ErrorKind, Expected, WordFaultKind,
 };
 use cfgrammar::yacc::YaccGrammar;
 use cfgrammar::yacc::ast::GrammarAST;
-use std::alloc::Global;
+use cfgrammar::{Span, SpansKind};
+use std::alloc::{AllocError, Global};
 use std::error;
 use std::fmt::{Debug, Display};
 
@@ -26,32 +26,49 @@ pub fn grammar_of(alloc: Global, file: &BisonFile) -> Result<YaccGrammar<u32>, B
     file.grammar(alloc)
 }
 
-/// The word of what an error is, where it is, the other place, and its offset.
-pub fn place_of(error: &Error) -> (&'static str, Span, Option<Span>, usize) {
-    let kind: ErrorKind = error.kind;
-    (kind.word(), error.span, error.other, error.offset())
+/// The places of an error, and what they mean.
+pub fn places_of(alloc: Global, error: &Error) -> (Result<Vec<Span>, AllocError>, SpansKind) {
+    (error.spans(alloc), error.spanskind())
+}
+
+/// What an error is.
+pub fn kind_of(error: &Error) -> ErrorKind {
+    error.kind
+}
+
+/// The word of a kind of errors.
+pub fn word_of(kind: ErrorKind) -> &'static str {
+    kind.word()
+}
+
+/// Where an error is, the other place, and its offset.
+pub fn where_is(error: &Error) -> (Span, Option<Span>, usize) {
+    (error.span, error.other, error.offset())
+}
+
+/// Whether a fault is that of a file.
+pub fn is_of_file(fault: &BisonFault) -> bool {
+    match fault {
+        BisonFault::Errors(_) | BisonFault::StorageTooSmall => true,
+        BisonFault::OutOfMemory => false,
+    }
+}
+
+/// Whether operators of a level may follow each other.
+pub fn may_follow(associativity: Associativity) -> Option<bool> {
+    match associativity {
+        Associativity::Left | Associativity::Right => Some(true),
+        Associativity::Nonassoc => Some(false),
+        Associativity::OnlyPrecedence => None,
+    }
 }
 
 /// Whether an error is one of the text, and not one of its names.
 pub fn is_of_text(kind: ErrorKind) -> bool {
     match kind {
-        ErrorKind::Word(_)
-        | ErrorKind::Unexpected(
-            Expected::Declaration
-            | Expected::Rule
-            | Expected::Part
-            | Expected::TokenName
-            | Expected::Symbol
-            | Expected::SymbolOrTag
-            | Expected::Identifier
-            | Expected::Number
-            | Expected::String
-            | Expected::Code
-            | Expected::Tag
-            | Expected::Colon
-            | Expected::Semicolon,
-        )
-        | ErrorKind::RepeatedInProduction
+        ErrorKind::Word(fault) => is_fault(fault),
+        ErrorKind::Unexpected(expected) => is_expected(expected),
+        ErrorKind::RepeatedInProduction
         | ErrorKind::IllegalPriority
         | ErrorKind::NonEmptyProduction => true,
         ErrorKind::NotForRules
@@ -64,25 +81,55 @@ pub fn is_of_text(kind: ErrorKind) -> bool {
     }
 }
 
+fn is_fault(fault: WordFaultKind) -> bool {
+    match fault {
+        WordFaultKind::IllegalCharacters
+        | WordFaultKind::IllegalIdentifier
+        | WordFaultKind::IllegalInteger
+        | WordFaultKind::IllegalEscape
+        | WordFaultKind::IllegalName
+        | WordFaultKind::EmptyLiteral
+        | WordFaultKind::LongLiteral
+        | WordFaultKind::UnknownDirective
+        | WordFaultKind::IncompleteComment
+        | WordFaultKind::IncompleteLiteral
+        | WordFaultKind::IncompleteString
+        | WordFaultKind::IncompleteTag
+        | WordFaultKind::IncompleteName
+        | WordFaultKind::IncompleteCode
+        | WordFaultKind::IncompletePrologue => true,
+    }
+}
+
+fn is_expected(expected: Expected) -> bool {
+    match expected {
+        Expected::Declaration
+        | Expected::Rule
+        | Expected::Part
+        | Expected::TokenName
+        | Expected::Symbol
+        | Expected::SymbolOrTag
+        | Expected::Identifier
+        | Expected::Number
+        | Expected::String
+        | Expected::Code
+        | Expected::Tag
+        | Expected::Colon
+        | Expected::Semicolon => true,
+    }
+}
+
 fn have_traits<
     A: Copy + Debug + Display,
-    B: Copy + Debug + Display,
+    B: Copy + Debug,
     C: Copy + Debug,
     D: Copy + Debug,
-    E: Copy + Debug,
-    F: Debug + error::Error,
-    G: Debug,
+    E: Debug + error::Error,
+    F: Debug,
 >() {}
 
 /// Each type with its traits.
 pub fn traits() {
-    have_traits::<
-        ErrorKind,
-        Error,
-        Expected,
-        Associativity,
-        WordFaultKind,
-        BisonFault,
-        BisonFile,
-    >();
+    have_traits::<ErrorKind, Expected, Associativity, WordFaultKind, BisonFault, BisonFile>();
+    have_traits::<Error, Expected, Associativity, WordFaultKind, BisonFault, BisonFile>();
 }

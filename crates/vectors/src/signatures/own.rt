@@ -1,4 +1,4 @@
-//! The traits that users implement: productions and sinks of their own.
+//! The traits that users implement: productions, sinks and sources of their own.
 
 ghost use Rattle.std.specs.Prelude.{◌≡◌, ◌^◌, ◌<◌, length, map};
 ghost use Rattle.cfgrammar.specs.Openings.{nth_production};
@@ -6,7 +6,7 @@ ghost use Rattle.cfgrammar.specs.NumberedSymbols.{sym_of};
 
 use cfgrammar::yacc::grammar::{Productions, Tables};
 use cfgrammar::{PIdx, RIdx, Storage, Symbol, TIdx};
-use cfgtool::{Sink, SinkFault};
+use cfgtool::{Input, Sink, SinkFault, Source};
 use std::marker::Model;
 
 /// The productions of tables, counted by their caller.
@@ -117,5 +117,20 @@ impl Sink for Closed {
 
     fn faults(&self) -> u64 {
         self.faults
+    }
+}
+
+/// A source that has one file, which is read once.
+#[derive(Drop)]
+pub struct OneFile {
+    bytes: Option<Vec<u8>>,
+}
+
+impl Source for OneFile {
+    fn fetch(&mut self, _name: &str) -> Input {
+        match self.bytes.take() {
+            Some(bytes) => Input::Bytes(bytes),
+            None => Input::OutOfMemory,
+        }
     }
 }

@@ -1,11 +1,11 @@
 //! What is read of texts.
 
-use cfgrammar::header::{HeaderErrorKind, KindFault, Setting, Value};
+use cfgrammar::header::{HeaderErrorKind, HeaderFault, KindFault, Setting, Value, kind_if_named};
 use cfgrammar::yacc::ast::{ASTModificationError, ASTWithValidityInfo, KindSource};
 use cfgrammar::yacc::{
     AssocKind, Precedence, YaccGrammarErrorKind, YaccGrammarResult, YaccGrammarWarning, YaccKind,
 };
-use cfgrammar::{ColumnUnit, Location, Source, Span, Spanned, SpansKind};
+use cfgrammar::{ColumnUnit, Location, Positions, Source, Span, Spanned, SpansKind};
 use std::alloc::{AllocError, Global};
 
 /// Whether a file named its kind.
@@ -23,6 +23,11 @@ pub fn read_or(
     text: &str,
 ) -> YaccGrammarResult<(ASTWithValidityInfo, KindSource)> {
     ASTWithValidityInfo::from_str_or(alloc, default, text)
+}
+
+/// The kind that a text names, if it names one, and what follows its section.
+pub fn named_in(alloc: Global, text: &str) -> Result<(Option<YaccKind>, &str), HeaderFault> {
+    kind_if_named(alloc, text)
 }
 
 /// The level of a precedence whose tokens associate.
@@ -85,6 +90,15 @@ pub fn located<'a>(
         value.primary_location(),
         YaccKind::try_from_value::<Location>(alloc, value),
     )
+}
+
+/// The line and the column of an offset in each unit.
+pub fn columns(positions: &Positions<'_>, offset: usize) -> [Option<(usize, u128)>; 3] {
+    [
+        ColumnUnit::Bytes.line_and_column(positions, offset),
+        ColumnUnit::Characters.line_and_column(positions, offset),
+        ColumnUnit::Display.line_and_column(positions, offset),
+    ]
 }
 
 /// A text whose columns are those of a unit, or count characters.

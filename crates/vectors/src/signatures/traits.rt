@@ -24,122 +24,132 @@ use std::hash::Hash;
 
 fn have<
     A: Copy + Debug + Hash + Ord,
-    B: Copy + Debug + Eq,
+    B: Copy + Debug + Eq + Hash,
     C: Copy + Debug + Eq,
     D: Clone + Debug + Eq,
-    E: Clone + Debug + Eq,
+    E: Clone + Debug,
     F: Debug + Eq,
-    G: Debug,
+    G: Debug + PartialEq,
     H: Debug,
     I: Debug,
 >() {}
 
-fn are_shown<
-    A: Copy + Debug + Eq + Hash,
-    B: Copy + Debug + Eq + Hash,
-    C: Clone + Debug,
-    D: Clone + Debug,
-    E: Clone + Debug,
-    F: Debug + PartialEq,
->() {}
-
-fn are_printed<
-    A: Error,
-    B: Error,
-    C: span::Spanned,
-    D: span::Spanned,
-    E: Display,
-    F: Display,
-    G: Display,
-    H: Display,
-    I: Display,
->() {}
+fn are_printed<A: Error, B: span::Spanned, C: Display, D: Display>() {}
 
 /// Each type with the traits of its column.
 pub fn traits() {
     have::<
         RIdx<u32>,
+        Span,
         YaccKind,
-        MergeBehavior,
         Location,
-        YaccGrammarErrorKind,
+        HeaderError<Span>,
         Vob,
+        HeaderValue<Span>,
         FeedError,
         YaccFault,
-        YaccFirsts<u32>,
     >();
     have::<
         PIdx<u32>,
+        Symbol<u32>,
         YaccOriginalActionKind,
-        AssocKind,
         Rule,
-        YaccGrammarWarning,
+        GrammarAST,
         Value<Span>,
+        HeaderValue<Span>,
         HeaderFault,
         KindFault<Span>,
-        YaccFollows<u32>,
     >();
     have::<
         SIdx<u32>,
+        Span,
         SpansKind,
-        Precedence,
         Production,
-        YaccGrammarWarningKind,
+        ASTWithValidityInfo,
         Setting<Span>,
+        HeaderValue<Span>,
         StartFault,
         CostError,
-        MergeError<u32, String>,
     >();
     have::<
         TIdx<u32>,
-        HeaderErrorKind,
+        Span,
         HeaderErrorKind,
         ast::Symbol,
-        ASTModificationError,
+        Location,
         Namespaced<Span>,
+        HeaderValue<Span>,
         SentenceError,
         ReportFault,
-        MergeFault<u32, String, ()>,
     >();
     have::<
-        TIdx<u32>,
-        HeaderErrorKind,
-        HeaderErrorKind,
-        YaccGrammarError,
-        ASTModificationError,
-        MarkMap<u32, String>,
-        SinkFault,
-        ReportFault,
-        ReportFault,
-    >();
-    are_shown::<
+        RIdx<u32>,
         Span,
-        Symbol<u32>,
-        HeaderError<Span>,
-        GrammarAST,
-        ASTWithValidityInfo,
+        MergeBehavior,
+        YaccGrammarError,
+        Location,
+        MarkMap<u32, String>,
         HeaderValue<Span>,
+        SinkFault,
+        YaccFirsts<u32>,
     >();
-    are_printed::<
-        YaccGrammarError,
-        ASTModificationError,
-        YaccGrammarError,
-        YaccGrammarWarning,
+    have::<
+        RIdx<u32>,
+        Span,
+        AssocKind,
         YaccGrammarErrorKind,
-        YaccGrammarWarningKind,
-        HeaderErrorKind,
-        ast::Symbol,
-        Visible<'static>,
+        Location,
+        Vob,
+        HeaderValue<Span>,
+        YaccFollows<u32>,
+        MergeError<u32, String>,
     >();
+    have::<
+        RIdx<u32>,
+        Span,
+        Precedence,
+        YaccGrammarWarning,
+        Location,
+        Vob,
+        HeaderValue<Span>,
+        MergeFault<u32, String, ()>,
+        Vob,
+    >();
+    have::<
+        RIdx<u32>,
+        Span,
+        Span,
+        YaccGrammarWarningKind,
+        Location,
+        Vob,
+        HeaderValue<Span>,
+        Vob,
+        Vob,
+    >();
+    have::<
+        RIdx<u32>,
+        Span,
+        Span,
+        ASTModificationError,
+        Location,
+        Vob,
+        HeaderValue<Span>,
+        Vob,
+        Vob,
+    >();
+    are_printed::<YaccGrammarError, YaccGrammarError, YaccGrammarErrorKind, YaccGrammarError>();
     are_printed::<
-        HeaderError<Span>,
+        ASTModificationError,
+        YaccGrammarWarning,
+        YaccGrammarWarningKind,
+        YaccGrammarWarning,
+    >();
+    are_printed::<HeaderError<Span>, HeaderError<Span>, HeaderErrorKind, HeaderError<Span>>();
+    are_printed::<MergeError<u32, String>, HeaderError<Span>, ast::Symbol, ASTModificationError>();
+    are_printed::<
         MergeError<u32, String>,
         HeaderError<Span>,
-        HeaderError<Span>,
-        YaccGrammarError,
-        ASTModificationError,
-        YaccGrammarWarning,
-        HeaderError<Span>,
+        Visible<'static>,
         MergeError<u32, String>,
     >();
 }

@@ -60,19 +60,20 @@ pub fn position_of<'a>(
     (text, positions.span_line_bytes(span), hint_for(text, error))
 }
 
-/// The keys of a map, its entries, and how many it has.
+/// The keys of a map, and its entries.
 pub fn walks(
-    map: &MarkMap<TIdx<u32>, Location>,
-) -> (
-    Keys<'_, TIdx<u32>, Location>,
-    MarkMapIterRef<'_, TIdx<u32>, Location>,
-    usize,
-) {
+    map: &MarkMap<u32, String>,
+) -> (Keys<'_, u32, String>, MarkMapIterRef<'_, u32, String>) {
+    (map.keys(), map.into_iter())
+}
+
+/// How many entries a map has.
+pub fn count(map: &MarkMap<TIdx<u32>, Location>) -> usize {
     let mut count = 0usize;
     for (_token, _location) in map {
         count = count.saturating_add(1);
     }
-    (map.keys(), map.into_iter(), count)
+    count
 }
 
 /// Two maps merged, of which the values of one are converted.

@@ -14,14 +14,17 @@ use cfgrammar::yacc::ast::ASTWithValidityInfo;
 use cfgrammar::yacc::{YaccFault, YaccGrammar, YaccKind, YaccOriginalActionKind};
 use std::alloc::{AllocError, Global};
 use vectors_rows::made::lend;
-use vectors_rows::page::Page;
 
-/// Writes what the caller with this name returns for a text.
-pub(crate) fn print(out: &mut Page, call: &str, text: &str) {
-    match answer(out.alloc, call, text) {
-        Ok(answer) => out.push_str(answer.as_str()),
-        Err(YaccFault::OutOfMemory) => out.tear(),
-        Err(fault) => writeln!(out, "{fault}"),
+/// What the caller with this name returns for a text.
+///
+/// # Errors
+///
+/// Out of memory.
+pub fn print(alloc: Global, call: &str, text: &str) -> Result<String, AllocError> {
+    match answer(alloc, call, text) {
+        Ok(answer) => Ok(answer),
+        Err(YaccFault::OutOfMemory) => Err(AllocError),
+        Err(fault) => format!(in alloc; "{fault}\n"),
     }
 }
 
