@@ -316,6 +316,10 @@ def test_reference(room):
 
 def test_wrong_bodies(room):
     copy = copied(room)
+    for name in CRATES:
+        # (edits change proof files too)
+        if os.path.isdir(f"{ROOT}/crates/{name}/proofs"):
+            os.symlink(f"{ROOT}/crates/{name}/proofs", f"{copy}/crates/{name}/proofs")
     passes(copy, "tools/wrong_bodies", "--check")
     for folder in ("wrong-bodies/cfgsyntax", "crates/cfganalysis/must-fail"):
         edit = sorted(os.listdir(f"{copy}/{folder}"))[-1]
@@ -323,6 +327,8 @@ def test_wrong_bodies(room):
             fails(copy, f"wrong_bodies {folder}: ", "tools/wrong_bodies", "--check")
         with changed(copy, f"{folder}/{edit}", lambda text: re.sub("^right:.*\n", "", text, flags=re.M)):
             fails(copy, f"{folder}/{edit} has no control", "tools/wrong_bodies", "--check")
+        with changed(copy, f"{folder}/{edit}", lambda text: re.sub("^old: ", "old: no such line", text, count=1, flags=re.M)):
+            fails(copy, f"{folder}/{edit}: an 'old:' text is in ", "tools/wrong_bodies", "--check")
 
 
 # ---------------------------------------------------------------- how tools are called
