@@ -108,15 +108,15 @@ fn write_entries(out: &mut Page, text: &str) {
 
 /// Writes a key with its span, its value, and where it ends. With locations instead of spans the value is the same.
 fn write_entry(out: &mut Page, (key, span, value, end): &(String, Span, Value<Span>, usize)) {
-    let (mut printed, mut located) = (Page::new(out.alloc), Page::new(out.alloc));
-    write_value(&mut printed, value);
-    write_made(&mut located, &Held, to_location(out.alloc, value));
     let pieces = [
         Piece::Name(" ", key.as_str()),
         Piece::Span(*span),
         Piece::Text(": "),
     ];
     pen::pieces(out, &pieces);
+    let (mut printed, mut located) = (Page::new(out.alloc), Page::new(out.alloc));
+    write_value(&mut printed, value);
+    write_made(&mut located, &Held, to_location(out.alloc, value));
     write_printed(out, &printed, &located);
     pen::number(out, ", then ", *end);
     out.push('\n');
