@@ -7,7 +7,6 @@ DECLARATIONS = ('%token, %start, %left, %right, %nonassoc, %epp, %expect, %expec
                 '%parse-generics; %actiontype in the original kinds and %implicit_tokens in Eco')
 PIECE = re.compile(rb'%[a-zA-Z0-9_%-]*|[a-zA-Z_.][a-zA-Z0-9_.]*|[0-9]+|[\x00-\x7f]|[\xc0-\xff][\x80-\xbf]*')
 EXPECTED = {
-    'ProductionNotTerminated': ", expected '|' or ';': an action may only be at the end of a production, and a '}' ends it also in a string or a comment",
     'IllegalInteger': ', expected a number up to 18446744073709551615',
     'UnknownSymbol': ', expected a name or a quoted text',
 }
@@ -22,7 +21,12 @@ PLAIN = {
 QUOTED = ", which no quote closes on this line: one may be missing, or one too many, since a quoted text isn't empty and has no escapes"
 PLACE = 'a section %grmtools{..} is at the start of the file, before any comment'
 ENDLESS = ": a %parse-param without ':' goes on to the next ':'"
-KINDS = ', expected a kind, without quotes: Grmtools, Eco, Original(NoAction), Original(UserAction) or Original(GenericParseTree)'
+OTHERS = 'Original(NoAction), Original(UserAction) and Original(GenericParseTree)'
+KINDS = (
+    (re.compile(b'[gG]'), ", expected a kind, without quotes: did you mean Grmtools? The others are Eco, " + OTHERS),
+    (re.compile(b'[eE]'), ", expected a kind, without quotes: did you mean Eco? The others are Grmtools, " + OTHERS),
+    (b'', ', expected a kind, without quotes: Grmtools, Eco, Original(NoAction), Original(UserAction) or Original(GenericParseTree)'),
+)
 NO_KIND = 'the section has no key yacckind, and so names no kind'
 # bytes without a blank or a quote, and then a quote
 UNOPENED = re.compile(rb'[^ \t\r\n"\'|;:]+["\']')
@@ -51,6 +55,7 @@ TOKENS = (
 )
 # what is said by what is there: where a rule has no colon or type, where a rule has no name, and where a section has no name
 WORD = re.compile(rb'[a-zA-Z_.]')
+HEAD = re.compile(rb'[a-zA-Z_.][a-zA-Z0-9_.]*[ \t\r\n]*(:|->)')
 TYPE = ", expected '->' and the type of the rule's value"
 ADVICE = {
     'MissingColon': ((b'->', ': rules have types only in files of the kind Grmtools, as %grmtools{yacckind: Grmtools} says'),
@@ -59,6 +64,9 @@ ADVICE = {
                           (WORD, TYPE + ", or '%%' before code"), (b'', TYPE)),
     'IllegalName': ((b'#', ", expected the name of a rule: comments begin with '//', and '%%' comes before code"),
                     (b'', ', expected the name of a rule')),
+    'ProductionNotTerminated': ((HEAD, ": a ';' may be missing before this rule"), (b'%%', ": a ';' may be missing before it"),
+                                (b'', ", expected '|' or ';': an action may only be at the end of a production, and a '}' ends it "
+                                      'also in a string or a comment')),
     'IllegalString': (*TOKENS, (b'', ', expected a name or a quoted text')),
 }
 # where no token is after a `%%`, a `->` and another `%%`
@@ -117,7 +125,7 @@ def section_hint(t, error):
         return 'found ' + found(t, end) + (", expected '}', or ',' and another key" if error.holds == ('}',) else '')
     if error.kind != 'InvalidEntry' or error.holds != ('yacckind',):
         return None
-    return NO_KIND if p == 0 else 'found ' + found(t, p) + KINDS
+    return NO_KIND if p == 0 else advised(t, p, KINDS)
 
 
 def unknown_declaration(t, p):

@@ -6,7 +6,7 @@ use Rattle.std.specs.Str.{bytes_eq}
 use Rattle.cfgbase.specs.declared.span.Span.{Span}
 use Rattle.cfglines.specs.Characters.{begins_character}
 use Rattle.cfgrender.specs.Render.{is_offset}
-use Rattle.constructs.specs.Pieces.{split_first, starts, strip}
+use Rattle.constructs.specs.Pieces.{run, split_first, starts, strip}
 use Rattle.cfgwords.specs.declared.bytes.ByteClass.TheVariants as bytes
 use Rattle.cfgwords.specs.Bytes.{holds}
 use Rattle.cfgerrors.specs.HeaderErrors.{ShownErrorKind, ExpectedToken, InvalidEntry, MissingGrmtoolsSection}
@@ -169,6 +169,21 @@ colon_advice text =
     else if begins_name text then codes ", expected ':', or '%%' before code"
     else codes ", expected ':'"
 
+-- what follows a name and the blanks after it
+abbrev pub after_name : List ℕ → List ℕ
+after_name text = (run (holds bytes.Blank) (run (holds bytes.NameByte) text).1).1
+
+-- whether a text begins with the head of a rule: a name, and `:` or `->` after it
+abbrev pub begins_rule : List ℕ → Bool
+begins_rule text = begins_name text && (begins_with (codes ":") (after_name text) || begins_with (codes "->") (after_name text))
+
+-- what to say where a production goes on after its action: most often it is at its end, and the `;` after it is missing
+unfoldable pub production_advice : List ℕ → List ℕ
+production_advice text =
+    if begins_rule text then codes ": a ';' may be missing before this rule"
+    else if begins_with (codes "%%") text then codes ": a ';' may be missing before it"
+    else codes ", expected '|' or ';': an action may only be at the end of a production, and a '}' ends it also in a string or a comment"
+
 -- what to say where the type of a rule is missing
 unfoldable pub arrow_advice : List ℕ → List ℕ
 arrow_advice text =
@@ -193,11 +208,20 @@ key_advice text =
 unfoldable pub character_advice : ℕ → List ℕ
 character_advice character = if character == 125 then codes ", expected '}', or ',' and another key" else []
 
+-- which kind may be meant where a value that begins with this byte names none
+unfoldable pub kind_advice : ℕ → List ℕ
+kind_advice first =
+    if first == 71 || first == 103
+    then codes ", expected a kind, without quotes: did you mean Grmtools? The others are Eco, Original(NoAction), Original(UserAction) and Original(GenericParseTree)"
+    else if first == 69 || first == 101
+    then codes ", expected a kind, without quotes: did you mean Eco? The others are Grmtools, Original(NoAction), Original(UserAction) and Original(GenericParseTree)"
+    else codes ", expected a kind, without quotes: Grmtools, Eco, Original(NoAction), Original(UserAction) or Original(GenericParseTree)"
+
 -- the note on the value of a section's key `yacckind`, or at its start, where the section has no such key
 unfoldable pub kind_note : List ℕ → List ℕ → List ℕ
 kind_note before text =
     if length before == 0 then codes "the section has no key yacckind, and so names no kind"
-    else found_note text (codes ", expected a kind, without quotes: Grmtools, Eco, Original(NoAction), Original(UserAction) or Original(GenericParseTree)")
+    else found_note text (kind_advice (first_byte text))
 
 -- The note on an error of this kind in a section, between these texts. After the whole span there is what was found in place of a character.
 abbrev pub section_note : ShownErrorKind → List ℕ → List ℕ → Option (List ℕ) → Option (List ℕ)
@@ -220,8 +244,7 @@ plain_note _ = None
 abbrev pub note : ErrorKind → List ℕ → List ℕ → Option (List ℕ) → Option (List ℕ)
 note UnknownDeclaration before text after = Some (declaration_note before text)
 note IllegalString before text after = Some (found_note text (symbol_advice before text))
-note ProductionNotTerminated before text after =
-    Some (found_note text (codes ", expected '|' or ';': an action may only be at the end of a production, and a '}' ends it also in a string or a comment"))
+note ProductionNotTerminated before text after = Some (found_note text (production_advice text))
 note MissingColon before text after = Some (found_note text (colon_advice text))
 note MissingRightArrow before text after = Some (found_note text (arrow_advice text))
 note IllegalName before text after = Some (found_note text (name_advice text))

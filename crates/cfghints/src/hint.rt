@@ -12,13 +12,13 @@ ghost use Rattle.cfghints.specs.Hints.{declaration_advice, declaration_note, end
 ghost use Rattle.cfghints.specs.Hints.{begins_with_quote, is_operator, is_past_end, name_advice, plain_note};
 ghost use Rattle.cfghints.specs.Hints.{reach_note, symbol_advice, token_advice};
 ghost use Rattle.cfghints.specs.Hints.{ends_piece, is_nearly_empty, is_nearly_prec, is_quote, kind_note, quote_follows};
-ghost use Rattle.cfghints.specs.Hints.{section_note};
+ghost use Rattle.cfghints.specs.Hints.{after_name, begins_rule, kind_advice, production_advice, section_note};
 
 use crate::found::Found;
 use cfgbase::{Span, Spanned};
 use cfgerrors::{HeaderErrorKind, YaccGrammarError, YaccGrammarErrorKind};
 use cfgwords::bytes::ByteClass;
-use cfgwords::run::starts;
+use cfgwords::run::{run, starts};
 use constructs::{after_word, split_at_first};
 use std::fmt;
 use std::marker::Model;
@@ -124,10 +124,7 @@ fn note<'a>(
     let advice = match kind {
         YaccGrammarErrorKind::UnknownDeclaration => return Some(declaration_note(before, text)),
         YaccGrammarErrorKind::IllegalString => symbol_advice(before, text),
-        YaccGrammarErrorKind::ProductionNotTerminated => {
-            ", expected '|' or ';': an action may only be at the end of a production, and a '}' ends it also in \
-             a string or a comment"
-        }
+        YaccGrammarErrorKind::ProductionNotTerminated => production_advice(text),
         YaccGrammarErrorKind::MissingColon => colon_advice(text),
         YaccGrammarErrorKind::MissingRightArrow => arrow_advice(text),
         YaccGrammarErrorKind::IllegalName => name_advice(text),
@@ -173,11 +170,28 @@ fn kind_note<'a>(before: &str, text: &'a str) -> Hint<'a>
     if before.is_empty() {
         Hint::plain("the section has no key yacckind, and so names no kind")
     } else {
-        Hint::found(
-            text,
+        Hint::found(text, kind_advice(first_byte(text)))
+    }
+}
+
+/// Which kind may be meant where a value that begins with this byte names none.
+#[tactic(auto, unfolding(crate::specs::Hints::kind_advice))]
+fn kind_advice(first: u8) -> &'static str
+    ensures { result.now ≡ kind_advice first }
+{
+    match first {
+        b'G' | b'g' => {
+            ", expected a kind, without quotes: did you mean Grmtools? The others are Eco, Original(NoAction), \
+             Original(UserAction) and Original(GenericParseTree)"
+        }
+        b'E' | b'e' => {
+            ", expected a kind, without quotes: did you mean Eco? The others are Grmtools, Original(NoAction), \
+             Original(UserAction) and Original(GenericParseTree)"
+        }
+        _ => {
             ", expected a kind, without quotes: Grmtools, Eco, Original(NoAction), Original(UserAction) or \
-             Original(GenericParseTree)",
-        )
+             Original(GenericParseTree)"
+        }
     }
 }
 
@@ -299,6 +313,37 @@ fn colon_advice(text: &str) -> &'static str
     } else {
         ", expected ':'"
     }
+}
+
+/// What to say where a production goes on after its action.
+#[tactic(auto, unfolding(crate::specs::Hints::production_advice))]
+fn production_advice(text: &str) -> &'static str
+    ensures { result.now ≡ production_advice text.now }
+{
+    if begins_rule(text) {
+        ": a ';' may be missing before this rule"
+    } else if begins_with(text, "%%") {
+        ": a ';' may be missing before it"
+    } else {
+        ", expected '|' or ';': an action may only be at the end of a production, and a '}' ends it also in \
+         a string or a comment"
+    }
+}
+
+/// Whether the text begins with the head of a rule: a name, and `:` or `->` after it.
+fn begins_rule(text: &str) -> bool
+    ensures { result ≡ begins_rule text.now }
+{
+    let after = after_name(text);
+    begins_name(text) && (begins_with(after, ":") || begins_with(after, "->"))
+}
+
+/// What follows a name and the blanks after it.
+fn after_name(text: &str) -> &str
+    ensures { result.now ≡ after_name text.now }
+{
+    let (_, after) = run(text, ByteClass::NameByte);
+    run(after, ByteClass::Blank).1
 }
 
 /// What to say where the type of a rule is missing.
