@@ -1,11 +1,10 @@
 -- The text for a cyclic rule.
-use Rattle.std.proofs.Common.{◌≡◌, ℕ, ◌+◌, ◌-◌, ◌<◌, ◌≤◌, List, ◌++◌, All, Option, Some, None, option_map, codes, drop, length, map, slice_get, take, unwrap_or, arith, refl, sym, ap, subst, ◌∙◌, append_assoc}
+use Rattle.std.proofs.Common.{◌≡◌, ℕ, ◌+◌, ◌-◌, ◌<◌, ◌≤◌, List, ◌++◌, All, Option, Some, None, option_map, codes, drop, length, map, slice_get, take, arith, refl, sym, ap, subst, ◌∙◌, append_assoc}
 use Rattle.std.proofs.lemmas.List.{drop-drop, drop-map, length-drop, length-map, take-map, take_all}
 use Rattle.std.proofs.lemmas.Option.{get_or_from_slice_get, same_Some, slice_get-map, slice_get_within}
 use Rattle.std.specs.List.{flat_map}
 use Rattle.cfgrammar.specs.Grammar.{Rule, Sym, Token}
 use Rattle.cfgrammar.specs.Span.{Span}
-use Rattle.cfgrammar.specs.Check.{nowhere}
 use Rattle.cfgrammar.specs.Symbol.{Symbol}
 use Rattle.cfgrammar.specs.Symbol.TheVariants as symbols
 use Rattle.cfgrammar.specs.Openings.{nth_production}
@@ -103,7 +102,3 @@ target_reported g stored rule same name named rules spans located path begun tex
       text = codes "Rule " ++ ((codes "'" ++ (sym called i ++ codes "'")) ++ (codes " derives itself: " ++ (sym called i ++ flat_map (step_text g) path)));
       hint = None;
     })
-
--- the span of one more rule
-pub span_shown : (g : Numbered) (stored rule : ℕ) → stored ≡ rule → (span : Span) → rule_part (λ rule. rule.span) g stored ≡ Some span → span ≡ rule_span g rule
-span_shown g stored rule same span located = sym (ap (rule_span g) (sym same) ∙ ap (λ o. unwrap_or o nowhere) located)

@@ -23,11 +23,6 @@ module _ (g : Numbered) (symbol : Symbol) (named : Option Sym) (is : named ≡ s
         (λ used. read ∙ (knows numbered within).1 (subst (IsReachable (HasProduction (core g))) (same_Some _ _ (sym used.named ∙ there)) used.reachable)),
       )
 
-  -- what the grammar doesn't have is not used
-  pub unused_if_unknown : named ≡ None → IsTrue false ↔ IsUsedSymbol g symbol
-  unused_if_unknown none = (
-    (λ no. absurd (true≢false (sym no))),
-    (λ used. let no : None ≡ Some used.numbered = sym none ∙ is ∙ used.named in cc),
   )
 
 has_name : (name : List ℕ) (other : Option (List ℕ)) → option_map_or (bytes_eq name) other false ≡ true → IsSome other

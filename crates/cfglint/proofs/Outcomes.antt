@@ -1,7 +1,6 @@
 -- What an outcome says of its text.
 use Rattle.std.proofs.Common.{◌≡◌, ℕ, List, [], true, false, inl, inr, Option, refl, sym, ◌∙◌}
-use Rattle.cfgrammar.specs.Answer.{Found, Unnamed, WasRead, IsGrammar, IsRefused, in_numbers}
-use Rattle.cfgrammar.specs.Errors.{GrammarError}
+use Rattle.cfgrammar.specs.Answer.{Found, Unnamed, WasRead, IsGrammar, in_numbers}
 use Rattle.cfgrammar.specs.Numbered.{Numbered}
 use Rattle.cfgprogram.specs.declared.kinds.KindArg.{KindArg}
 use Rattle.cfgdriver.specs.ReadText.{IsMadeOf, greatest}
@@ -39,13 +38,6 @@ module _ (options : LintOptions) (name text : List ℕ) where
   -- what is reported
   pub reported_of : (kind : KindArg) (outcome : Outcome) → IsOutcome options name text kind outcome → ReportsYacc options name text kind outcome.report
   reported_of kind outcome is = (is.0, is.1, report_of outcome is.0 is.2, is.3)
-
-  -- the errors of a refused text, and the grammar of one that isn't
-  pub refused_of : (outcome : Outcome) (found : Found) → Makes found outcome → outcome.is_refused ≡ true
-      → (errors : List GrammarError) × IsRefused greatest found errors
-  refused_of outcome found (inl made) is = (made.0, made.1)
-  refused_of outcome (Unnamed errors) (inr made) is = absurd made
-  refused_of outcome (WasRead parsed) (inr made) is = absurd (different (sym is ∙ made.2.1))
 
   pub grammar_of : (outcome : Outcome) (found : Found) → Makes found outcome → outcome.is_refused ≡ false
       → (grammar : Numbered) × IsGrammar greatest found grammar

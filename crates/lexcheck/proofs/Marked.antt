@@ -1,9 +1,9 @@
 -- Marks of the tokens whose names are given, one more name at a time, and what they say about a token.
-use Rattle.std.proofs.Common.{◌≡◌, ℕ, ◌+◌, ◌<◌, ◌==◌, Bool, true, false, cond, not, ◌||◌, List, [], ◌∷◌, ◌++◌, length, map, take, get_or, slice_get, slice_set, replicate, Option, Some, None, IfSome, is_some, option_map, Bor, position, bytes_eq, refl, sym, ap, subst, ◌∙◌, arith}
+use Rattle.std.proofs.Common.{◌≡◌, ℕ, ◌+◌, ◌<◌, ◌==◌, Bool, true, false, cond, not, ◌||◌, List, [], ◌∷◌, ◌++◌, length, map, take, get_or, slice_get, slice_set, Option, Some, None, IfSome, is_some, option_map, Bor, position, bytes_eq, refl, sym, ap, subst, ◌∙◌, arith}
 use Rattle.std.specs.List.{list_any}
 use Rattle.std.specs.Option.{option_map_or}
 use Rattle.std.proofs.lemmas.Bool.{false≢true, eq-eqb, eqb-true}
-use Rattle.std.proofs.lemmas.List.{length-map, length-set, length-replicate, get_or-map, get_or-set_same, get_or-set_other, length-take-le, map_push, take_more}
+use Rattle.std.proofs.lemmas.List.{length-map, length-set, get_or-map, get_or-set_same, get_or-set_other, length-take-le, map_push, take_more}
 use Rattle.std.proofs.lemmas.Option.{get_or_from_slice_get, slice_get_within}
 use Rattle.std.proofs.lemmas.List.Folds.{list_any-append}
 use Rattle.std.proofs.lemmas.List.Quantifiers.{position-Some}
@@ -13,7 +13,6 @@ use Rattle.cfgrammar.specs.Accessors.{has_token_name}
 use Rattle.cfgrammar.specs.Lists.{positions}
 use Rattle.cfgrammar.specs.Numbered.{Numbered, NumberedToken}
 use Rattle.cfgrammar.specs.TokenNames.{token_names}
-use Rattle.cfgrammar.proofs.Elements.{get_or-replicate_default}
 use Rattle.cfgrammar.proofs.ListPositions.{first_position, no_position}
 use Rattle.cfgrammar.proofs.Passing.{positions-push}
 use Rattle.cfgrammar.proofs.Tests.{list_any-map}
@@ -69,10 +68,6 @@ module _ (g : Numbered) where
       go true = refl
       go false = refl
 
-  pub none_marked : AreMarks g [] (replicate (length g.tokens) false)
-  none_marked = record {
-    counted = length-replicate (length g.tokens) false;
-    each = λ t within. get_or-replicate_default (length g.tokens) t false;
   }
 
   -- what one more name gives

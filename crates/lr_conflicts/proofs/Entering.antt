@@ -3,12 +3,12 @@ use Rattle.std.proofs.Common.{◌≡◌, inl, inr, ℕ, ◌+◌, ◌<◌, List, 
 use Rattle.std.proofs.lemmas.List.Elements.{All-contains, Contains-get_or}
 use Rattle.cfgrammar.specs.Grammar.{Grammar, Sym}
 use Rattle.cfgrammar.specs.Openings.{ArePositionsOf, nth_production}
-use Rattle.cfgrammar.proofs.Contained.{contains_mapped, contains_none, contains_source}
+use Rattle.cfgrammar.proofs.Contained.{contains_mapped, contains_source}
 use Rattle.cfgrammar.proofs.Taken.{contains_taken}
 use Rattle.lr_conflicts.specs.declared.examples.nodes.Node.{Node}
 use Rattle.lr_conflicts.specs.declared.examples.nodes.Step.{Step}
 use Rattle.lr_conflicts.specs.Inner.Ways.{Finds}
-use Rattle.lr_conflicts.proofs.Found.{finds_none, finds_then}
+use Rattle.lr_conflicts.proofs.Found.{finds_then}
 
 -- the production at an index is one of the rule
 pub position_is : {A : Type 0} (number : A → ℕ) (g : Grammar) (rule : ℕ) (all : List A) → ArePositionsOf g rule (map number all) → (i : ℕ) (d : A) → i < length all
@@ -26,8 +26,6 @@ pub record Among {A : Type 0} (Finds : A → Node → Type 0) (list : List A) (n
   pub finds : Finds thing n
 
 module _ (g : Grammar) (Used : ℕ → Type 0) (step : ℕ → Sym → Option ℕ) (t : ℕ) {from : Option Node} {A : Type 0} (F : A → Node → Type 0) (all : List A) where
-  pub among_none : (es : List (Node × Step)) → Finds g Used step t from (Among F (take 0 all)) es es
-  among_none es = finds_none g Used step t (Among F (take 0 all)) es (λ n h. contains_none h.thing h.among)
 
   pub among_more : (i : ℕ) (x : A) → i < length all → x ≡ get_or all i x → (old mid new : List (Node × Step)) → Finds g Used step t from (Among F (take i all)) old mid
       → Finds g Used step t from (F x) mid new → Finds g Used step t from (Among F (take (i + 1) all)) old new

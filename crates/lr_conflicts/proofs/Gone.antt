@@ -18,10 +18,6 @@ module _ (g : Numbered) (levels : List Associativity) (x : LookaheadTables) (are
   abbrev used : ℕ → Type 0
   used = IsUsed (core g)
 
-  -- that state exists
-  pub goto_within : (q : ℕ) → q < length x.automaton.states → (symbol : Sym) → IsSymbolOf (core g) symbol → (r : ℕ) → goto_of x.automaton q symbol ≡ Some r → r < length x.automaton.states
-  goto_within q within symbol symbol_of r goes = (subst (IsGoto (core g) used x.automaton.states q symbol) goes (are.gotos q within symbol symbol_of)).0
-
   -- a symbol that leads to a state is next in an item
   next_by : (q : ℕ) → q < length x.automaton.states → (symbol : Sym) → IsSymbolOf (core g) symbol → (r : ℕ) → goto_of x.automaton q symbol ≡ Some r
       → (item : Item) × Contains (items_of x.automaton q) item × HasNext (core g) item symbol

@@ -14,7 +14,7 @@ use Rattle.lr_conflicts.specs.declared.clashes.Clash.{Clash}
 use Rattle.lr_states.specs.Automaton.{Automaton}
 use Rattle.lr_states.specs.declared.Item.{Item}
 use Rattle.lr_states.proofs.Added.{items_Decide}
-use Rattle.lr_conflicts.specs.Inner.Clashing.{IsReductionIn, IsShiftIn}
+use Rattle.lr_conflicts.specs.Inner.Clashing.{IsReductionIn}
 
 pub numbers_contain : (xs : List ℕ) (p : ℕ) (r : Bool) → IsAnyAnswer (λ y t. (y == p) ≡ t) xs r → Decides r (Contains xs p)
 numbers_contain xs p r h = Decides-contains xs p r (contains_decides (λ a b. a == b) Decides-eqb xs p r h)
@@ -34,13 +34,6 @@ module _ (g : Numbered) (x : Automaton) (conflict : Conflict) where
   shifted_by item (accepts among end is) = (subst (Contains (items_of x conflict.state)) (sym is) among, tables.accepts is end)
 
   module _ (clash : Clash) where
-    pub shift_in : clash.token ≡ conflict.token → IsTrue clash.shifts → IsShiftIn g x conflict clash ↔ IsIn g x conflict clash
-    shift_in same on = (
-      (λ w. shift w.shifts same on w.production w.other),
-      (λ has. elim has [
-        | shift shifted same shifts among by ↦ record { shifts = shifted; production = among; other = by }
-        | reduce first rest is same none among other ↦ absurd (none on)
-      ]),
     )
 
     pub reduction_in : clash.token ≡ conflict.token → (IsTrue clash.shifts → ⊥) → IsReductionIn g conflict clash ↔ IsIn g x conflict clash
@@ -52,8 +45,4 @@ module _ (g : Numbered) (x : Automaton) (conflict : Conflict) where
       ]),
     )
 
-    pub token_in : IsIn g x conflict clash → clash.token ≡ conflict.token
-    token_in has = elim has [
-      | shift shifted same shifts among by ↦ same
-      | reduce first rest is same none among other ↦ same
     ]

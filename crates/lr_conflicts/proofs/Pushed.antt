@@ -1,5 +1,5 @@
 -- Clashes that are pushed one after another.
-use Rattle.std.proofs.Common.{◌≡◌, ◌↔◌, ◌⊎◌, inl, inr, ℕ, ◌+◌, ◌<◌, Bool, true, false, eqb, List, [], ◌∷◌, ◌++◌, Option, None, Some, Contains, IsTrue, get_or, length, map, not, take, refl, sym, ap, subst, ◌∙◌, arith, true≢false}
+use Rattle.std.proofs.Common.{◌≡◌, ◌↔◌, ◌⊎◌, inl, inr, ℕ, ◌+◌, ◌<◌, Bool, true, false, eqb, List, [], ◌∷◌, ◌++◌, Option, None, Some, Contains, IsTrue, get_or, length, map, not, take, refl, sym, ap, subst, ◌∙◌, true≢false}
 use Rattle.std.specs.Option.{option_eq}
 use Rattle.std.proofs.lemmas.Bool.{cases_Bool}
 use Rattle.std.proofs.lemmas.Bool.Decides.{Decides-eqb}
@@ -37,8 +37,6 @@ not_not true = refl
 not_not false = refl
 
 module _ (shifts : Bool) (other : Item) (productions : List ℕ) (t : ℕ) where
-  pub against_none : (entries : List Entry) → AddsClashes (IsAgainst shifts other [] t) entries entries
-  against_none entries clash = (λ h. inl h, λ h. elim h [ inl early ↦ early | inr a ↦ let (k, within, at) = a.among in absurd (omega (arith, within)) ])
 
   pub against_more : (i p : ℕ) → i < length productions → p ≡ get_or productions i p → (old entries new : List Entry) → AddsClashes (IsAgainst shifts other (take i productions) t) old entries
       → new ≡ entries ++ record { reduces = not shifts; production = p; other = other.production; read = other.read; token = t } ∷ []

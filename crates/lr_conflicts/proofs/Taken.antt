@@ -5,7 +5,7 @@ use Rattle.std.proofs.lemmas.Bool.{cases_lt}
 use Rattle.std.proofs.lemmas.List.Elements.{Contains-append_left, Contains-push, Contains-push_cases}
 use Rattle.cfgrammar.specs.Associativity.{Associativity}
 use Rattle.cfgrammar.specs.Numbered.{Numbered}
-use Rattle.cfgrammar.proofs.Contained.{contains_none, contains_source}
+use Rattle.cfgrammar.proofs.Contained.{contains_source}
 use Rattle.cfgrammar.proofs.Taken.{contains_taken}
 use Rattle.lr_states.specs.declared.Item.{Item}
 use Rattle.lr_conflicts.specs.Conflicts.{IsReduced, IsShifted, IsTakenAway, Settles, TakesShift}
@@ -107,11 +107,6 @@ module _ (g : Numbered) (levels : List Associativity) (items : List Item) where
       reduced_kept : IsReduced g levels items turn.token r.production → IsKept g levels turn r
       reduced_kept h = ((of.comes turn.token is.within).1 h.reduces, λ loses. h.left (lost loses))
 
-    pub kept_none : (productions : List ℕ) → productions ≡ [] → AreKept g levels turn [] productions
-    kept_none productions none = record {
-      each = λ p h. absurd (contains_none p (subst (λ l. Contains l p) none h));
-      all = λ r h kept. absurd (contains_none r h);
-      ascending = λ k within. let long = ap length none in absurd (omega (arith, within, long));
     }
 
     module _ (rs : List Reduction) (are : AreReductions g levels items rs) where

@@ -101,12 +101,6 @@ sorted_push (a ∷ xs) x sorted before = (
 )
 
 module _ (g : Numbered) (levels : List Associativity) (x : Automaton) where
-  pub listed_none : (conflicts : List Conflict) → conflicts ≡ [] → AreListed g levels x 0 0 conflicts
-  listed_none conflicts none = record {
-    each = λ c h. absurd (contains_none c (subst (λ l. Contains l c) none h));
-    early = λ c h. absurd (contains_none c (subst (λ l. Contains l c) none h));
-    all = λ a b h. absurd (elim h [ inl less ↦ omega (arith, less) | inr same ↦ let less = same.1 in omega (arith, less) ]);
-    sorted = subst AreSorted (sym none) tt;
   }
 
   module _ (q t : ℕ) (conflicts : List Conflict) (listed : AreListed g levels x q t conflicts) where

@@ -1,7 +1,7 @@
 -- What the row of a component says, if those of the earlier components are right.
 use Rattle.std.proofs.Common.{◌≡◌, ℕ, ◌+◌, ◌<◌, ◌≤◌, inl, inr, Bool, false, List, [], ◌∷◌, ◌++◌, All, Contains, get_or, length, map, replicate, slice_index, arith, refl, sym, ap, ◌∙◌, subst, true≢false}
 use Rattle.std.proofs.lemmas.Bool.{cases_lt}
-use Rattle.std.proofs.lemmas.List.{get_or-map, get_or_append_left, get_or_default, get_or_push, length-replicate, length_push}
+use Rattle.std.proofs.lemmas.List.{get_or-map, get_or_append_left, get_or_push, length-replicate, length_push}
 use Rattle.std.proofs.lemmas.List.Elements.{All-nil, All-push, All-same, Contains-get_or}
 use Rattle.cfgrammar.proofs.Elements.{get_or-replicate_default}
 use Rattle.search.specs.Components.{AreComponents, ReachableFrom}
@@ -114,9 +114,6 @@ module _ (lists : List (List ℕ)) (bound : ℕ) (numbers : List ℕ) (members :
   }
 
   module _ (component : ℕ) (rows : List (List Bool)) (w : AreRows lists bound numbers component rows) (all : length members ≤ component) where
-    pub all_have_rows : All (λ number. number < length rows) numbers
-    all_have_rows k d lt = let here = are.within k (omega (arith, lt, are.entries)) in
-        omega (arith, subst (λ n. n < length members) (get_or_default numbers k 0 d lt) here, all, w.entries)
 
     -- and each node has reached what the row of its component says
     pub row_shown : (node : ℕ) → node < length lists → HasReached lists bound node (get_or (map (λ number. get_or rows number []) numbers) node [])

@@ -1,6 +1,5 @@
 -- Sorted items: a list of them is known by what it contains.
 use Rattle.std.proofs.Common.{◌≡◌, inl, inr, List, [], ◌∷◌, ◌++◌, Contains, refl, sym, ap, subst, ◌∙◌, arith}
-use Rattle.std.proofs.lemmas.List.Elements.{Contains-push_cases}
 use Rattle.cfgrammar.proofs.Contained.{contains_cases, contains_first, contains_later, contains_none}
 use Rattle.lr_states.specs.declared.Item.{Item}
 use Rattle.lr_states.specs.Viable.{AreSorted, IsBefore}
@@ -11,14 +10,6 @@ before_not_after a b (inl less) (inr same) = omega (arith, less, same.0)
 before_not_after a b (inr same) (inl more) = omega (arith, more, same.0)
 before_not_after a b (inr same) (inr equal) = omega (arith, same.1, equal.1)
 
-pub sorted_push : (xs : List Item) (x : Item) → AreSorted xs → ((y : Item) → Contains xs y → IsBefore y x) → AreSorted (xs ++ x ∷ [])
-sorted_push [] x sorted before = ((λ y h. absurd (contains_none y h)), tt)
-sorted_push (a ∷ xs) x sorted before = (
-  (λ y h. elim (Contains-push_cases xs x y h) [
-    | inl early ↦ sorted.0 y early
-    | inr last ↦ subst (IsBefore a) last (before a (contains_first a xs))
-  ]),
-  sorted_push xs x sorted.1 (λ y h. before y (contains_later a y xs h)),
 )
 
 -- what is in the rest of one list is in the rest of the other

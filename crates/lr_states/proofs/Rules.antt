@@ -11,7 +11,7 @@ use Rattle.cfgrammar.specs.Numbered.{Numbered, core, production_core}
 use Rattle.cfgrammar.specs.PIdx.{PIdx}
 use Rattle.cfgrammar.specs.ProductiveRules.{AreProductiveRules}
 use Rattle.cfgrammar.specs.Symbol.{Symbol}
-use Rattle.cfgrammar.proofs.Contained.{contains_none, contains_source}
+use Rattle.cfgrammar.proofs.Contained.{contains_source}
 use Rattle.cfgrammar.proofs.Taken.{contains_taken}
 use Rattle.lr_states.specs.declared.Item.{Item}
 use Rattle.lr_states.specs.Inner.Closure.{Begins, Enters, IsOn, IsSeed, first, next}
@@ -23,8 +23,6 @@ abbrev pub AreOn : List Bool → List (Symbol ℕ) → Type 0
 AreOn bits xs = (x : Symbol ℕ) → Contains xs x → (r : ℕ) → sym_of (λ s. s) x ≡ Rule r → IsOn bits r
 
 module _ (bits : List Bool) (xs : List (Symbol ℕ)) where
-  pub on_none : AreOn bits []
-  on_none x h = absurd (contains_none x h)
 
   pub on_more : (i : ℕ) (x : Symbol ℕ) → i < length xs → x ≡ get_or xs i x → AreOn bits (take i xs) → ((r : ℕ) → sym_of (λ s. s) x ≡ Rule r → IsOn bits r) → AreOn bits (take (i + 1) xs)
   on_more i x within is known here y h = elim ((contains_taken xs i x within is y).0 h) [
@@ -56,13 +54,6 @@ module _ (g : Grammar) (Used : ℕ → Type 0) where
       found : (n : ℕ) → IsSeed g kernel n → FoundBy (λ item r. HasNext g item (Rule r)) kernel n
       found n (first none zero) = absurd (some none)
       found n (next item among at) = record { thing = item; among = among; finds = at }
-
-  pub seeds_first : (kernel : List Item) → kernel ≡ [] → (node : ℕ) → node ≡ 0 → (old new : SearchState) → Reaches (λ n. n ≡ node) old new → Reaches (IsSeed g kernel) old new
-  seeds_first kernel none node zero old new w = reaches_as (λ n. n ≡ node) (IsSeed g kernel) old new (λ n e. first none (e ∙ zero)) (λ n h. is n h) w
-    where
-      is : (n : ℕ) → IsSeed g kernel n → n ≡ node
-      is n (first empty e) = e ∙ sym zero
-      is n (next item among at) = absurd (contains_none item (subst (λ l. Contains l item) none among))
 
 -- the productions of a rule exist
 pub position_within : (g : Numbered) (rule : ℕ) (listed : List (PIdx ℕ)) → ArePositionsOf (core g) rule (map (λ p. p.0) listed) → (i : ℕ) (p : PIdx ℕ) → i < length listed

@@ -1,7 +1,7 @@
 -- Items after a symbol is read, one item after another.
-use Rattle.std.proofs.Common.{◌≡◌, ◌==◌, ◌⊎◌, inl, inr, ℕ, ◌+◌, ◌<◌, ◌≤◌, List, [], ◌∷◌, ◌++◌, Option, None, Some, cond, false, Contains, get_or, length, slice_get, take, append-nil, refl, sym, ap, subst, ◌∙◌, arith}
+use Rattle.std.proofs.Common.{◌≡◌, ◌==◌, ◌⊎◌, inl, inr, ℕ, ◌+◌, ◌<◌, ◌≤◌, List, [], ◌∷◌, ◌++◌, Option, None, Some, cond, false, Contains, get_or, length, slice_get, take, refl, sym, ap, subst, ◌∙◌, arith}
 use Rattle.std.specs.List.{flat_map}
-use Rattle.std.proofs.lemmas.Bool.{cases_Bool, cases_eq, false_from_ne_true}
+use Rattle.std.proofs.lemmas.Bool.{cases_Bool}
 use Rattle.std.proofs.lemmas.Bool.Decides.{Decides-eqb}
 use Rattle.std.proofs.lemmas.List.{flat_map_more, get_or-map, take_more}
 use Rattle.std.proofs.lemmas.List.Elements.{Contains-append_cases, Contains-append_left, Contains-append_right}
@@ -14,8 +14,6 @@ use Rattle.cfgrammar.specs.Openings.{nth_production}
 use Rattle.cfgrammar.proofs.Contained.{contains_cases, contains_first, contains_later, contains_none, contains_one}
 use Rattle.lr_states.specs.declared.Item.{Item}
 use Rattle.lr_states.specs.declared.successors.Step.{Step}
-use Rattle.lr_states.specs.Inner.Steps.{items_by}
-use Rattle.lr_states.proofs.ItemsBy.{items_by-append, items_by_all, items_by_none}
 use Rattle.lr_states.specs.Inner.Closure.{AreAdvanced, IsAdvanced, node_of, step_at, step_of}
 use Rattle.lr_states.specs.Viable.{AreSorted, HasNext, IsBefore, item_at}
 
@@ -113,21 +111,6 @@ module _ (g : Grammar) (node : ℕ) where
 
 -- one item's step is pushed to others
 module _ (g : Grammar) (item : Item) (old new : List Step) where
-  pub step_pushed : (x : Sym) → HasNext g item x → (symbol : ℕ) → symbol ≡ node_of g x
-      → new ≡ old ++ (record { symbol = symbol; item = item_at item.production (item.read + 1) }) ∷ [] → (node : ℕ) → items_by new node ≡ items_by old node ++ step_of g node item
-  step_pushed x next symbol is put node =
-      let pushed : List Step = (record { symbol = symbol; item = item_at item.production (item.read + 1) }) ∷ [] in
-      let one : items_by pushed node ≡ step_of g node item = elim (cases_eq symbol node) [
-        | inl same ↦ items_by_all pushed node (λ s h. ap (λ (z : Step). z.symbol) (sym (contains_one _ s h)) ∙ same) ∙ sym (step_here g node item x next (sym is ∙ same))
-        | inr apart ↦
-            items_by_none pushed node (λ s h e. apart (ap (λ (z : Step). z.symbol) (contains_one _ s h) ∙ e))
-            ∙ sym (step_elsewhere g node item x next (false_from_ne_true _ (λ on. apart (is ∙ (Decides-eqb (node_of g x) node).0 on))))
-      ] in
-      ap (λ l. items_by l node) put ∙ items_by-append old pushed node ∙ ap (λ l. items_by old node ++ l) one
-
-  pub step_skipped : slice_get (nth_production g item.production).symbols item.read ≡ None → new ≡ old → (node : ℕ) → items_by new node ≡ items_by old node ++ step_of g node item
-  step_skipped none same node =
-      ap (λ l. items_by l node) same ∙ sym (append-nil (items_by old node)) ∙ ap (λ l. items_by old node ++ l) (sym (ap (step_at g node item) none))
 
 pub steps_more : {A B : Type 0} (f : A → List B) (xs : List A) (i : ℕ) (x : A) → i < length xs → x ≡ get_or xs i x → flat_map f (take i xs) ++ f x ≡ flat_map f (take (i + 1) xs)
 steps_more f xs i x within is =

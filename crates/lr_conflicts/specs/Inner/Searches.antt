@@ -74,9 +74,6 @@ module _ (w : Ways) where
   abbrev pub BeginsBy : Node → Type 0
   BeginsBy = ways.Begins (grammar_of w) (used_of w) (step_of w.road) w.token
 
-  abbrev pub IsReachedBy : Node → Type 0
-  IsReachedBy = ways.IsReached (grammar_of w) (used_of w) (step_of w.road) w.token
-
   abbrev pub AreKnown : List (Node × Step) → Type 0
   AreKnown = ways.AreSteps (grammar_of w) (used_of w) (step_of w.road) w.token
 
