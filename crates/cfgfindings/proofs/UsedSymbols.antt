@@ -23,8 +23,6 @@ module _ (g : Numbered) (symbol : Symbol) (named : Option Sym) (is : named ≡ s
         (λ used. read ∙ (knows numbered within).1 (subst (IsReachable (HasProduction (core g))) (same_Some _ _ (sym used.named ∙ there)) used.reachable)),
       )
 
-  )
-
 has_name : (name : List ℕ) (other : Option (List ℕ)) → option_map_or (bytes_eq name) other false ≡ true → IsSome other
 has_name name None is = is
 has_name name (Some x) is = refl

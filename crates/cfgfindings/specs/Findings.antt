@@ -26,7 +26,7 @@ use Rattle.text_findings.specs.Empty.{ReportsImplicitlyEmpty}
 use Rattle.text_findings.specs.File.{AreFileFindings}
 use Rattle.bison_findings.specs.Found.{AreBisonFindings}
 pub use Rattle.text_findings.specs.Reports.{ReportsBelow, none, reported, left}
-use Rattle.conflict_findings.specs.Conflicts.{AreConflictFindings}
+use Rattle.bison_findings.specs.Conflicts.{AreConflictFindings}
 use Rattle.cfgfindings.specs.Needless.{ReportsUsedSymbol}
 use Rattle.text_findings.specs.declared.words.Words.TheVariants.{Precedences, RepeatedTokens, Tokens}
 

@@ -13,11 +13,10 @@ use crate::sentences::{Unproductive, push_unusable};
 use crate::unproductive_rules::push_unproductive;
 use crate::unused::push_unused;
 use crate::useless::push_useless;
-use bison_findings::push_bison_findings;
+use bison_findings::{push_bison_findings, push_conflicts};
 use cfgrammar::bison::Associativity;
 use cfgrammar::yacc::YaccGrammar;
 use cfgrammar::yacc::ast::GrammarAST;
-use conflict_findings::push_conflicts;
 use std::alloc::{AllocError, Global};
 use text_findings::{Finding, push_escaped, push_file_findings, push_glued, push_implicitly_empty};
 

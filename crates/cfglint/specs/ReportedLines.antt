@@ -15,7 +15,7 @@ use Rattle.cfglint_shell.specs.declared.format.Format.TheVariants.{Text, Json, G
 use Rattle.cfglint_shell.specs.Formats.{is_text}
 use Rattle.cfglint_shell.specs.Tally.{Printed}
 use Rattle.finding_kinds.specs.declared.levels.Levels.{Levels}
-use Rattle.conflict_findings.specs.States.{IsStatesText}
+use Rattle.bison_findings.specs.States.{IsStatesText}
 use Rattle.cfgfindings.specs.Findings.{AreFindings}
 use Rattle.cfgfindings.specs.Shown.{ShownFinding}
 use Rattle.cfglint.specs.ReportedErrors.{NotedError, error_lines, noted_errors, shown_error}

@@ -8,13 +8,13 @@ ghost use Rattle.cfglint.specs.ReportedLines.{ShowsStates};
 
 use crate::reported::{ReportedFinding, error_count, finding_lines, reported_findings};
 use crate::reported_error::{ReportedError, error_lines};
+use bison_findings::states_text;
 use cfgfindings::findings;
 use cfgjson::{annotation_lines, json_lines, result_lines};
 use cfglint_shell::{Format, LintOptions, Report};
 use cfgrammar::bison::Associativity;
 use cfgrammar::yacc::YaccGrammar;
 use cfgrammar::yacc::ast::GrammarAST;
-use conflict_findings::states_text;
 use finding_kinds::Levels;
 use std::alloc::{AllocError, Global};
 

@@ -68,8 +68,6 @@ module _ (g : Numbered) where
       go true = refl
       go false = refl
 
-  }
-
   -- what one more name gives
   more : (names : List (List ℕ)) (name : List ℕ) (t : ℕ) (named : Bool) → names_token g t name ≡ named
       → list_any (names_token g t) (names ++ name ∷ []) ≡ (list_any (names_token g t) names || named)

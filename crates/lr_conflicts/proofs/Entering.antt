@@ -26,7 +26,6 @@ pub record Among {A : Type 0} (Finds : A → Node → Type 0) (list : List A) (n
   pub finds : Finds thing n
 
 module _ (g : Grammar) (Used : ℕ → Type 0) (step : ℕ → Sym → Option ℕ) (t : ℕ) {from : Option Node} {A : Type 0} (F : A → Node → Type 0) (all : List A) where
-
   pub among_more : (i : ℕ) (x : A) → i < length all → x ≡ get_or all i x → (old mid new : List (Node × Step)) → Finds g Used step t from (Among F (take i all)) old mid
       → Finds g Used step t from (F x) mid new → Finds g Used step t from (Among F (take (i + 1) all)) old new
   among_more i x within at old mid new w v = finds_then g Used step t (Among F (take i all)) (F x) (Among F (take (i + 1) all)) old mid new

@@ -34,8 +34,6 @@ module _ (g : Numbered) (x : Automaton) (conflict : Conflict) where
   shifted_by item (accepts among end is) = (subst (Contains (items_of x conflict.state)) (sym is) among, tables.accepts is end)
 
   module _ (clash : Clash) where
-    )
-
     pub reduction_in : clash.token ≡ conflict.token → (IsTrue clash.shifts → ⊥) → IsReductionIn g conflict clash ↔ IsIn g x conflict clash
     reduction_in same off = (
       (λ w. reduce w.first w.rest w.is same off w.production w.other),
@@ -44,5 +42,3 @@ module _ (g : Numbered) (x : Automaton) (conflict : Conflict) where
         | reduce first rest is same none among other ↦ record { first = first; rest = rest; is = is; production = among; other = other }
       ]),
     )
-
-    ]

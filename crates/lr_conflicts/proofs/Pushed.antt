@@ -37,7 +37,6 @@ not_not true = refl
 not_not false = refl
 
 module _ (shifts : Bool) (other : Item) (productions : List ℕ) (t : ℕ) where
-
   pub against_more : (i p : ℕ) → i < length productions → p ≡ get_or productions i p → (old entries new : List Entry) → AddsClashes (IsAgainst shifts other (take i productions) t) old entries
       → new ≡ entries ++ record { reduces = not shifts; production = p; other = other.production; read = other.read; token = t } ∷ []
       → AddsClashes (IsAgainst shifts other (take (i + 1) productions) t) old new

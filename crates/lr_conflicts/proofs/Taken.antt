@@ -107,8 +107,6 @@ module _ (g : Numbered) (levels : List Associativity) (items : List Item) where
       reduced_kept : IsReduced g levels items turn.token r.production → IsKept g levels turn r
       reduced_kept h = ((of.comes turn.token is.within).1 h.reduces, λ loses. h.left (lost loses))
 
-    }
-
     module _ (rs : List Reduction) (are : AreReductions g levels items rs) where
       module _ (i : ℕ) (r : Reduction) (within : i < length rs) (at : r ≡ get_or rs i r) (productions : List ℕ) (so_far : AreKept g levels turn (take i rs) productions) where
         earlier : (other : Reduction) → Contains (take i rs) other → Contains (take (i + 1) rs) other

@@ -101,8 +101,6 @@ sorted_push (a ∷ xs) x sorted before = (
 )
 
 module _ (g : Numbered) (levels : List Associativity) (x : Automaton) where
-  }
-
   module _ (q t : ℕ) (conflicts : List Conflict) (listed : AreListed g levels x q t conflicts) where
     further : (a b : ℕ) → IsEarlier g levels x q t a b → IsEarlier g levels x q (t + 1) a b
     further a b h = elim h [ inl less ↦ inl less | inr same ↦ let low = same.1 in inr (same.0, omega (arith, low)) ]

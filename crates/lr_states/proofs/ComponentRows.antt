@@ -114,7 +114,6 @@ module _ (lists : List (List ℕ)) (bound : ℕ) (numbers : List ℕ) (members :
   }
 
   module _ (component : ℕ) (rows : List (List Bool)) (w : AreRows lists bound numbers component rows) (all : length members ≤ component) where
-
     -- and each node has reached what the row of its component says
     pub row_shown : (node : ℕ) → node < length lists → HasReached lists bound node (get_or (map (λ number. get_or rows number []) numbers) node [])
     row_shown node lt = subst (HasReached lists bound node) (sym (get_or-map (λ number. get_or rows number []) numbers node 0 [] (omega (arith, lt, are.entries))))

@@ -10,8 +10,6 @@ before_not_after a b (inl less) (inr same) = omega (arith, less, same.0)
 before_not_after a b (inr same) (inl more) = omega (arith, more, same.0)
 before_not_after a b (inr same) (inr equal) = omega (arith, same.1, equal.1)
 
-)
-
 -- what is in the rest of one list is in the rest of the other
 rest_within : (x : Item) (xs ys : List Item) → ((y : Item) → Contains xs y → IsBefore x y) → ((y : Item) → Contains (x ∷ xs) y → Contains (x ∷ ys) y)
     → (y : Item) → Contains xs y → Contains ys y

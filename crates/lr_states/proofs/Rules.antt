@@ -23,7 +23,6 @@ abbrev pub AreOn : List Bool → List (Symbol ℕ) → Type 0
 AreOn bits xs = (x : Symbol ℕ) → Contains xs x → (r : ℕ) → sym_of (λ s. s) x ≡ Rule r → IsOn bits r
 
 module _ (bits : List Bool) (xs : List (Symbol ℕ)) where
-
   pub on_more : (i : ℕ) (x : Symbol ℕ) → i < length xs → x ≡ get_or xs i x → AreOn bits (take i xs) → ((r : ℕ) → sym_of (λ s. s) x ≡ Rule r → IsOn bits r) → AreOn bits (take (i + 1) xs)
   on_more i x within is known here y h = elim ((contains_taken xs i x within is y).0 h) [
     | inl early ↦ known y early

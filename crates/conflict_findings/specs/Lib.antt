@@ -1,4 +1,0 @@
-pub mod Shown
-pub mod Conflicts
-pub mod States
-pub mod Inner
