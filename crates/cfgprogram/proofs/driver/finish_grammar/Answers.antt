@@ -5,8 +5,8 @@ use Rattle.cfgrammar.specs.Numbered.{Numbered}
 use Rattle.cfgrammar.specs.TextSpans.{IsPiece, IsWithin}
 use Rattle.cfgrammar.specs.Syntax.{Syntax, EachSpan}
 use Rattle.cfgrammar.specs.TreeView.{syntax}
-use Rattle.cfgdriver.specs.ReadText.{IsMadeOfGrammar}
-use Rattle.cfgdriver.proofs.finish_grammar.Goals as goal
+use Rattle.cfgprogram.specs.ReadText.{IsMadeOfGrammar}
+use Rattle.cfgprogram.proofs.driver.finish_grammar.Goals as goal
 
 pub grammar-requires : goal.grammar-requires
 grammar-requires g c = subst (EachSpan (IsPiece c.args.text.now) (IsWithin c.args.text.now)) (sym c.ast.ensures.value) c.requires.spans.syntax

@@ -8,7 +8,7 @@ use Rattle.cfgrammar.specs.Parsed.{Parsed}
 use Rattle.cfgrammar.specs.SelfNamed.{ReturnsNamed, ReturnsNaming}
 use Rattle.cfgrammar.specs.Syntax.{Syntax}
 use Rattle.cfgrammar.specs.YaccFault.{YaccFault}
-use Rattle.cfgdriver.specs.ReadText.{IsMadeOfRead}
+use Rattle.cfgprogram.specs.ReadText.{IsMadeOfRead}
 
 pub for_each : (text : List ℕ) (result : Result Parsed YaccFault) → HasOneNaming text → ReturnsNamed text result
     → (naming : Naming) → Names text naming → ReturnsNaming text naming result

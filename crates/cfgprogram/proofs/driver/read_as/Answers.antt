@@ -1,7 +1,7 @@
 use Rattle.std.proofs.lemmas.Result.{err_from_is_err_and}
 use Rattle.cfgrammar.specs.Answer.{WasRead}
 use Rattle.cfgrammar.proofs.SelfNamed.{is_parsed_of, parsed_of}
-use Rattle.cfgdriver.proofs.read_as.Goals as goal
+use Rattle.cfgprogram.proofs.driver.read_as.Goals as goal
 
 pub returns-in_err-parsed : goal.returns-in_err-parsed
 returns-in_err-parsed g c =

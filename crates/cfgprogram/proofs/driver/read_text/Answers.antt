@@ -1,5 +1,5 @@
 use Rattle.std.proofs.lemmas.Result.{err_from_is_err_and}
-use Rattle.cfgdriver.proofs.read_text.Goals as goal
+use Rattle.cfgprogram.proofs.driver.read_text.Goals as goal
 
 pub returns : goal.returns
 returns g c =

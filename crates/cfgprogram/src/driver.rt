@@ -1,6 +1,5 @@
 //! From a text to what a program makes of it: the text is read as a Yacc file, and a reader makes something of its
 //! errors, or of its grammar.
-#![tactic(auto)]
 
 ghost use Rattle.std.specs.Prelude.{◌≡◌, All, IfOk, IfSome, option_map};
 ghost use Rattle.std.specs.Fn.{FnOnceReturnsAt, FnOnceTakesAt};
@@ -10,9 +9,9 @@ ghost use Rattle.cfgrammar.specs.GrammarOf.{IsFoundAs, IsFoundItself};
 ghost use Rattle.cfgrammar.specs.TextSpans.{IsPiece, IsWithin};
 ghost use Rattle.cfgrammar.specs.Syntax.{EachSpan};
 ghost use Rattle.cfgrammar.specs.TreeView.{syntax};
-ghost use Rattle.cfgdriver.specs.ReadText.{IsFound, IsMadeOf, IsMadeOfGrammar, IsMadeOfRead, IsUnnamed, greatest};
+ghost use Rattle.cfgprogram.specs.ReadText.{IsFound, IsMadeOf, IsMadeOfGrammar, IsMadeOfRead, IsUnnamed, greatest};
 
-use cfgprogram::KindArg;
+use crate::kinds::KindArg;
 use cfgrammar::header::{HeaderFault, kind_if_named};
 use cfgrammar::yacc::ast::{ASTWithValidityInfo, GrammarAST};
 use cfgrammar::yacc::{YaccFault, YaccGrammar, YaccGrammarError, YaccKind};

@@ -5,8 +5,8 @@ use Rattle.cfgrammar.specs.ErrorSpans.{EachErrorSpan}
 use Rattle.cfgrammar.specs.Syntax.{Syntax}
 use Rattle.cfgrammar.specs.TextSpans.{IsPiece}
 use Rattle.cfgrammar.specs.TreeView.{syntax}
-use Rattle.cfgdriver.specs.ReadText.{IsMadeOf, IsMadeOfGrammar}
-use Rattle.cfgdriver.proofs.finish_parsed.Goals as goal
+use Rattle.cfgprogram.specs.ReadText.{IsMadeOf, IsMadeOfGrammar}
+use Rattle.cfgprogram.proofs.driver.finish_parsed.Goals as goal
 
 pub errors-requires : goal.errors-requires
 errors-requires g c =

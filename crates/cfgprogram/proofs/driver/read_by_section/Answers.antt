@@ -5,8 +5,8 @@ use Rattle.cfgrammar.specs.ErrorSpans.{EachErrorSpan}
 use Rattle.cfgrammar.specs.TextSpans.{IsPiece}
 use Rattle.cfgrammar.specs.YaccFault.TheVariants as faults
 use Rattle.cfgrammar.proofs.SelfNamed.{parsed_named, refused_named}
-use Rattle.cfgdriver.proofs.ByNaming.{made_unnamed}
-use Rattle.cfgdriver.proofs.read_by_section.Goals as goal
+use Rattle.cfgprogram.proofs.ByNaming.{made_unnamed}
+use Rattle.cfgprogram.proofs.driver.read_by_section.Goals as goal
 
 pub errors-requires : goal.errors-requires
 errors-requires g c =
