@@ -14,6 +14,7 @@ ghost use Rattle.cfgtool.specs.Report.{ReportsLexer, ReportsText};
 ghost use Rattle.cfgsink.specs.Reports.{faults_met};
 ghost use Rattle.cfgsink.specs.declared.outcome.ReportFault.TheVariants as variants;
 
+use crate::arguments::Command;
 use crate::first_lines::first_lines;
 use crate::follow_lines::follow_lines;
 use crate::lexer_lines::lexer_lines;
@@ -25,7 +26,6 @@ use cfgrammar::yacc::ast::GrammarAST;
 use cfgrammar::yacc::{YaccGrammar, YaccGrammarError};
 pub use cfgsink::{Outcome, ReportFault};
 use cfgsink::{Sink, write_report};
-use cfgtool_shell::arguments::Command;
 use std::alloc::{AllocError, Global};
 
 /// Writes what the command prints for the text's grammar, whose indices have 32 bits, or else the errors of the text,

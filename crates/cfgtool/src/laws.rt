@@ -2,7 +2,7 @@
 //! `⟦<Command as PartialEq>⟧`, and holds for every value.
 
 ghost use Rattle.std.specs.Prelude.{◌≡◌, ◌↔◌, IsTrue};
-ghost use Rattle.cfgtool_shell.specs.declared.arguments.Command.{Command};
+ghost use Rattle.cfgtool.specs.declared.arguments.Command.{Command};
 
 use crate::arguments::Command;
 pub use cfgprogram::laws::kinds_are_distinct;

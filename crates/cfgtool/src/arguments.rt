@@ -1,7 +1,7 @@
 //! The arguments that name a command.
 
 ghost use Rattle.std.specs.Prelude.{◌≡◌};
-ghost use Rattle.cfgtool_shell.specs.Arguments.{asks_lexer, command_named};
+ghost use Rattle.cfgtool.specs.Arguments.{asks_lexer, command_named};
 
 /// What is reported about a grammar.
 #[derive(Clone, Copy, Debug, PartialEq, Eq)]

@@ -1,8 +1,8 @@
 -- How a report ends, and a run of the program: with which status, and with which line on standard error.
 use Rattle.std.specs.Prelude.{◌≡◌, ℕ, List, Vec, [], ◌++◌, Result, Ok, Err, codes}
 use Rattle.std.specs.Global.{Global}
-use Rattle.cfgtool_shell.specs.declared.faults.RunFault.{RunFault}
-use Rattle.cfgtool_shell.specs.declared.faults.RunFault.TheVariants as why
+use Rattle.cfgtool.specs.declared.faults.RunFault.{RunFault}
+use Rattle.cfgtool.specs.declared.faults.RunFault.TheVariants as why
 use Rattle.cfgprogram.specs.declared.arguments.ArgumentsFault.{ArgumentsFault}
 use Rattle.cfgprogram.specs.declared.arguments.ArgumentsFault.TheVariants as arguments
 use Rattle.cfgsink.specs.declared.outcome.Outcome.{Outcome}

@@ -1,8 +1,8 @@
 use Rattle.std.proofs.Common.{inl, refl}
 use Rattle.std.proofs.KnownBytes.{Appends-nil}
-use Rattle.cfgtool_shell.specs.Endings.{Reported}
+use Rattle.cfgtool.specs.Endings.{Reported}
 use Rattle.cfgsink.specs.declared.outcome.Outcome.TheVariants.{Done, Refused}
-use Rattle.cfgtool_shell.proofs.program.run.Goals as goal
+use Rattle.cfgtool.proofs.program.run_requested.Goals as goal
 
 pub returns-in-Ok-Done-clause-ends : goal.returns-in-Ok-Done-clause-ends
 returns-in-Ok-Done-clause-ends g c =

@@ -1,8 +1,8 @@
 -- What the arguments of the program name.
 use Rattle.std.specs.Prelude.{ℕ, List, Option, Some, None, if◌then◌else◌, codes, Bool, not, ◌&&◌}
 use Rattle.std.specs.Str.{bytes_eq}
-use Rattle.cfgtool_shell.specs.declared.arguments.Command.{Command}
-use Rattle.cfgtool_shell.specs.declared.arguments.Command.TheVariants.{Grammar, Firsts, Follows, Sentences, Warnings}
+use Rattle.cfgtool.specs.declared.arguments.Command.{Command}
+use Rattle.cfgtool.specs.declared.arguments.Command.TheVariants.{Grammar, Firsts, Follows, Sentences, Warnings}
 
 -- the command that an argument names
 unfoldable pub command_named : List ℕ → Option Command

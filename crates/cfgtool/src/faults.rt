@@ -1,12 +1,12 @@
 //! Run failures, and their messages.
 
 ghost use Rattle.std.specs.Prelude.{◌≡◌, ◌++◌, ◌+◌, ◌-◌, ◌^◌, ◌<◌, Err};
-ghost use Rattle.cfgtool_shell.specs.Endings.{ending_of, ending_with, ending_without, line_of, status_of};
+ghost use Rattle.cfgtool.specs.Endings.{ending_of, ending_with, ending_without, line_of, status_of};
 ghost use Rattle.cfgsink.specs.Sinks.{AppendsOrFaults};
 
-use crate::outcome::ReportFault;
-use crate::sink::{Sink, SinkFault, write_whole};
 use cfgprogram::arguments::ArgumentsFault;
+use cfgsink::ReportFault;
+use cfgsink::sink::{Sink, SinkFault, write_whole};
 
 /// Why a run failed.
 #[derive(Clone, Copy)]

@@ -1,8 +1,8 @@
 use Rattle.std.proofs.Common.{inr, ◌≡◌, ◌++◌, ◌∙◌, subst}
 use Rattle.cfgsink.specs.Sinks.{AppendsOrFaults}
-use Rattle.cfgtool_shell.specs.Endings.{line_of, ending_with}
+use Rattle.cfgtool.specs.Endings.{line_of, ending_with}
 use Rattle.cfgsink.proofs.Prefixes.{prefix_of_first, whole_or_faults, then_or_faults}
-use Rattle.cfgtool_shell.proofs.faults.print.Goals as goal
+use Rattle.cfgtool.proofs.faults.print.Goals as goal
 
 pub returns-in_err-write_whole-2 : goal.returns-in_err-write_whole-2
 returns-in_err-write_whole-2 g c =
