@@ -3,7 +3,7 @@ use Rattle.std.proofs.Common.{◌≡◌, ℕ, List, [], true, false, inl, inr, O
 use Rattle.cfgrammar.specs.Answer.{Found, Unnamed, WasRead, IsGrammar, in_numbers}
 use Rattle.cfgrammar.specs.Numbered.{Numbered}
 use Rattle.cfgprogram.specs.declared.kinds.KindArg.{KindArg}
-use Rattle.cfgdriver.specs.ReadText.{IsMadeOf, greatest}
+use Rattle.cfgprogram.specs.ReadText.{IsMadeOf, greatest}
 use Rattle.cfglint_shell.specs.declared.file_kind.FileKind.{FileKind}
 use Rattle.cfglint_shell.specs.declared.linter.LintOptions.{LintOptions}
 use Rattle.cfglint_shell.specs.Tally.{Printed}

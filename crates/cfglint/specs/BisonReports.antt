@@ -4,7 +4,7 @@ use Rattle.cfgrammar.specs.BisonAnswer.{bison_numbers}
 use Rattle.cfgrammar.specs.BisonParsedFile.{IsParsedFile, ParsedFile}
 use Rattle.cfgrammar.specs.Errors.{GrammarError, StorageTooSmall, error_at}
 use Rattle.cfgrammar.specs.Fits.{Fits}
-use Rattle.cfgdriver.specs.ReadText.{greatest}
+use Rattle.cfgprogram.specs.ReadText.{greatest}
 use Rattle.cfglint_shell.specs.declared.file_kind.FileKind.TheVariants.{Bison}
 use Rattle.cfglint_shell.specs.declared.linter.LintOptions.{LintOptions}
 use Rattle.cfglint_shell.specs.Tally.{Printed}

@@ -10,7 +10,7 @@ use Rattle.cfgrammar.specs.YaccKind.TheVariants.{Original}
 use Rattle.cfgrammar.specs.YaccOriginalActionKind.TheVariants.{NoAction}
 use Rattle.cfgprogram.specs.declared.kinds.KindArg.{KindArg}
 use Rattle.cfgprogram.specs.declared.kinds.KindArg.TheVariants as argument
-use Rattle.cfgdriver.specs.ReadText.{greatest}
+use Rattle.cfgprogram.specs.ReadText.{greatest}
 use Rattle.cfglint_shell.specs.declared.file_kind.FileKind.TheVariants.{Yacc, Bison}
 use Rattle.cfglint_shell.specs.declared.file_kind.KindRequest.TheVariants.{Named, Section}
 use Rattle.cfglint_shell.specs.declared.linter.LintOptions.{LintOptions}

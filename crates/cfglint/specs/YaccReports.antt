@@ -5,7 +5,7 @@ use Rattle.cfgrammar.specs.Errors.{GrammarError}
 use Rattle.cfgrammar.specs.Numbered.{Numbered}
 use Rattle.cfgrammar.specs.Syntax.{Syntax}
 use Rattle.cfgprogram.specs.declared.kinds.KindArg.{KindArg}
-use Rattle.cfgdriver.specs.ReadText.{IsFound, IsMadeOf, kind_read}
+use Rattle.cfgprogram.specs.ReadText.{IsFound, IsMadeOf, kind_read}
 use Rattle.cfglint_shell.specs.declared.file_kind.FileKind.TheVariants.{Yacc}
 use Rattle.cfglint_shell.specs.declared.linter.LintOptions.{LintOptions}
 use Rattle.cfglint_shell.specs.Tally.{Printed}

@@ -3,9 +3,9 @@
 ghost use Rattle.std.specs.Prelude.{◌≡◌, IfOk, None};
 ghost use Rattle.cfglint.specs.Readings.{IsReading};
 
-use cfgdriver::names_no_kind;
 use cfglint_shell::{FileKind, KindRequest, LintOptions};
 use cfgprogram::KindArg;
+use cfgprogram::driver::names_no_kind;
 use std::alloc::{AllocError, Global};
 
 /// As what a text is read.

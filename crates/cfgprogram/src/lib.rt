@@ -1,7 +1,9 @@
-//! What the programs share: the kind that an argument names, what they read from, and how they end.
+//! What the programs share: the kind that an argument names, what they read from, the way from a text to its grammar,
+//! and how they end.
 #![tactic(auto)]
 
 pub mod arguments;
+pub mod driver;
 pub mod ending;
 pub mod kinds;
 pub mod laws;

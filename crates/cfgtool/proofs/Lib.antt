@@ -1,3 +1,4 @@
+pub mod Handled
 pub mod OfText
 pub mod SentenceTexts
 pub mod Reported

@@ -8,7 +8,7 @@ use Rattle.cfgsink.specs.declared.outcome.Outcome.TheVariants.{Done, Refused}
 use Rattle.cfgsink.specs.declared.outcome.ReportFault.{ReportFault}
 use Rattle.cfgsink.specs.declared.outcome.ReportFault.TheVariants as faults
 use Rattle.cfgsink.specs.Reports.{WritesMade}
-use Rattle.cfgdriver.specs.ReadText.{IsMadeOf}
+use Rattle.cfgprogram.specs.ReadText.{IsMadeOf}
 use Rattle.cfgtool.specs.Report.{IsReport, IsReported, Reports}
 use Rattle.cfgtool.specs.ReportLines.{error_lines}
 

@@ -1,3 +1,5 @@
+pub mod Arguments
+pub mod Endings
 pub mod ReportLines
 pub mod TokenSets
 pub mod FirstLines

@@ -9,10 +9,10 @@ use Rattle.cfgsink.specs.declared.outcome.Outcome.{Outcome}
 use Rattle.cfgsink.specs.declared.outcome.Outcome.TheVariants.{Done, Refused}
 use Rattle.cfgsink.specs.declared.outcome.ReportFault.{ReportFault}
 use Rattle.cfgsink.specs.declared.outcome.ReportFault.TheVariants as faults
-use Rattle.cfgtool_shell.specs.declared.arguments.Command.{Command}
-use Rattle.cfgtool_shell.specs.declared.arguments.Command.TheVariants.{Grammar, Firsts, Follows, Sentences, Warnings}
+use Rattle.cfgtool.specs.declared.arguments.Command.{Command}
+use Rattle.cfgtool.specs.declared.arguments.Command.TheVariants.{Grammar, Firsts, Follows, Sentences, Warnings}
 use Rattle.cfgprogram.specs.declared.kinds.KindArg.{KindArg}
-use Rattle.cfgdriver.specs.ReadText.{IsFound, IsMadeOfErrors, IsMadeOfGrammar}
+use Rattle.cfgprogram.specs.ReadText.{IsFound, IsMadeOfErrors, IsMadeOfGrammar}
 use Rattle.cfgtool.specs.FirstLines.{AreFirstLines}
 use Rattle.cfgtool.specs.FollowLines.{AreFollowLines}
 use Rattle.cfgtool.specs.ReportLines.{AreWarningLines, error_lines, production_lines}

@@ -5,7 +5,7 @@ ghost use Rattle.cfgrammar.specs.TextSpans.{IsPiece, IsWithin};
 ghost use Rattle.cfgrammar.specs.Syntax.{EachSpan};
 ghost use Rattle.cfgrammar.specs.TreeView.{syntax};
 ghost use Rattle.cfgrammar.specs.Answer.{Found};
-ghost use Rattle.cfgdriver.specs.ReadText.{IsFound};
+ghost use Rattle.cfgprogram.specs.ReadText.{IsFound};
 ghost use Rattle.cfgtool.specs.FirstLines.{AreFirstLines};
 ghost use Rattle.cfgtool.specs.FollowLines.{AreFollowLines};
 ghost use Rattle.cfgtool.specs.ReportLines.{AreWarningLines};
@@ -14,18 +14,18 @@ ghost use Rattle.cfgtool.specs.Report.{ReportsLexer, ReportsText};
 ghost use Rattle.cfgsink.specs.Reports.{faults_met};
 ghost use Rattle.cfgsink.specs.declared.outcome.ReportFault.TheVariants as variants;
 
+use crate::arguments::Command;
 use crate::first_lines::first_lines;
 use crate::follow_lines::follow_lines;
 use crate::lexer_lines::lexer_lines;
 use crate::lines::{error_lines, production_lines, warning_lines};
 use crate::sentence_lines::sentence_lines;
-use cfgdriver::{TextReader, read_text};
 use cfgprogram::KindArg;
+use cfgprogram::driver::{TextReader, read_text};
 use cfgrammar::yacc::ast::GrammarAST;
 use cfgrammar::yacc::{YaccGrammar, YaccGrammarError};
 pub use cfgsink::{Outcome, ReportFault};
 use cfgsink::{Sink, write_report};
-use cfgtool_shell::arguments::Command;
 use std::alloc::{AllocError, Global};
 
 /// Writes what the command prints for the text's grammar, whose indices have 32 bits, or else the errors of the text,

@@ -1,9 +1,12 @@
 //! The program `cfgtool`, as a library: prints what is in a grammar, or the errors of its text, as lines.
 #![tactic(auto)]
 
+pub mod arguments;
 pub mod engine;
+mod faults;
 mod first_lines;
 mod follow_lines;
+pub mod laws;
 mod lexer_lines;
 mod lines;
 pub mod program;
@@ -11,10 +14,9 @@ mod sentence_lines;
 pub mod system;
 mod token_sets;
 
-pub use cfgtool_shell::{
-    Command, Counted, Ended, Input, KindArg, Outcome, ReportFault, Sink, SinkFault, Source,
-    arguments, kinds, laws, sink, source,
-};
+pub use arguments::Command;
+pub use cfgprogram::{Ended, Input, KindArg, Source, kinds, source};
+pub use cfgsink::{Counted, Outcome, ReportFault, Sink, SinkFault, sink};
 pub use engine::{report, report_lex};
 pub use program::run;
 pub use system::run_over;

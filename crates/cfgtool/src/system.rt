@@ -1,11 +1,14 @@
-//! The program over a runtime.
+//! The program over a runtime: its arguments, its files and its streams.
 
-ghost use Rattle.std.specs.Prelude.{◌≡◌};
-ghost use Rattle.cfgtool_shell.specs.Endings.{Ending, status_of};
+ghost use Rattle.std.specs.Prelude.{◌≡◌, IfOk};
+ghost use Rattle.cfgtool.specs.Endings.{Ending, status_of};
 
-use crate::program::Reports;
+use crate::faults::refuse_arguments;
+use crate::program::run_requested;
+use cfgprogram::arguments::{ArgumentsFault, arguments};
 use cfgprogram::ending::{Ended, ended_with};
-use cfgtool_shell::runtime;
+use cfgprogram::runtime::{ErrorStream, OutputStream, SystemFiles};
+use cfgsink::sink::Counted;
 use std::rt::{Clock, Env, Files};
 
 /// Runs the program `cfgtool` over a runtime: [`run`](crate::run) on the command-line arguments, over the
@@ -15,5 +18,33 @@ use std::rt::{Clock, Env, Files};
 pub fn run_over<R: Env + Files + Input + Print + Eprint + Clock + AllocGlobal>(rt: &R) -> Ended
     ensures { (ending : Ending) × (result.status ≡ status_of ending) }
 {
-    ended_with(runtime::run_over(rt, &Reports { is_last: true }))
+    ended_with(match run_on_arguments(rt) {
+        Ok(status) => status,
+        Err(fault) => refuse_arguments(fault, &mut Counted::new(ErrorStream { rt })),
+    })
+}
+
+/// Runs the program on its arguments, after which the process ends.
+///
+/// # Errors
+///
+/// Why there are no arguments; nothing is then read or written.
+fn run_on_arguments<R: Env + Files + Input + Print + Eprint + Clock + AllocGlobal>(
+    rt: &R,
+) -> Result<u8, ArgumentsFault>
+    ensures { IfOk result (λ status. (ending : Ending) × (status ≡ status_of ending)) }
+{
+    let arguments = arguments(rt)?;
+    let args: Vec<&str> = arguments
+        .iter()
+        .map(|argument| argument.as_str())
+        .collect(rt.alloc())?;
+    Ok(run_requested(
+        rt.alloc(),
+        true,
+        &args,
+        &mut SystemFiles::new(rt),
+        &mut Counted::new(OutputStream { rt }),
+        &mut Counted::new(ErrorStream { rt }),
+    ))
 }

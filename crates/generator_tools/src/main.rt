@@ -2,6 +2,7 @@
 //! the program prints sentences to test a parser with, the table of an LL(1) parser, and the states of an LR parser.
 #![tactic(auto)]
 
+pub mod ll1;
 mod sentences;
 mod states;
 mod table;

@@ -5,11 +5,11 @@ ghost use Rattle.cfgrammar.specs.Firsts.{AreFirsts};
 ghost use Rattle.cfgrammar.specs.Follows.{AreFollows};
 ghost use Rattle.cfgrammar.specs.Numbered.{core};
 
+use crate::ll1::{Decision, decide};
 use cfgrammar::RIdx;
 use cfgrammar::yacc::YaccGrammar;
 use cfgrammar::yacc::firsts::YaccFirsts;
 use cfgrammar::yacc::follows::YaccFollows;
-use ll1::{Decision, decide};
 use std::alloc::{AllocError, Global};
 
 /// Adds the table of an LL(1) parser: a line for each rule and each token at which the parser uses a production of the

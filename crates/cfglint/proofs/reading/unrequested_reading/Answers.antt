@@ -1,5 +1,5 @@
 use Rattle.std.proofs.Common.{rules, subst}
-use Rattle.cfgdriver.specs.ReadText.{IsUnnamed}
+use Rattle.cfgprogram.specs.ReadText.{IsUnnamed}
 use Rattle.cfglint.specs.Readings.{IsReadAsYacc}
 use Rattle.cfglint.proofs.reading.unrequested_reading.Goals as goal
 

@@ -1,5 +1,5 @@
 use Rattle.std.proofs.Common.{option_map, ap, subst, sym, ◌∙◌}
-use Rattle.cfgdriver.specs.ReadText.{IsMadeOf}
+use Rattle.cfgprogram.specs.ReadText.{IsMadeOf}
 use Rattle.cfglint_shell.specs.declared.file_kind.FileKind.TheVariants.{Yacc}
 use Rattle.cfglint.specs.YaccReports.{IsFoundOutcome, IsRefusedOutcome}
 use Rattle.cfglint.proofs.Outcomes.{outcome_as}
