@@ -1,5 +1,5 @@
-//! Findings that `bison` has too: conflicts, with the states of a grammar's parser as text, for reading one by hand; and
-//! those that the words of a Bison file alone decide.
+//! Findings that `bison` has too: conflicts, with the states of a grammar's parser as text, for reading one by hand;
+//! and those that the words of a Bison file alone decide.
 #![tactic(auto)]
 
 mod aliases;
