@@ -3,7 +3,8 @@
 ghost use Rattle.std.specs.Prelude.{◌≡◌, ◌++◌, length, map, option_map, IfOk, OnOk};
 ghost use Rattle.bison_words.specs.Words.{word_view};
 ghost use Rattle.bison_findings.specs.Defines.{ReportsMisspelledDefine, identifier_of, is_among, is_define, misspelled};
-ghost use Rattle.bison_findings.specs.Defines.{misspelled_among, misspelled_value, misspelled_variable, misspelled_word};
+ghost use Rattle.bison_findings.specs.Defines.{misspelled_among, misspelled_value, misspelled_variable};
+ghost use Rattle.bison_findings.specs.Defines.{misspelled_word};
 ghost use Rattle.bison_findings.specs.Defines.{values_of, variables};
 ghost use Rattle.text_findings.specs.Reports.{ReportsBelow};
 

@@ -1,4 +1,5 @@
-//! Symbols, productions and items as findings and states show them: names with escapes for what could control a terminal.
+//! Symbols, productions and items as findings and states show them: names with escapes for what could control a
+//! terminal.
 
 ghost use Rattle.std.specs.Prelude.{◌≡◌, ◌++◌, ◌<◌, ◌≤◌, All, OnOk, codes, length, map, string_bytes};
 ghost use Rattle.cfgrammar.specs.Accessors.{IsSymbolWithin};

@@ -3,7 +3,8 @@
 ghost use Rattle.std.specs.Prelude.{◌≡◌, [], ◌∷◌, ◌++◌, IfOk, codes, option_map, slice_range, string_bytes};
 ghost use Rattle.cfgrammar.specs.TextSpans.{IsPiece};
 ghost use Rattle.cfglint.specs.BisonNotes.{begins_as_name, begins_with, begins_with_mark, begins_with_quote};
-ghost use Rattle.cfglint.specs.BisonNotes.{bison_note, character_advice, characters_note, closing, fault_advice, fault_note};
+ghost use Rattle.cfglint.specs.BisonNotes.{bison_note, character_advice, characters_note, closing};
+ghost use Rattle.cfglint.specs.BisonNotes.{fault_advice, fault_note};
 ghost use Rattle.cfglint.specs.BisonNotes.{found_note, long_word, symbol_note, unexpected_note, word_note};
 
 use crate::suggestion::{Names, question_of};
