@@ -13,7 +13,6 @@ use Rattle.cfgrammar.proofs.Elements.{element_at}
 use Rattle.cfgrammar.specs.Openings.{nth_production}
 use Rattle.cfgrammar.proofs.Contained.{contains_cases, contains_first, contains_later, contains_none, contains_one}
 use Rattle.lr_states.specs.declared.Item.{Item}
-use Rattle.lr_states.specs.declared.successors.Step.{Step}
 use Rattle.lr_states.specs.Inner.Closure.{AreAdvanced, IsAdvanced, node_of, step_at, step_of}
 use Rattle.lr_states.specs.Viable.{AreSorted, HasNext, IsBefore, item_at}
 
@@ -108,9 +107,6 @@ module _ (g : Grammar) (node : ℕ) where
 
   pub steps_advanced : (items : List Item) → AreAdvanced g items node (flat_map (step_of g node) items)
   steps_advanced items = record { all = λ item. (advanced_by items item, by_advanced items item); sorted = steps_sorted items }
-
--- one item's step is pushed to others
-module _ (g : Grammar) (item : Item) (old new : List Step) where
 
 pub steps_more : {A B : Type 0} (f : A → List B) (xs : List A) (i : ℕ) (x : A) → i < length xs → x ≡ get_or xs i x → flat_map f (take i xs) ++ f x ≡ flat_map f (take (i + 1) xs)
 steps_more f xs i x within is =
