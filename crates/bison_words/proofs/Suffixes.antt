@@ -1,8 +1,8 @@
 -- Suffixes of a text.
-use Rattle.std.proofs.Common.{◌≡◌, ℕ, ◌+◌, ◌≤◌, ◌-◌, List, [], ◌∷◌, ◌++◌, Ok, length, take, drop, get_or, add-zero, Some, sym, ◌∙◌, ap, subst, arith, drop_at, length-append, take-append-drop}
+use Rattle.std.proofs.Common.{◌≡◌, ℕ, ◌+◌, ◌-◌, List, [], ◌∷◌, ◌++◌, Ok, length, take, drop, get_or, add-zero, Some, sym, ◌∙◌, ap, subst, arith, drop_at, length-append, take-append-drop}
 use Rattle.std.specs.Str.{IsUtf8, IsCharBoundary}
 use Rattle.std.proofs.lemmas.Str.{IsCharBoundary-start}
-use Rattle.std.proofs.lemmas.List.{drop-drop, get_or-drop}
+use Rattle.std.proofs.lemmas.List.{get_or-drop}
 use Rattle.std.specs.List.{prefix_len}
 use Rattle.constructs.specs.Pieces.{strip, split_first, run}
 use Rattle.constructs.proofs.Lengths.{left_same}
@@ -30,16 +30,6 @@ strip_suffix word text rest e = append_suffix text word rest (strip_sound word t
 
 pub first_suffix : (needle text body rest : List ℕ) → split_first needle text ≡ Some (body, rest) → IsSuffix text rest
 first_suffix needle text body rest e = append_suffix text (body ++ needle) rest (split_first_sound needle text body rest e).whole
-
--- of two suffixes the shorter one is one of the other
-pub suffix_between : (text longer shorter : List ℕ) → length longer ≤ length text → drop (length text - length longer) text ≡ longer
-    → drop (length text - length shorter) text ≡ shorter → length shorter ≤ length longer → IsSuffix longer shorter
-suffix_between text longer shorter within is is' less =
-    let n : (length text - length longer) + (length longer - length shorter) ≡ length text - length shorter = omega arith in
-    record {
-      shorter = less;
-      is = ap (drop (length longer - length shorter)) (sym is) ∙ drop-drop (length longer - length shorter) (length text - length longer) text ∙ ap (λ n. drop n text) n ∙ is';
-    }
 
 -- the first byte of a suffix
 suffix_byte : (text rest : List ℕ) → IsSuffix text rest → get_or text (length text - length rest) 0 ≡ get_or rest 0 0

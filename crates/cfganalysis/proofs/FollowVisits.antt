@@ -17,23 +17,6 @@ use Rattle.cfganalysis.specs.Inner.Waiting.{waits, Waits, NoneWaits}
 use Rattle.cfganalysis.proofs.Joins.{count_of-fewer, bit-no_bits, IsTable-no_bits, joins_bit}
 use Rattle.cfganalysis.specs.Follows.{AreFollows}
 
--- nothing is added for a symbol that is no rule
-pub nothing_after : (u : ℕ) (gives : ℕ → Type 0) (x : FollowSets) (waiting : List Bool) → PutsAfter (λ r t. (Rule r ≡ Token u) × gives t) x x waiting waiting
-nothing_after u gives x waiting = record {
-  firsts = refl;
-  shape = λ rows columns is. is;
-  bits = λ r t. ((λ h. inl h), (λ h. elim h [ inl i ↦ i | inr i ↦ absurd (not_token i.0) ]));
-  no_less = omega arith;
-  rules = refl;
-  kept = λ r h. h;
-  grown = λ r h. inl h;
-  more = λ r h. inl h;
-  reported = λ r t h. inl h;
-}
-  where
-    not_token : {r : ℕ} → Rule r ≡ Token u → ⊥
-    not_token e = cc
-
 module _ (q : ℕ) (gives : ℕ → Type 0) (old new : FollowSets) (changed : Bool) (waiting : List Bool) (w : Puts (λ r t. (r ≡ q) × gives t) old new changed) where
   bits_after : (r t : ℕ) → HasBit new.follows r t ↔ (HasBit old.follows r t ⊎ ((Rule r ≡ Rule q) × gives t))
   bits_after r t = (

@@ -1,11 +1,10 @@
 -- FOLLOW sets: the next tokens at a position of a production, and how they are gathered.
-use Rattle.std.proofs.Common.{◌≡◌, ◌↔◌, ℕ, ◌+◌, ◌<◌, ◌≤◌, ◌⊎◌, inl, inr, Bool, true, false, List, [], ◌∷◌, drop, get_or, slice_set, length, replicate, All, refl, sym, ap, ◌∙◌, subst, true≢false, length-set}
+use Rattle.std.proofs.Common.{◌≡◌, ◌↔◌, ℕ, ◌+◌, ◌≤◌, ◌⊎◌, inl, inr, Bool, true, false, List, [], ◌∷◌, drop, get_or, length, replicate, All, refl, sym, ap, ◌∙◌, subst, true≢false}
 use Rattle.std.proofs.lemmas.List.{drop_all, length-replicate}
 use Rattle.lemmas.proofs.Elements.{get_or-replicate_default}
 use Rattle.cfgindex.proofs.Bits.{length-union, union_adds}
 use Rattle.lemmas.proofs.Adding.{adds_as}
-use Rattle.search.proofs.Bits.{bit_put}
-use Rattle.derivation.specs.Grammar.{Sym, Rule, Token, Grammar, IsSymbolOf}
+use Rattle.derivation.specs.Grammar.{Sym, Rule, Grammar, IsSymbolOf}
 use Rattle.derivation.specs.FirstSets.{AreNullable, Begins}
 use Rattle.derivation.proofs.Firsts.{nullable_parts, nullable_both, begins_parts}
 use Rattle.cfgindex.specs.declared.idxnewtype.Symbol.{Symbol}
@@ -23,15 +22,6 @@ use Rattle.cfganalysis.proofs.FollowVisits.{after_grow}
 -- sets that contain all that others contain
 abbrev pub Grows : FollowSets → FollowSets → Type 0
 Grows x y = (r t : ℕ) → HasBit x.follows r t → HasBit y.follows r t
-
--- one token was turned on
-pub gathers_token : (x : FollowSets) (u : ℕ) (old new : List Bool) → u < length old → new ≡ slice_set old u true
-    → Gathers (BeginsList x (Token u ∷ [])) old new
-gathers_token x u old new lt put = record {
-  long = ap length put ∙ length-set old u true;
-  tokens = subst (λ l. (t : ℕ) → (IsGathered l t ↔ (IsGathered old t ⊎ (u ≡ t)))) (sym put)
-      (adds_as (λ t. u ≡ t) (λ t e. inr (sym e)) (λ t e. inr (sym e)) (bit_put old u lt));
-}
 
 -- a row was joined
 pub gathers_row : (gives : ℕ → Type 0) (row old new : List Bool) → length old ≡ length row → new ≡ joined old row

@@ -1,9 +1,9 @@
 -- Tables of bits: how wide they are, how many bits are on, and what joining adds.
-use Rattle.std.proofs.Common.{◌≡◌, ◌↔◌, ℕ, zero, suc, ◌-◌, ◌<◌, ◌≤◌, ◌⊎◌, inl, inr, Bool, true, false, List, [], ◌∷◌, sum_by, length, get_or, slice_set, MatchBool, IsTrue, arith, refl, sym, ap, ◌∙◌, subst, true≢false, length-set}
+use Rattle.std.proofs.Common.{◌≡◌, ◌↔◌, ℕ, zero, suc, ◌-◌, ◌<◌, ◌≤◌, ◌⊎◌, inl, Bool, true, false, List, [], ◌∷◌, sum_by, length, get_or, slice_set, MatchBool, IsTrue, arith, refl, sym, ap, ◌∙◌, subst, length-set}
 use Rattle.std.proofs.lemmas.List.{set-get_or, length-replicate}
 use Rattle.std.proofs.lemmas.List.Sums.{sum_by-cons, sum_by-set}
 use Rattle.std.proofs.lemmas.List.Elements.{All-get_or, All-replicate, All-set}
-use Rattle.lemmas.proofs.Adding.{adds_as, set_adds}
+use Rattle.lemmas.proofs.Adding.{set_adds}
 use Rattle.lemmas.proofs.Elements.{get_or-replicate_default}
 use Rattle.cfgindex.proofs.Bits.{length-union, union_adds}
 use Rattle.search.proofs.Bits.{bit_put, bits_on-fewer, bits_on-less, bits_on-set}
@@ -69,19 +69,6 @@ joins_list x row b now changed within wide put grew = joins_row x row now (λ k.
 
     adds : (k : ℕ) → IsTrue (get_or now k false) ↔ (HasBit x row k ⊎ IsTrue (get_or b k false))
     adds = subst (λ l. (k : ℕ) → IsTrue (get_or l k false) ↔ (HasBit x row k ⊎ IsTrue (get_or b k false))) (sym put) (union_adds (row_of x row) b wide)
-
-pub joins_none : (gives : ℕ → ℕ → Type 0) (x : Table) → ((r k : ℕ) → gives r k → HasBit x r k) → Joins gives x x false
-joins_none gives x had = record {
-  shape = λ rows columns is. is;
-  bits = λ r k. (λ h. inl h, λ h. elim h [ inl i ↦ i | inr i ↦ had r k i ]);
-  more = λ e. absurd (true≢false (sym e));
-  same = λ e. refl;
-}
-
-pub joins_as : (gives gives' : ℕ → ℕ → Type 0) (old new : Table) (changed : Bool)
-    → ((r k : ℕ) → gives r k → HasBit old r k ⊎ gives' r k) → ((r k : ℕ) → gives' r k → HasBit old r k ⊎ gives r k)
-    → Joins gives old new changed → Joins gives' old new changed
-joins_as gives gives' old new changed to from w = record { shape = w.shape; bits = λ r. adds_as (gives' r) (to r) (from r) (w.bits r); more = w.more; same = w.same }
 
 -- a bit was set
 pub joins_bit : (rows columns : ℕ) (x : Table) (row column : ℕ) (changed : Bool) → IsTable rows columns x → row < rows → column < columns

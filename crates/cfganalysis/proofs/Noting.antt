@@ -5,7 +5,7 @@ use Rattle.std.proofs.lemmas.List.{take_all}
 use Rattle.lemmas.proofs.Adding.{adds_as, adds_then}
 use Rattle.lemmas.proofs.Elements.{get_or-set}
 use Rattle.lemmas.proofs.Taken.{contains_taken}
-use Rattle.derivation.specs.Grammar.{Sym, Rule, Token}
+use Rattle.derivation.specs.Grammar.{Sym, Rule}
 use Rattle.cfganalysis.specs.Inner.Waiting.{Waits, NoneWaits, WaitsNoMore}
 use Rattle.cfganalysis.specs.Inner.Work.{dependents_of, Notes, DependsOnGrown, Queues}
 
@@ -85,12 +85,6 @@ module _ (dependents : List (List ℕ)) (grown : List Bool) where
       ]),
     );
   }
-
-pub notes_token : (p u : ℕ) (x : List (List ℕ)) → Notes p (λ r. Rule r ≡ Token u) x x
-notes_token p u x = notes_none p _ x (λ r e. not_token r e)
-  where
-    not_token : (r : ℕ) → Rule r ≡ Token u → ⊥
-    not_token r e = cc
 
 pub notes_rule : (p q : ℕ) (old new : List (List ℕ)) → Notes p (λ r. r ≡ q) old new → Notes p (λ r. Rule r ≡ Rule q) old new
 notes_rule p q old new w = notes_as p _ _ old new (λ r e. ap Rule e) (λ r e. cc) w

@@ -2,21 +2,12 @@
 use Rattle.std.proofs.Common.{◌≡◌, ℕ, ◌<◌, List, Contains, All, length, refl, sym, ap, ◌∙◌, subst}
 use Rattle.std.proofs.lemmas.List.{get_or_default}
 use Rattle.std.proofs.lemmas.List.Elements.{All-get_or, Contains-get_or}
-use Rattle.derivation.specs.Grammar.{Sym, Rule, Token, Grammar, Production, IsGrammar, IsSymbolOf, HasProduction}
+use Rattle.derivation.specs.Grammar.{Sym, Rule, Grammar, Production, IsGrammar, IsSymbolOf, HasProduction}
 use Rattle.derivation.specs.Path.{Refers, Path, one, more}
 use Rattle.search.specs.Reachable.{FoundBy, Reachable, Reaches, SearchState, led, seed}
-use Rattle.search.proofs.Reaching.{reaches_as, reaches_known}
+use Rattle.search.proofs.Reaching.{reaches_as}
 use Rattle.cfgtables.specs.Openings.{nth_production, ArePositionsOf}
 use Rattle.cfganalysis.specs.Paths.{ProductionRefersAt}
-
-pub reaches_no_token : (u : ℕ) (x : SearchState) → Reaches (λ r. Rule r ≡ Token u) x x
-reaches_no_token u x = reaches_known _ x (λ r e. absurd (not_token r e))
-  where
-    not_token : (r : ℕ) → Rule r ≡ Token u → ⊥
-    not_token r e = cc
-
-pub reaches_the_rule : (q : ℕ) (old new : SearchState) → Reaches (λ r. r ≡ q) old new → Reaches (λ r. Rule r ≡ Rule q) old new
-reaches_the_rule q old new w = reaches_as _ _ old new (λ r e. ap Rule e) (λ r e. cc) w
 
 -- the symbols of a production are symbols of the grammar
 pub symbols_there : (g : Grammar) (p : ℕ) (symbols : List Sym) → IsGrammar g → p < length g.productions

@@ -5,7 +5,7 @@ use Rattle.std.proofs.lemmas.List.{length_push, set-get_or, set-set}
 use Rattle.std.proofs.lemmas.List.Sorted.{length_permutation, sum_by-IsPermutation}
 use Rattle.std.proofs.lemmas.List.Sums.{sum_by-cons, sum_by_push, sum_by-set, count_by-le-length}
 use Rattle.std.proofs.lemmas.Option.{get_or_from_slice_get}
-use Rattle.lemmas.proofs.Elements.{get_or-replicate_default, within_from_get_or, set-slice_get}
+use Rattle.lemmas.proofs.Elements.{within_from_get_or, set-slice_get}
 use Rattle.std.specs.List.Sorted.{IsPermutation}
 use Rattle.cfganalysis.specs.Table.{bits_on}
 use Rattle.cfganalysis.specs.Inner.Waiting.{waits, Waits, NoneWaits, IsStack}
@@ -37,12 +37,6 @@ turned x n m lt off = elim (cases_eq m n) [
       ap (λ b. cond b 1 0) (get_or-set_other x n m true false ne) in
       omega (arith, other, same)
 ]
-
-pub stack_none : (bound : ℕ) → IsStack (replicate bound false) []
-stack_none bound = record {
-  once = λ n. sym (ap (λ b. cond b 1 0) (get_or-replicate_default bound n false));
-  together = sym (bits_on-none bound);
-}
 
 module _ (x : List Bool) (stack : List ℕ) (is : IsStack x stack) where
   -- if a number doesn't wait, there is room for it

@@ -1,8 +1,8 @@
 -- Lists of steps stay in order as steps are put at their ends.
-use Rattle.std.proofs.Common.{ℕ, suc, inl, inr, List, [], ◌∷◌, ◌++◌, Contains, get_or, slice_set, replicate, arith, refl, sym, subst}
+use Rattle.std.proofs.Common.{ℕ, suc, inl, inr, List, [], ◌∷◌, ◌++◌, Contains, get_or, slice_set, arith, refl, sym, subst}
 use Rattle.std.proofs.lemmas.List.Elements.{Contains-push_cases}
 use Rattle.lemmas.proofs.Contained.{contains_none}
-use Rattle.lemmas.proofs.Elements.{get_or-replicate_default, get_or-set}
+use Rattle.lemmas.proofs.Elements.{get_or-set}
 use Rattle.cfgcycles.specs.declared.step_paths.UnitStep.{UnitStep}
 use Rattle.cfgcycles.specs.StepLists.{AreAllInOrder, AreInOrder, HasStep, IsEarlier}
 
@@ -30,6 +30,3 @@ put_last old rule step order earlier a = elim (get_or-set old rule a (get_or old
   | inl e ↦ subst AreInOrder (sym e) (order a)
   | inr e ↦ subst AreInOrder (sym e.1) (one_more (get_or old rule []) step (order rule) earlier)
 ]
-
-pub none_in_order : (rules : ℕ) → AreAllInOrder (replicate rules [])
-none_in_order rules a = subst AreInOrder (sym (get_or-replicate_default rules a [])) tt

@@ -105,8 +105,3 @@ module _ {K U V : Type 0} (cmp : K → K → Ordering) (total : IsTotalOrder cmp
         let same : expected now.behavior (entry_at cmp now k) x ≡ expected mine.behavior (entry_at cmp mine k) x =
         ap (λ b. expected b (entry_at cmp now k) x) at_key.so_far.0 ∙ ap (λ o. expected mine.behavior o x) still_mine in
         λ u wants. callable k x theirs_here u (sym same ∙ wants)
-
--- what may be done with any value may be done with those values
-pub always_callable : {K U V : Type 0} (cmp : K → K → Ordering) (may_convert : U → Type 0) (mine : Marks K V) (theirs : Marks K U) → ((u : U) → may_convert u)
-    → CallableOnExpected cmp may_convert mine theirs
-always_callable cmp may_convert mine theirs always q x found u wants = always u

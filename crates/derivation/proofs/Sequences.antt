@@ -1,6 +1,6 @@
 -- Lists of the code, seen through a function that shows their elements.
-use Rattle.std.proofs.Common.{◌≡◌, ℕ, suc, slice_set, ◌+◌, ◌<◌, ◌≤◌, List, ◌∷◌, length, map, take, drop, get_or, All, sym, ap, subst, ◌∙◌, add-one, drop-cons}
-use Rattle.std.proofs.lemmas.List.{get_or-map, map-set, length-map, take_all}
+use Rattle.std.proofs.Common.{◌≡◌, ℕ, suc, ◌+◌, ◌<◌, ◌≤◌, List, ◌∷◌, length, map, take, drop, get_or, All, sym, ap, subst, ◌∙◌, add-one, drop-cons}
+use Rattle.std.proofs.lemmas.List.{get_or-map, length-map, take_all}
 use Rattle.std.proofs.lemmas.List.Elements.{All-more, All-get_or}
 
 module _ {A B : Type 0} (f : A → B) (xs : List A) where
@@ -28,6 +28,3 @@ pub item_shown : {A B : Type 0} (f : A → B) (xs : List A) (ys : List B) (i : �
     → get_or ys i d ≡ f x
 item_shown f xs ys i x d shown within is = ap (λ l. get_or l i d) (sym shown)
     ∙ get_or-map f xs i x d (subst (λ n. i < n) (sym (ap length shown) ∙ length-map xs f) within) ∙ ap f (sym is)
-
-pub set_shown : {A B : Type 0} (f : A → B) (xs : List A) (ys : List B) (i : ℕ) (x : A) → map f xs ≡ ys → map f (slice_set xs i x) ≡ slice_set ys i (f x)
-set_shown f xs ys i x shown = map-set f xs i x ∙ ap (λ l. slice_set l i (f x)) shown

@@ -35,11 +35,6 @@ sum_of-append costs [] b = sym (zero_plus (sum_of costs b))
 sum_of-append costs (s ∷ a) b =
     ap (plus (costs s)) (sum_of-append costs a b) ∙ sym (plus_assoc (costs s) (sum_of costs a) (sum_of costs b))
 
--- symbols that cost the same by two tables have one sum
-pub sum_of-same : (f g : Sym → Option ℕ) → ((s : Sym) → f s ≡ g s) → (a : List Sym) → sum_of f a ≡ sum_of g a
-sum_of-same f g same [] = refl
-sum_of-same f g same (s ∷ a) = ap (λ o. plus o (sum_of f a)) (same s) ∙ ap (plus (g s)) (sum_of-same f g same a)
-
 -- a single symbol costs what it costs in a list of its own
 pub plus_zero : (a : Option ℕ) → plus a (Some 0) ≡ a
 plus_zero None = refl

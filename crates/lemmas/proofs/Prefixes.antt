@@ -1,6 +1,5 @@
 -- Elements with the prefix of the list before each.
-use Rattle.std.proofs.Common.{◌≡◌, Bool, ◌||◌, List, [], ◌∷◌, ◌++◌, All, refl, sym, ap, ◌∙◌, append_assoc, append-nil}
-use Rattle.std.specs.List.{list_any}
+use Rattle.std.proofs.Common.{◌≡◌, List, [], ◌∷◌, ◌++◌, All, sym, ap, ◌∙◌, append_assoc, append-nil}
 use Rattle.std.proofs.lemmas.List.Elements.{All-nil, All-cons, All-head, All-tail}
 use Rattle.lemmas.specs.Lists.{with_prefixes, with_prefixes_from}
 
@@ -12,13 +11,6 @@ with_prefixes-push {A} xs x = go [] xs
     go prefix (y ∷ rest) =
         ap (λ t. (prefix, y) ∷ t) (go (prefix ++ y ∷ []) rest
         ∙ ap (λ t. with_prefixes_from (prefix ++ y ∷ []) rest ++ (t, x) ∷ []) (append_assoc prefix (y ∷ []) rest))
-
-pub list_any-with_prefixes : {A : Type 0} (p : A → Bool) (xs : List A) → list_any (λ x. p x.1) (with_prefixes xs) ≡ list_any p xs
-list_any-with_prefixes {A} p xs = go [] xs
-  where
-    go : (prefix rest : List A) → list_any (λ x. p x.1) (with_prefixes_from prefix rest) ≡ list_any p rest
-    go prefix [] = refl
-    go prefix (y ∷ rest) = ap (λ t. p y || t) (go (prefix ++ y ∷ []) rest)
 
 -- of each element, whatever precedes it
 pub All-with_prefixes : {A : Type 0} (P : List A × A → Type 0) (Q : A → Type 0) → ((prefix : List A) (x : A) → Q x → P (prefix, x))

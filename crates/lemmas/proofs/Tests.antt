@@ -1,5 +1,5 @@
 -- Whether some element of a list passes a test.
-use Rattle.std.proofs.Common.{◌≡◌, ℕ, zero, suc, ◌<◌, Bool, true, false, ◌||◌, List, [], ◌∷◌, map, take, get_or, filter_map, Option, Some, None, refl, ap, ◌∙◌, arith}
+use Rattle.std.proofs.Common.{◌≡◌, Bool, true, false, ◌||◌, List, [], ◌∷◌, map, filter_map, Option, Some, None, refl, ap, ◌∙◌}
 use Rattle.std.specs.List.{list_any, cons_option}
 use Rattle.std.specs.Option.{option_map_or}
 use Rattle.std.proofs.lemmas.Bool.{or_right}
@@ -23,11 +23,3 @@ list_any_weaker {A} p q weaker (x ∷ xs) h = go (p x) refl h (list_any_weaker p
     go : (t : Bool) → p x ≡ t → (t || list_any p xs) ≡ true → (list_any p xs ≡ true → list_any q xs ≡ true) → (q x || list_any q xs) ≡ true
     go true e k rest = ap (λ t. t || list_any q xs) (weaker x e)
     go false e k rest = or_right (q x) _ (rest k)
-
--- none of the first i passes
-pub list_any-take_none : {A : Type 0} (p : A → Bool) (xs : List A) (i : ℕ) (d : A) → ((k : ℕ) → k < i → p (get_or xs k d) ≡ false) → list_any p (take i xs) ≡ false
-list_any-take_none p [] zero d fails = refl
-list_any-take_none p [] (suc i) d fails = refl
-list_any-take_none p (x ∷ xs) zero d fails = refl
-list_any-take_none p (x ∷ xs) (suc i) d fails =
-    ap (λ b. b || list_any p (take i xs)) (fails 0 (omega arith)) ∙ list_any-take_none p xs i d (λ k h. fails (suc k) (omega arith))
