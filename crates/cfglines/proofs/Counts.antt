@@ -1,11 +1,11 @@
 -- Counts of the characters that begin in a text, step by step.
-use Rattle.std.proofs.Common.{◌≡◌, ℕ, ◌+◌, ◌-◌, ◌*◌, ◌<◌, ◌≤◌, cond, List, [], ◌∷◌, ◌++◌, length, take, drop, get_or, count_by, min, ⊎_elim, length-append, length-drop, length-take, append-nil, below_more, ap, sym, refl, ◌∙◌, arith}
+use Rattle.std.proofs.Common.{◌≡◌, ℕ, ◌+◌, ◌-◌, ◌*◌, ◌<◌, ◌≤◌, cond, List, [], ◌∷◌, ◌++◌, length, take, drop, get_or, count_by, min, ⊎_elim, length-append, length-take, append-nil, below_more, ap, sym, refl, ◌∙◌, arith}
 use Rattle.std.proofs.Math.Seq.{drop-append_seam, take-add, take-append_seam}
 use Rattle.std.proofs.lemmas.Bool.{cases_lt}
 use Rattle.std.proofs.lemmas.List.{drop-drop, drop_all, take_all, get_or_append_left, get_or_push, length_push, nil_from_length}
 use Rattle.std.proofs.lemmas.List.Sums.{count_by-le-length, sum_by-append}
 use Rattle.std.specs.List.{slice_range}
-use Rattle.cfglines.specs.Characters.{IsOptimalByKind, begins_character, step}
+use Rattle.cfglines.specs.Characters.{begins_character, step}
 
 abbrev begun : List ℕ → ℕ
 begun bytes = count_by begins_character bytes
@@ -26,14 +26,6 @@ pub record CountedTo (text rest counts : List ℕ) (last : ℕ) : Type 0 where
   pub rest_is : rest ≡ drop ((length counts - 1) * step) text
   pub last_is : last ≡ count_by begins_character (take ((length counts - 1) * step) text)
   pub each : (k : ℕ) → k < length counts → get_or counts k 0 ≡ count_by begins_character (take (k * step) text)
-
-pub counted_first : (text : List ℕ) → CountedTo text text (0 ∷ []) 0
-counted_first text = record {
-  some = omega arith;
-  rest_is = refl;
-  last_is = refl;
-  each = λ k h. let first : k ≡ 0 = omega arith in rw first refl;
-}
 
 -- a piece is one step long, or the last
 piece_is : (piece rest left : List ℕ) → rest ≡ piece ++ left → length piece ≡ min step (length rest)
@@ -77,12 +69,3 @@ counted_more text rest counts last piece left counted parts size =
           (λ k h. get_or_append_left counts _ 0 k h ∙ counted.each k h)
           (get_or_push counts (last + begun piece) 0 (length counts) refl ∙ more));
     }
-
-pub counted_all : (text rest counts : List ℕ) (last : ℕ) → CountedTo text rest counts last → length rest ≡ 0 → IsOptimalByKind text counts
-counted_all text rest counts last counted none = record {
-  reach =
-      let some = counted.some in
-      let end : length (drop ((length counts - 1) * step) text) ≡ 0 = sym (ap length counted.rest_is) ∙ none in
-      omega (arith, length-drop ((length counts - 1) * step) text);
-  each = counted.each;
-}

@@ -5,3 +5,5 @@ pub mod Pieces
 pub mod Characters
 pub mod LinePrefixes
 pub mod Counts
+pub mod Found
+pub mod LongLines

@@ -1,6 +1,6 @@
 -- Where the lines of a text begin and end, by the offsets of its newlines.
-use Rattle.std.proofs.Common.{⊎_elim, subst, get_or-append-add, ◌≡◌, ℕ, suc, ◌+◌, ◌-◌, ◌<◌, ◌≤◌, Bool, true, false, not, cond, if◌then◌else◌, List, [], ◌∷◌, ◌++◌, map, length, take, drop, get_or, ◌∙◌, ap, refl, length-take, length-drop, append-nil, add-zero, append_assoc, arith}
-use Rattle.std.proofs.lemmas.List.{reverse-append, get_or_append_left, get_or_push, length_push, length-take-le, map_push, take_more}
+use Rattle.std.proofs.Common.{⊎_elim, subst, get_or-append-add, ◌≡◌, ℕ, suc, ◌+◌, ◌-◌, ◌<◌, ◌≤◌, Bool, true, false, not, cond, if◌then◌else◌, List, [], ◌∷◌, ◌++◌, map, length, take, drop, get_or, ◌∙◌, ap, refl, length-take, length-drop, append-nil, add-zero, arith}
+use Rattle.std.proofs.lemmas.List.{reverse-append, get_or_append_left, get_or_push, length_push, length-take-le, take_more}
 use Rattle.std.proofs.Math.ListN.{get_or-map}
 use Rattle.std.proofs.lemmas.List.Sums.{prefix_len-le-length, suffix_len-le-length}
 use Rattle.std.proofs.lemmas.Bool.{cases_Bool}
@@ -27,13 +27,6 @@ pub newlines_of-take_other : (text : List ℕ) (i : ℕ) → i < length text →
     → newlines_of (take (i + 1) text) ≡ newlines_of (take i text)
 newlines_of-take_other text i within other =
     rw (take_more text i 0 within, newlines_of-other (take i text) (get_or text i 0) other) refl
-
--- a text that begins at start adds its offsets to the old ones
-pub offsets_push : (positions old : List ℕ) (start : ℕ) (text : List ℕ) (i : ℕ) → i < length text → is_newline (get_or text i 0) ≡ true
-    → positions ≡ old ++ map (λ offset. start + offset) (newlines_of (take i text))
-    → positions ++ (start + i) ∷ [] ≡ old ++ map (λ offset. start + offset) (newlines_of (take (i + 1) text))
-offsets_push positions old start text i within newline so_far =
-    rw (newlines_of-take_newline text i within newline, map_push, so_far, append_assoc) refl
 
 abbrev pub is_other : ℕ → Bool
 is_other byte = not (is_newline byte)

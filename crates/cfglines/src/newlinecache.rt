@@ -1,6 +1,6 @@
 //! Where the lines of a text begin.
 
-ghost use Rattle.std.specs.Prelude.{◌≡◌, ◌+◌, ◌^◌, ◌<◌, ◌≤◌, ◌↔◌, ℕ, List, []};
+ghost use Rattle.std.specs.Prelude.{◌≡◌, ◌+◌, ◌^◌, ◌<◌, ◌≤◌, ◌↔◌, ℕ, List, [], IsTrue};
 ghost use Rattle.std.specs.Prelude.{◌++◌, map, length, take, Some, IfOk, OnOk, OnErr, IsErrOf, IsOkUnless, SomeIff};
 ghost use Rattle.std.specs.Iterator.{Drains, IsFinite};
 ghost use Rattle.std.specs.List.{after_last};
@@ -11,6 +11,7 @@ ghost use Rattle.cfglines.specs.Lines.{HasNewline, Kept, StandsFor, StopsAt, cha
 ghost use Rattle.cfglines.specs.Lines.{is_newline, joined, line_end, line_number, line_start, newlines_of};
 
 use cfgbase::Span;
+use memchr::memchr_iter;
 use std::alloc::{AllocError, Global};
 use std::error::Error;
 use std::fmt;
@@ -190,6 +191,23 @@ impl NewlineCache {
             None => 0,
         }
     }
+
+    /// Whether some line has more than this many bytes, its newline not counted.
+    pub(crate) fn has_line_longer_than(&self, bytes: usize) -> bool
+        ensures { (text : List ℕ) → StandsFor self.now text
+            → (IsTrue result ↔ ((byte : ℕ) × (byte ≤ length text) × (line_start text byte + bytes < byte))) }
+    {
+        let end = self.len;
+        let mut start = 0;
+        // No line ends before its start: nothing saturates, and no proof of that is needed.
+        for newline in &self.newlines {
+            if newline.saturating_sub(start) > bytes {
+                return true;
+            }
+            start = *newline + 1;
+        }
+        end.saturating_sub(start) > bytes
+    }
 }
 
 /// Adds the offsets of the text's newlines, if the text begins at `start`.
@@ -201,11 +219,7 @@ fn add_newlines(newlines: &mut Vec<usize>, start: usize, text: &str) -> Result<(
     ensures grows { OnErr result (HasNewline text.now) }
 {
     let known = newlines.len();
-    let bytes = text.as_bytes();
-    for (offset, byte) in bytes.iter().enumerate() {
-        if *byte != b'\n' {
-            continue;
-        }
+    for offset in memchr_iter(b'\n', text.as_bytes()) {
         if let Err(refused) = newlines.push(start + offset) {
             newlines.truncate(known);
             return Err(AllocError::from(refused));

@@ -14,17 +14,19 @@ use std::marker::Model;
 /// How many bytes are between two counts.
 const STEP: usize = 256;
 
-/// A text with the offsets of its newlines, and a count of the characters before each `STEP`th byte. So finding the
-/// column of an offset takes no longer than in a short text, however long its line is.
+/// A text with the offsets of its newlines and, if a line is longer than `STEP` bytes, a count of the characters before
+/// each `STEP`th byte. So finding the column of an offset takes no longer than in a short text, however long its line
+/// is.
 #[derive(Drop)]
 pub struct Positions<'a> {
     text: &'a str,
     lines: NewlineCache,
-    counts: Vec<usize>,
+    /// `None` if no line is longer than `STEP` bytes: characters of a short line are counted when they are needed.
+    counts: Option<Vec<usize>>,
 }
 
 impl<'a> Model for Positions<'a> {
-    ghost use Rattle.std.specs.Prelude.{List, ℕ};
+    ghost use Rattle.std.specs.Prelude.{IfSome, List, ℕ};
     ghost use Rattle.std.specs.Str.{IsUtf8};
     ghost use Rattle.cfglines.specs.Characters.{IsOptimalByKind};
     ghost use Rattle.cfglines.specs.Lines.{StandsFor};
@@ -34,7 +36,7 @@ impl<'a> Model for Positions<'a> {
     ghost view = { λ positions. positions.text.now };
 
     ghost invariant = { λ positions. IsUtf8 positions.text.now × StandsFor positions.lines positions.text.now
-        × IsOptimalByKind positions.text.now positions.counts.items };
+        × IfSome positions.counts (λ counts. IsOptimalByKind positions.text.now counts.items) };
 }
 
 impl<'a> Positions<'a> {
@@ -51,7 +53,11 @@ impl<'a> Positions<'a> {
             Err(FeedError::OutOfMemory) => return Err(AllocError),
             Err(FeedError::TooLong) => unreachable!(),
         };
-        let counts = counts_of(alloc, text.as_bytes())?;
+        let counts = if lines.has_line_longer_than(STEP) {
+            Some(counts_of(alloc, text.as_bytes())?)
+        } else {
+            None
+        };
         Ok(Positions {
             text,
             lines,
@@ -110,27 +116,32 @@ impl<'a> Positions<'a> {
     }
 
     /// How many characters begin at the first byte or after it, but before the second. Most are so close to each other
-    /// that their own bytes take less time than those from the last counts on.
+    /// that their own bytes take less time than those from the last counts on. Only a long line can have others, and
+    /// then there are counts.
     fn begun_between(&self, start: usize, end: usize) -> usize
         requires order { start ≤ end }
         requires within { end ≤ length self.now }
         ensures { result ≡ count_by begins_character (slice_range self.now start end) }
     {
-        if end - start <= STEP {
-            begun_in(&self.text.as_bytes()[start..end])
-        } else {
-            self.begun_before(end) - self.begun_before(start)
+        let text = self.text.as_bytes();
+        match &self.counts {
+            Some(counts) if end - start > STEP => {
+                let before = begun_before(text, counts, start);
+                begun_before(text, counts, end) - before
+            }
+            _ => begun_in(&text[start..end]),
         }
     }
+}
 
-    /// How many characters begin before the byte.
-    fn begun_before(&self, byte: usize) -> usize
-        requires { byte ≤ length self.now }
-        ensures { result ≡ count_by begins_character (take byte self.now) }
-    {
-        let step = byte / STEP;
-        self.counts[step] + begun_in(&self.text.as_bytes()[step * STEP..byte])
-    }
+/// How many characters begin before the byte, by the counts of the text.
+fn begun_before(text: &[u8], counts: &[usize], byte: usize) -> usize
+    requires counted { IsOptimalByKind text.now counts.now }
+    requires within { byte ≤ length text.now }
+    ensures { result ≡ count_by begins_character (take byte text.now) }
+{
+    let step = byte / STEP;
+    counts[step] + begun_in(&text[step * STEP..byte])
 }
 
 /// How many characters begin before each `STEP`th byte, and how many the text has.
