@@ -1,22 +1,21 @@
 -- The loops over the parts of a production.
-use Rattle.std.proofs.Common.{◌≡◌, ℕ, ◌≤◌, List, [], ◌∷◌, ◌++◌, filter_map, length, Option, Some, None, Ok, option_map, refl, sym, ap, subst, ◌∙◌, arith, append-nil, append_assoc, length-append, ◌<◌}
+use Rattle.std.proofs.Common.{◌≡◌, ℕ, ◌≤◌, Bool, true, false, List, [], ◌∷◌, ◌++◌, filter_map, length, Option, Some, None, Ok, option_map, refl, sym, ap, subst, ◌∙◌, arith, append-nil, append_assoc, length-append, ◌<◌}
 use Rattle.std.specs.Prelude.{IfSome}
 use Rattle.std.specs.Option.{option_or}
 use Rattle.std.proofs.lemmas.List.Elements.{filter_map-append}
 use Rattle.lemmas.proofs.Elements.{slice_get_push}
-use Rattle.constructs.specs.Steps.{Fails}
+use Rattle.constructs.specs.Construct.{computes, many}
 use Rattle.constructs.proofs.Agree.{leaves}
 use Rattle.constructs.proofs.Steps.{Gathers, gathers_start, gathers_on, turn_shorter, many_done, many_stops, returns_then, stops_then}
 use Rattle.cfgwords.specs.FileWords.{Token}
 use Rattle.cfgwords.specs.Text.{offset_of}
 use Rattle.cfgitems.specs.Syntax.{last_of}
-use Rattle.cfgreader.specs.declared.bodies.Part.{Part as CodePart}
 use Rattle.cfgreader.specs.declared.bodies.Parts.{Parts as CodeParts}
 use Rattle.cfgreader.specs.declared.reader.Reader.{Reader}
 use Rattle.cfgreader.specs.declared.reader.ReadFault.{ReadFault}
 use Rattle.cfgreader.specs.Here.{Turn}
 use Rattle.cfgreader.specs.Rules.{Part, Parts, part_end, precedence_in, parts_sequence, symbol_in, with_parts}
-use Rattle.cfgreader.specs.Inner.Builds.{Builds, fault_of, file_reader, part_view, parts_view}
+use Rattle.cfgreader.specs.Inner.Builds.{AddsPart, Builds, Fails, fault_of, file_reader, parts_view}
 
 -- the last of a list after a push
 last_of-push : {A : Type 0} (xs : List A) (x : A) → last_of (xs ++ x ∷ []) ≡ Some x
@@ -54,35 +53,32 @@ parts_start c before start parts same = record {
 }
 
 module _ (c : ℕ → Turn Part) (before : Parts) (start now : Reader) (parts : CodeParts) (so_far : InParts c before start now parts) (next : Reader) where
-  pub parts_on : (more : CodeParts) (turn : Option CodePart) (x : CodePart) → Builds (option_map part_view) now next (Ok turn) (c now.len) → turn ≡ Some x
-      → IfSome turn (λ x. offset_of now.len now.rest.now ≤ part_end (part_view x)) → parts_view more ≡ with_parts (parts_view parts) (part_view x ∷ []) → InParts c before start next more
+  pub parts_on : (more : CodeParts) → AddsPart now next parts more (Ok true) (c now.len) → InParts c before start next more
   unfolding gathers_on
-  parts_on more turn x builds is after added =
-      let gave = ap (option_map part_view) is in
-      let less = turn_shorter file_reader c (option_map part_view) now next turn (part_view x) builds gave in
-      let beyond : offset_of now.len now.rest.now ≤ part_end (part_view x) = subst (λ o. IfSome o (λ x. offset_of now.len now.rest.now ≤ part_end (part_view x))) is after in
+  parts_on more (part, builds, added, beyond) =
+      let less = turn_shorter file_reader c (λ (_ : Bool). Some part) now next true part builds refl in
       let further : offset_of start.len start.rest.now ≤ offset_of now.len now.rest.now = omega (arith, so_far.shorter, so_far.gathers.fixed) in
-      let ended : more.end ≡ Some (part_end (part_view x)) = ap (λ (p : Parts). p.end) added in
+      let ended : more.end ≡ Some (part_end part) = ap (λ (p : Parts). p.end) added in
       record {
-        gathers = gathers_on so_far.gathers next (option_map part_view) turn builds (part_view x) gave;
-        values = added ∙ ap (λ (p : Parts). with_parts p (part_view x ∷ [])) so_far.values ∙ sym (with_push before so_far.gathers.values (part_view x));
+        gathers = gathers_on so_far.gathers next (λ (_ : Bool). Some part) true builds part refl;
+        values = added ∙ ap (λ (p : Parts). with_parts p (part ∷ [])) so_far.values ∙ sym (with_push before so_far.gathers.values part);
         shorter = omega (arith, so_far.shorter, less);
         ends = λ from here before_ends. subst (λ o. IfSome o (λ end. from ≤ end)) (sym ended) (omega (arith, here, further, beyond));
       }
 
-  pub parts_smaller : (turn : Option CodePart) (x : CodePart) → Builds (option_map part_view) now next (Ok turn) (c now.len) → turn ≡ Some x → length next.rest.now < length now.rest.now
-  parts_smaller turn x builds is = turn_shorter file_reader c (option_map part_view) now next turn (part_view x) builds (ap (option_map part_view) is)
+  pub parts_smaller : (more : CodeParts) → AddsPart now next parts more (Ok true) (c now.len) → length next.rest.now < length now.rest.now
+  parts_smaller more (part, builds, added, beyond) = turn_shorter file_reader c (λ (_ : Bool). Some part) now next true part builds refl
 
-  pub parts_done : (turn : Option CodePart) → Builds (option_map part_view) now next (Ok turn) (c now.len) → turn ≡ None → Builds (λ (x : Unit {0}). parts_view parts) start next (Ok tt) (parts_sequence (c start.len) before)
+  pub parts_done : (last : CodeParts) → AddsPart now next parts last (Ok false) (c now.len) → Builds (λ (x : Unit {0}). parts_view last) start next (Ok tt) (parts_sequence (c start.len) before)
   unfolding parts_sequence
-  parts_done turn builds is =
-      let sequence = many_done so_far.gathers next (option_map part_view) turn builds (λ (x : Unit {0}). so_far.gathers.values) tt refl (ap (option_map part_view) is) in
-      let reported = returns_then file_reader (with_parts before) start next _ (λ (x : Unit {0}). so_far.gathers.values) (Ok tt) sequence in
-      (reported.0 ∙ ap (λ p. Ok (p, next.rest.now)) (sym so_far.values), reported.1, reported.2)
+  parts_done last (builds, same) =
+      let sequence = many_done so_far.gathers next (λ (_ : Bool). None) false builds (λ (x : Unit {0}). so_far.gathers.values) tt refl refl in
+      let reported = returns_then file_reader (with_parts before) start next (computes (many (c start.len)) start.rest.now) (λ (x : Unit {0}). so_far.gathers.values) (Ok tt) sequence in
+      (reported.0 ∙ ap (λ p. Ok (p, next.rest.now)) (sym (ap parts_view same ∙ so_far.values)), reported.1, reported.2)
 
-  pub parts_fail : (e : ReadFault) → Fails file_reader now next e (c now.len) → Fails file_reader start next e (parts_sequence (c start.len) before)
+  pub parts_fail : (e : ReadFault) → Fails now next e (c now.len) → Fails start next e (parts_sequence (c start.len) before)
   unfolding parts_sequence
   parts_fail e fails = stops_then file_reader (with_parts before) start next _ (fault_of e) (many_stops so_far.gathers next (fault_of e) fails)
 
-  pub parts_shorter : (turn : Option CodePart) → Builds (option_map part_view) now next (Ok turn) (c now.len) → length next.rest.now ≤ length start.rest.now
-  parts_shorter turn builds = omega (arith, so_far.shorter, (leaves (c now.len)).least now.rest.now _ _ builds.0)
+  pub parts_shorter : (last : CodeParts) → AddsPart now next parts last (Ok false) (c now.len) → length next.rest.now ≤ length start.rest.now
+  parts_shorter last (builds, same) = omega (arith, so_far.shorter, (leaves (c now.len)).least now.rest.now _ _ builds.0)

@@ -1,11 +1,11 @@
 //! The parts of a production: its symbols, `%prec` and `%empty`.
 
-ghost use Rattle.std.specs.Prelude.{◌≡◌, ◌≤◌, ℕ, [], ◌∷◌, IfOk, IfSome, OnOk, length, option_map};
+ghost use Rattle.std.specs.Prelude.{◌≡◌, ◌≤◌, ℕ, [], ◌∷◌, IfSome, OnOk, length};
 ghost use Rattle.constructs.specs.Construct.{again, then};
 ghost use Rattle.cfgwords.specs.Text.{offset_of};
 ghost use Rattle.cfgreader.specs.Inner.Builds.{part_view, parts_view};
 ghost use Rattle.cfgreader.specs.Rules.{empty, prefix_part, prefix_parts, may_follow_empty, more_parts, no_parts};
-ghost use Rattle.cfgreader.specs.Rules.{part, part_end, precedence, symbol_part, with_parts};
+ghost use Rattle.cfgreader.specs.Rules.{part, precedence, symbol_part, with_parts};
 
 use super::reader::{ReadFault, Reader};
 use cfgwords::fault::FaultKind;
@@ -79,20 +79,19 @@ impl<'a> Parts<'a> {
 }
 
 impl<'a> Reader<'a> {
-    ghost use Rattle.cfgreader.specs.Inner.Builds.{Builds};
+    ghost use Rattle.cfgreader.specs.Inner.Builds.{Builds, AddsPart};
 
-    /// Passes what follows `%prec`.
+    /// Passes what follows `%prec`, and adds the token.
     #[tactic(auto, unfolding(crate::specs::Rules::precedence))]
-    fn precedence(&mut self) -> Result<Option<Part<'a>>, ReadFault>
-        ensures read { Builds (option_map part_view) self.old self.new result (then (precedence self.old.len) again) }
-        ensures after { IfOk result (λ part. IfSome part
-            (λ part. offset_of self.old.len self.old.rest.now ≤ part_end (part_view part))) }
+    fn precedence(&mut self, parts: &mut Parts<'a>) -> Result<bool, ReadFault>
+        ensures { AddsPart self.old self.new parts.old parts.new result (then (precedence self.old.len) again) }
     {
         self.blank(true)?;
         let token = self.token()?;
         self.tree.use_precedence(self.alloc, token.word())?;
         self.blank(true)?;
-        Ok(Some(Part::Precedence(token)))
+        parts.add(Part::Precedence(token))?;
+        Ok(true)
     }
 
     /// Whether the text begins with `|`, `;`, an action or `%prec`.
@@ -102,74 +101,70 @@ impl<'a> Reader<'a> {
         matches!(self.rest.as_bytes(), [b'|' | b';' | b'{', ..]) || self.holds("%prec")
     }
 
-    /// Passes the blank after the `%empty` that begins at `text`.
+    /// Passes the blank after the `%empty` that begins at `text`, and adds the `%empty`.
     #[tactic(auto, unfolding(crate::specs::Rules::empty))]
-    fn empty(&mut self, text: &'a str) -> Result<Option<Part<'a>>, ReadFault>
-        ensures read { Builds (option_map part_view) self.old self.new result
-            (then (empty self.old.len text.now) again) }
-        ensures after { IfOk result (λ part. IfSome part
-            (λ part. offset_of self.old.len self.old.rest.now ≤ part_end (part_view part))) }
+    fn empty(&mut self, parts: &mut Parts<'a>, text: &'a str) -> Result<bool, ReadFault>
+        ensures { AddsPart self.old self.new parts.old parts.new result (then (empty self.old.len text.now) again) }
     {
         let end = self.offset();
         self.blank(true)?;
         if self.may_follow_empty() {
-            Ok(Some(Part::Nullable(end)))
+            parts.add(Part::Nullable(end))?;
+            Ok(true)
         } else {
             Err(self.fault_at(FaultKind::NonEmptyProduction, text))
         }
     }
 
-    /// Passes a part of a production before its first symbol, if there is one here.
+    /// Passes and adds a part of a production before its first symbol, if there is one here, and returns whether there
+    /// is.
     #[tactic(auto, unfolding(crate::specs::Rules::prefix_part))]
-    fn prefix_part(&mut self) -> Result<Option<Part<'a>>, ReadFault>
-        ensures read { Builds (option_map part_view) self.old self.new result (prefix_part self.old.len) }
-        ensures after { IfOk result (λ part. IfSome part
-            (λ part. offset_of self.old.len self.old.rest.now ≤ part_end (part_view part))) }
+    fn prefix_part(&mut self, parts: &mut Parts<'a>) -> Result<bool, ReadFault>
+        ensures { AddsPart self.old self.new parts.old parts.new result (prefix_part self.old.len) }
     {
         let text = self.rest;
         if self.accept("%prec") {
-            self.precedence()
+            self.precedence(parts)
         } else if self.accept("%empty") {
-            self.empty(text)
+            self.empty(parts, text)
         } else {
-            Ok(None)
+            Ok(false)
         }
     }
 
-    /// Passes a symbol, if there is one here, and the blank after it; notes a quoted token.
+    /// Passes and adds a symbol, if there is one here, and passes the blank after it; notes a quoted token. Returns
+    /// whether there is one.
     #[tactic(auto, unfolding(crate::specs::Rules::symbol_part))]
-    fn symbol(&mut self) -> Result<Option<Part<'a>>, ReadFault>
-        ensures read { Builds (option_map part_view) self.old self.new result (symbol_part self.old.len) }
-        ensures after { IfOk result (λ part. IfSome part
-            (λ part. offset_of self.old.len self.old.rest.now ≤ part_end (part_view part))) }
+    fn symbol(&mut self, parts: &mut Parts<'a>) -> Result<bool, ReadFault>
+        ensures { AddsPart self.old self.new parts.old parts.new result (symbol_part self.old.len) }
     {
         match self.next_token() {
             Some(token) => {
+                parts.add(Part::Symbol(token))?;
                 self.blank(true)?;
                 if token.quoted {
                     self.tree.quote_token(self.alloc, token.word())?;
                 }
-                Ok(Some(Part::Symbol(token)))
+                Ok(true)
             }
-            None => Ok(None),
+            None => Ok(false),
         }
     }
 
-    /// Passes a part of a production from its first symbol on, if there is one here. An `%empty` is a fault here.
+    /// Passes and adds a part of a production from its first symbol on, if there is one here, and returns whether there
+    /// is. An `%empty` is a fault here.
     #[tactic(auto, unfolding(crate::specs::Rules::part, crate::specs::Rules::misplaced_empty))]
-    fn later_part(&mut self) -> Result<Option<Part<'a>>, ReadFault>
-        ensures read { Builds (option_map part_view) self.old self.new result (part self.old.len) }
-        ensures after { IfOk result (λ part. IfSome part
-            (λ part. offset_of self.old.len self.old.rest.now ≤ part_end (part_view part))) }
+    fn later_part(&mut self, parts: &mut Parts<'a>) -> Result<bool, ReadFault>
+        ensures { AddsPart self.old self.new parts.old parts.new result (part self.old.len) }
     {
         let text = self.rest;
         if self.accept("%prec") {
-            self.precedence()
+            self.precedence(parts)
         } else if self.accept("%empty") {
             self.blank(true)?;
             Err(self.fault_at(FaultKind::NonEmptyProduction, text))
         } else {
-            self.symbol()
+            self.symbol(parts)
         }
     }
 
@@ -181,9 +176,7 @@ impl<'a> Reader<'a> {
         ensures shorter { OnOk result (length self.new.rest.now ≤ length self.old.rest.now) }
     {
         parts.clear();
-        while let Some(part) = self.prefix_part()? {
-            parts.add(part)?;
-        }
+        while self.prefix_part(parts)? {}
         Ok(())
     }
 
@@ -196,9 +189,7 @@ impl<'a> Reader<'a> {
             → OnOk result (IfSome parts.new.end (λ end. start ≤ end)) }
         ensures shorter { OnOk result (length self.new.rest.now ≤ length self.old.rest.now) }
     {
-        while let Some(part) = self.later_part()? {
-            parts.add(part)?;
-        }
+        while self.later_part(parts)? {}
         Ok(())
     }
 }

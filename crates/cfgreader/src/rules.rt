@@ -107,25 +107,25 @@ impl<'a> Reader<'a> {
         self.finish(head, body)
     }
 
-    /// Passes a production of the rule and what ends it, and returns whether another one follows.
+    /// Passes a production of the rule and what ends it, and returns whether another one follows. Its parts replace
+    /// those in `parts`.
     #[tactic(auto, unfolding(crate::specs::Rules::production))]
-    fn production(&mut self, head: RuleHead<'a>) -> Result<bool, ReadFault>
+    fn production(&mut self, head: RuleHead<'a>, parts: &mut Parts<'a>) -> Result<bool, ReadFault>
         ensures { Builds goes_on self.old self.new result (production self.old.len (head_view head.entry)) }
     {
         let start = self.offset();
-        let mut parts = mem::replace(&mut self.parts, Parts::new(self.alloc));
-        self.prefix_parts(&mut parts)?;
-        self.more_parts(&mut parts)?;
-        let follows = self.production_end(head, start, &parts)?;
-        self.parts = parts;
-        Ok(follows)
+        self.prefix_parts(parts)?;
+        self.more_parts(parts)?;
+        self.production_end(head, start, parts)
     }
 
     /// Passes the productions of a rule.
     fn productions(&mut self, head: RuleHead<'a>) -> Result<(), ReadFault>
         ensures { Builds (λ x. x) self.old self.new result (repeat (production self.old.len (head_view head.entry))) }
     {
-        while self.production(head)? {}
+        let mut parts = mem::replace(&mut self.parts, Parts::new(self.alloc));
+        while self.production(head, &mut parts)? {}
+        self.parts = parts;
         Ok(())
     }
 

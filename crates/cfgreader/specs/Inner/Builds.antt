@@ -1,12 +1,12 @@
 -- What a step of the reader does, given what reading gives from there.
-use Rattle.std.specs.Prelude.{◌≡◌, ℕ, Bool, List, map, Option, Some, None, option_map, Result, Ok, Err}
+use Rattle.std.specs.Prelude.{◌≡◌, ◌≤◌, ℕ, Bool, true, false, List, [], ◌∷◌, map, Option, Some, None, option_map, Result, Ok, Err}
 use denote.Ref.{Bor}
 use Rattle.cfgwords.specs.declared.fault.FaultKind.{FaultKind}
 use Rattle.cfgbase.specs.declared.span.Span.{Span}
 use Rattle.cfgwords.specs.Actions.{action_at, action_of}
-use Rattle.cfgwords.specs.Text.{fault_at}
+use Rattle.cfgwords.specs.Text.{fault_at, offset_of}
 use Rattle.cfgwords.specs.Blank.{part_of, prefix_of}
-use Rattle.constructs.specs.Leaves.{Gives, ValueOf, Leaves}
+use Rattle.constructs.specs.Leaves.{Gives, OneOrEnd, ValueOf, Leaves}
 use Rattle.cfgwords.specs.declared.fault.Fault.{Fault}
 use Rattle.cfgwords.specs.FileWords.{TokenText, name_of, token_of, word_at, token_at}
 use Rattle.cfgwords.specs.declared.words.Word.{Word as CodeWord}
@@ -24,7 +24,7 @@ use Rattle.cfgreader.specs.declared.bodies.Parts.{Parts as CodeParts}
 use Rattle.cfgreader.specs.declared.reader.Reader.{Reader}
 use Rattle.cfgreader.specs.declared.reader.ReadFault.{ReadFault}
 use Rattle.cfgreader.specs.declared.reader.ReadFault.TheVariants as errors
-use Rattle.cfgreader.specs.Rules.{Part, Parts, SymbolPart, PrecedencePart, EmptyPart}
+use Rattle.cfgreader.specs.Rules.{Part, Parts, SymbolPart, PrecedencePart, EmptyPart, part_end, with_parts}
 
 abbrev pub fault_of : ReadFault → Option Fault
 fault_of errors.OutOfMemory = None
@@ -43,6 +43,10 @@ file_reader = record {
 -- the tree has grown by the items
 abbrev pub Grows : Reader → Reader → List Item → Type 0
 Grows = steps.Grows file_reader
+
+-- reading the construct stops so, unless memory ran out
+abbrev pub Fails : {l : Leaves} {G : Gives} → Reader → Reader → ReadFault → Construct Item Fault l G → Type 0
+Fails = steps.Fails file_reader
 
 -- What a step returned, converted by view, is what reading the construct gives, and the tree has grown by the items that were read, unless
 -- memory ran out.
@@ -82,6 +86,14 @@ parts_view parts = record {
   precedences = map token_view parts.precedences.items;
   end = parts.end;
 }
+
+-- What a turn over the parts of a production did, given the construct that it read: it added the part that was read, which doesn't end before
+-- the turn's start, or there was none, or it stopped.
+abbrev pub AddsPart : {l : Leaves} → Reader → Reader → CodeParts → CodeParts → Result Bool ReadFault → Construct Item Fault l (OneOrEnd Part) → Type 0
+AddsPart old new before after (Ok true) c = (part : Part) × Builds (λ (more : Bool). Some part) old new (Ok true) c
+    × (parts_view after ≡ with_parts (parts_view before) (part ∷ [])) × (offset_of old.len old.rest.now ≤ part_end part)
+AddsPart old new before after (Ok false) c = Builds (λ (more : Bool). None) old new (Ok false) c × (after ≡ before)
+AddsPart old new before after (Err e) c = Fails old new e c
 
 -- whether there is an action here, and the rest after it
 abbrev pub IsActionHere : Reader → Reader → Option (Bor (List ℕ) × Span) → Type 0
