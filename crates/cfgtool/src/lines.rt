@@ -10,6 +10,7 @@ ghost use Rattle.cfgtool.specs.TokenSets.{Adds};
 
 use cfgrammar::yacc::{YaccGrammar, YaccGrammarError, YaccGrammarWarning};
 use cfgrammar::{PIdx, Positions, Span, Spanned};
+use itoa::Buffer;
 use std::alloc::{AllocError, Global};
 
 /// The productions of a grammar, each as a line: its index, a space and its text.
@@ -18,14 +19,13 @@ pub fn production_lines(alloc: Global, grammar: &YaccGrammar<u32>) -> Result<Str
 {
     let mut lines = String::new(alloc);
     for pidx in grammar.iter_pidxs() {
-        write_production(alloc, &mut lines, grammar, pidx)?;
+        write_production(&mut lines, grammar, pidx)?;
     }
     Ok(lines)
 }
 
 /// Writes the line of a production.
 fn write_production(
-    alloc: Global,
     lines: &mut String,
     grammar: &YaccGrammar<u32>,
     pidx: PIdx<u32>,
@@ -35,8 +35,11 @@ fn write_production(
         (λ production. production_line grammar.now (pidx.0, production)) grammar.now pidx.0)
         (string_bytes lines.old) (string_bytes lines.new)) }
 {
-    let text = grammar.pp_prod(alloc, pidx)?;
-    writeln!(lines, "{} {text}", usize::from(pidx))
+    let mut digits = Buffer::new();
+    lines.push_str(digits.format(usize::from(pidx)))?;
+    lines.push_str(" ")?;
+    grammar.push_prod(lines, pidx)?;
+    lines.push_str("\n")
 }
 
 /// The errors of a text, each as a line: its position and its text.

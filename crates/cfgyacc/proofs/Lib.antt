@@ -1,5 +1,6 @@
 pub mod Built
 pub mod Counted
+pub mod Cut
 pub mod SelfNamed
 pub mod OfParsed
 pub mod Refusals

@@ -1,8 +1,9 @@
 //! A production as text.
 
-ghost use Rattle.std.specs.Prelude.{◌≡◌, ◌<◌, All, IfOk, Some, length};
+ghost use Rattle.std.specs.Prelude.{◌≡◌, ◌<◌, ◌++◌, ℕ, All, IfOk, List, OnErr, OnOk, Some, codes, length, map};
+ghost use Rattle.std.specs.List.{concat};
 ghost use Rattle.std.specs.String.{string_bytes};
-ghost use Rattle.cfgnumbers.specs.Accessors.{IsSymbolWithin, production_part, production_text, sym_name};
+ghost use Rattle.cfgnumbers.specs.Accessors.{IsSymbolWithin, production_part, production_text, sym_name, sym_text};
 ghost use Rattle.cfgtables.specs.NumberedSymbols.{sym_of};
 
 use super::tables::YaccGrammar;
@@ -19,14 +20,63 @@ impl<S: Storage> YaccGrammar<S> {
         let rule = self.rule_name_str(self.prod_to_rule(pidx));
         let symbols = self.prod(pidx);
         let mut text = String::with_capacity(alloc, self.printed_len(rule, symbols))?;
+        self.push_prod(&mut text, pidx)?;
+        Ok(text)
+    }
+
+    /// Appends the text of a production, as [`pp_prod`](Self::pp_prod) returns it.
+    ///
+    /// # Errors
+    ///
+    /// Out of memory. The text is as it was.
+    pub fn push_prod(&self, text: &mut String, pidx: PIdx<S>) -> Result<(), AllocError>
+        requires { S.number pidx.0 < length self.now.productions }
+        ensures added { OnOk result ((shown : List ℕ)
+            × (production_part (production_text self.now) self.now (S.number pidx.0) ≡ Some shown)
+            × (string_bytes text.new ≡ string_bytes text.old ++ shown)) }
+        ensures unchanged { OnErr result (string_bytes text.new ≡ string_bytes text.old) }
+    {
+        let known = text.len();
+        let rule = self.rule_name_str(self.prod_to_rule(pidx));
+        let symbols = self.prod(pidx);
+        if let Err(error) = self.push_parts(text, rule, symbols) {
+            text.truncate(known);
+            return Err(error);
+        }
+        Ok(())
+    }
+
+    /// Appends a rule's name, a colon and symbols. If memory runs out, some of that may be in the text.
+    fn push_parts(
+        &self,
+        text: &mut String,
+        rule: &str,
+        symbols: &[Symbol<S>],
+    ) -> Result<(), AllocError>
+        requires { All (IsSymbolWithin S.number self.now) symbols.now }
+        ensures added { OnOk result (string_bytes text.new ≡ string_bytes text.old
+            ++ (rule.now ++ (codes ":" ++ concat (map (sym_text self.now) (map (sym_of S.number) symbols.now))))) }
+        ensures kept { OnErr result ((part : List ℕ) × (string_bytes text.new ≡ string_bytes text.old ++ part)) }
+    {
         text.push_str(rule)?;
         text.push_str(":")?;
         for symbol in symbols {
-            text.push_str(" \"")?;
-            text.push_str(self.symbol_name(*symbol))?;
-            text.push_str("\"")?;
+            self.push_symbol(text, *symbol)?;
         }
-        Ok(text)
+        Ok(())
+    }
+
+    /// Appends a space and a symbol's name in double quotes. If memory runs out, some of that may be in the text.
+    fn push_symbol(&self, text: &mut String, symbol: Symbol<S>) -> Result<(), AllocError>
+        requires { IsSymbolWithin S.number self.now symbol }
+        ensures added { OnOk result (string_bytes text.new
+            ≡ string_bytes text.old ++ sym_text self.now (sym_of S.number symbol)) }
+        ensures kept { OnErr result ((part : List ℕ) × (string_bytes text.new ≡ string_bytes text.old ++ part)) }
+    {
+        text.push_str(" \"")?;
+        text.push_str(self.symbol_name(symbol))?;
+        text.push_str("\"")?;
+        Ok(())
     }
 
     /// How much room to reserve for the text of a production: its length, unless a `usize` can't count it.

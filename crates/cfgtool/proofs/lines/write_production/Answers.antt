@@ -1,13 +1,13 @@
 use Rattle.std.proofs.Common.{◌++◌, ◌∙◌, codes, string_bytes, ap}
 use Rattle.std.specs.Fmt.{decimal}
-use Rattle.std.proofs.lemmas.Result.{on_ok_weaker}
-use Rattle.cfgtool.proofs.Reported.{line_shown}
+use Rattle.cfgtool.proofs.Reported.{line_added}
 use Rattle.cfgtool.proofs.lines.write_production.Goals as goal
 
 pub returns : goal.returns
 returns c =
-    let text = string_bytes c.in_ok-text.text in
     let old = string_bytes c.args.lines.now in
-    on_ok_weaker c.writeln.result (λ added.
-    (_, line_shown c.args.grammar.now c.args.pidx.0 text c.in_ok-text.ensures, added ∙ ap (λ k. old ++ (decimal k ++ (codes " " ++ (text ++ codes "\n")))) c.from.ensures))
-    c.writeln.ensures.bytes
+    let text = c.in_ok-push_prod.ensures.added.0 in
+    let digits = c.in_ok-push_str.ensures.bytes ∙ ap (λ t. old ++ t) (c.format.ensures.text ∙ ap decimal c.from.ensures) in
+    let spaced = c.in_ok-push_str-2.ensures.bytes ∙ ap (λ t. t ++ codes " ") digits in
+    line_added c.push_str-3.result c.args.grammar.now c.args.pidx.0 text old _ _ c.in_ok-push_prod.ensures.added.1
+    (c.in_ok-push_prod.ensures.added.2 ∙ ap (λ t. t ++ text) spaced) c.push_str-3.ensures.bytes
