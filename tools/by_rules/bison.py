@@ -424,7 +424,7 @@ class Reader:
             self.rules[key] = code.span
             self.drafts.append((key, Draft(code.span[0]), action_of(code)))
             draft.symbols.append((key, code.span))
-            draft.end = draft.pending_end
+            draft.end = max(draft.end, draft.pending_end)   # a %prec may come between
 
     def modifier(self, draft, word):
         """%prec, %empty or %dprec, each of which a production has once, or one of the others."""
