@@ -59,9 +59,6 @@ module _ (piece : ℕ → Pieces Nesting) where
     pub passed : Passed start now
     pub small : depth.opened + depth.lowered + length now.rest.now ≤ length start.rest.now
 
-  pub nests_start : (start : Scanner) → Nests start start outermost
-  nests_start start = record { items = []; so_far = refl; grown = refl; passed = (omega arith, refl); small = omega arith }
-
   module _ (start now next : Scanner) (depth : Depth) (so_far : Nests start now depth) where
     abbrev turn : Read Item ⊥ (Option Nesting)
     turn = computes (piece (length start.text.now)) now.rest.now

@@ -31,11 +31,6 @@ module _ {whole : List ℕ} {T : List ℕ → ℕ → Type 0} {A : Type 0} where
       → Leads whole T T' G → Leads whole T T' H → Leads whole T T' (Choice test G H)
   choice_leads p q = record { gets = λ text done t. choice_gets (p.gets text done t) (q.gets text done t) }
 
-  -- from what has more, and to what has less
-  pub sooner_leads : {Sooner T' : List ℕ → ℕ → Type 0} {G : List ℕ → Read Item ⊥ A → Type 0}
-      → ((text : List ℕ) (done : ℕ) → Sooner text done → T text done) → Leads whole T T' G → Leads whole Sooner T' G
-  sooner_leads h p = record { gets = λ text done t. p.gets text done (h text done t) }
-
   pub later_leads : {T' Later : List ℕ → ℕ → Type 0} {G : List ℕ → Read Item ⊥ A → Type 0}
       → ((text : List ℕ) (done : ℕ) → T' text done → Later text done) → Leads whole T T' G → Leads whole T Later G
   later_leads h p = record { gets = λ text done t. weaker_gets (λ a rest done t. h rest done t) (p.gets text done t) }

@@ -215,16 +215,6 @@ same_sets : (old new : FirstSets) → new.nullable ≡ old.nullable → new.firs
 same_sets old new e h = ap (λ l. record { firsts = new.firsts; nullable = l }) e ∙ ap (λ x. record { firsts = x; nullable = old.nullable }) h
 
 module _ (rule : ℕ) (symbols : List Sym) where
-  pub visits_none : (x : FirstSets) → Visits rule symbols 0 x x false
-  visits_none x = record {
-    became_nullable = tt;
-    walked = record {
-      nullable = refl;
-      growth = record { sound = λ g is has say. say; more = λ e. absurd (true≢false (sym e)); same = λ e. refl; others = λ r t h. inl h; kept = λ r t h. h };
-      given = λ t h. absurd h;
-    };
-  }
-
   module _ (n : ℕ) (s : Sym) (old mid new : FirstSets) (c d : Bool) (lt : n < length symbols) (is : s ≡ get_or symbols n s)
       (w : Visits rule symbols n old mid c) (one : Puts rule s mid new d) where
     longer : take (n + 1) symbols ≡ take n symbols ++ (s ∷ [])

@@ -170,14 +170,6 @@ module _ (rows columns n : ℕ) (words : List ℕ) (is : AreRows rows columns n 
 
 -- if all words are zero, no bit is on
 module _ (columns : ℕ) (zeros : List ℕ) (zero : (k : ℕ) → get_or zeros k 0 ≡ 0) (enough : columns ≤ length zeros * 64) (few : length zeros * 64 < columns + 64) where
-  words_none : AreWords columns zeros
-  words_none = record {
-    enough = enough;
-    few = few;
-    fit = λ k d h. let at : get_or zeros k d ≡ 0 = get_or_default zeros k d 0 h ∙ zero k in omega (arith, at);
-    spare = λ k i h past. ap (λ w. bit_at w i) (zero k) ∙ bit_at-zero i;
-  }
-
   bits_none : bits_of zeros columns ≡ replicate columns false
   bits_none = ext_get_or false (bits_of zeros columns) (replicate columns false)
       (length-bits_of zeros columns ∙ sym (length-replicate columns false))
@@ -195,13 +187,6 @@ module _ (rows columns n : ℕ) (enough : columns ≤ n * 64) (few : n * 64 < co
     | inl i ↦ get_or-between (replicate (rows * n) 0) (r * n) (r * n + n) k 0 (omega (arith, i)) ∙ get_or-replicate_default (rows * n) (r * n + k) 0
     | inr i ↦ get_or_past (words_of n (replicate (rows * n) 0) r) k 0 (omega (arith, i, long_none r h))
   ]
-
-  pub rows_none : AreRows rows columns n (replicate (rows * n) 0)
-  rows_none = record {
-    long = length-replicate (rows * n) 0;
-    each = λ r h. words_none columns _ (λ k. zero_row r k h) (subst (λ m. columns ≤ m * 64) (sym (long_none r h)) enough)
-        (subst (λ m. m * 64 < columns + 64) (sym (long_none r h)) few);
-  }
 
   pub table_none : table_of rows columns n (replicate (rows * n) 0) ≡ no_bits rows columns
   table_none = ap (λ l. record { columns = columns; rows = l }) (ext_get_or (replicate columns false)

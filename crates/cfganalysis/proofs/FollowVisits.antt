@@ -9,7 +9,7 @@ use Rattle.derivation.specs.FollowSets.{CoversFollow, IsFollowClosed}
 use Rattle.derivation.proofs.Firsts.{nullable_map, begins_map, derived_closed}
 use Rattle.derivation.proofs.Follows.{derived_follow, closed_follow, closed_end, end_of_start}
 use Rattle.search.proofs.Bits.{bit_put}
-use Rattle.cfganalysis.specs.Table.{HasBit, count_of, IsTable, Joins, no_bits, with_bit}
+use Rattle.cfganalysis.specs.Table.{HasBit, IsTable, Joins, no_bits, with_bit}
 use Rattle.cfganalysis.specs.Firsts.{AreFirsts, IsAmongFirsts, IsNullableRule, FirstSets}
 use Rattle.cfganalysis.specs.Inner.GrowingFollows.{FollowSets, AreSoundFollows, HasNoMoreFollows, CoverFollowsOf, IsOwner, CoversFollowIn, After, Puts, PutsAfter, count_follows}
 use Rattle.cfganalysis.specs.Inner.Growth.{AddsProduction, CoversEach}
@@ -51,20 +51,6 @@ module _ (q : ℕ) (gives : ℕ → Type 0) (old new : FollowSets) (changed : Bo
             | inr i ↦ subst (λ m. HasBit old.follows m t) (e ∙ sym i.0) (none t (subst (λ m. HasBit new.follows m t) (i.0 ∙ sym e) set))
           ]) in
           omega (arith, more, all)
-
-  -- the set contained all of it already
-  pub same_after : changed ≡ false → PutsAfter (λ r t. (Rule r ≡ Rule q) × gives t) old new waiting waiting
-  same_after off = record {
-    firsts = w.firsts;
-    shape = w.joins.shape;
-    bits = bits_after;
-    no_less = let h = ap count_of (w.joins.same off) in omega (arith, h);
-    rules = refl;
-    kept = λ r h. h;
-    grown = λ r h. inl h;
-    more = λ r h. inl h;
-    reported = λ r t h. inl (subst (λ x. HasBit x r t) (w.joins.same off) h);
-  }
 
 -- What follows the symbols from the n-th on was added. They stay covered later, as long as the rule's set is as it was.
 pub record Flowing (rule : ℕ) (symbols : List Sym) (n : ℕ) (old new : FollowSets) (none waiting : List Bool) : Type 0 where

@@ -1,19 +1,11 @@
 -- The productions that depend on rules: one is noted for the rules among its symbols, and those that depend on rules whose sets grew are queued.
-use Rattle.std.proofs.Common.{◌≡◌, ℕ, ◌+◌, ◌<◌, ◌≤◌, ◌⊎◌, inl, inr, Bool, false, List, Contains, take, get_or, length, refl, sym, ap, ◌∙◌, subst, true≢false, length-set, get_or-set_other, Result, Ok, Err, IfOk, arith}
-use Rattle.std.proofs.lemmas.Bool.{cases_eq}
+use Rattle.std.proofs.Common.{◌≡◌, ℕ, ◌+◌, ◌<◌, ◌≤◌, ◌⊎◌, inl, inr, Bool, List, Contains, take, get_or, length, sym, ap, ◌∙◌, subst, true≢false, Result, Ok, Err, IfOk}
 use Rattle.std.proofs.lemmas.List.{take_all}
 use Rattle.lemmas.proofs.Adding.{adds_as, adds_then}
-use Rattle.lemmas.proofs.Elements.{get_or-set}
 use Rattle.lemmas.proofs.Taken.{contains_taken}
 use Rattle.derivation.specs.Grammar.{Sym, Rule}
-use Rattle.cfganalysis.specs.Inner.Waiting.{Waits, NoneWaits, WaitsNoMore}
-use Rattle.cfganalysis.specs.Inner.Work.{dependents_of, Notes, DependsOnGrown, Queues}
-
-pub notes_none : (p : ℕ) (depends_on : ℕ → Type 0) (x : List (List ℕ)) → ((r : ℕ) → depends_on r → ⊥) → Notes p depends_on x x
-notes_none p depends_on x never = record {
-  shape = refl;
-  dependents = λ r q. ((λ h. inl h), (λ h. elim h [ inl i ↦ i | inr i ↦ absurd (never r i.1) ]));
-}
+use Rattle.cfganalysis.specs.Inner.Waiting.{Waits}
+use Rattle.cfganalysis.specs.Inner.Work.{dependents_of, Notes, DependsOnGrown}
 
 pub notes_as : (p : ℕ) (depends_on depends_on' : ℕ → Type 0) (old new : List (List ℕ)) → ((r : ℕ) → depends_on r → depends_on' r) → ((r : ℕ) → depends_on' r → depends_on r)
     → Notes p depends_on old new → Notes p depends_on' old new
@@ -41,51 +33,6 @@ pub record LettingWait (dependents : List (List ℕ)) (grown left : List Bool) (
   pub kept : (q : ℕ) → Waits old q → Waits new q
   pub done : (r q : ℕ) → Waits grown r → Contains (dependents_of dependents r) q → Waits left r ⊎ Waits new q
 
-module _ (dependents : List (List ℕ)) (grown : List Bool) where
-  pub letting_wait_none : (x : List Bool) → LettingWait dependents grown grown x x
-  letting_wait_none x = record { shape = refl; fewer = λ r h. h; same = refl; only = λ q h. inl h; kept = λ q h. h; done = λ r q h k. inl h }
-
-  pub letting_wait_one : (rule : ℕ) (left left' old mid new : List Bool) → LettingWait dependents grown left old mid → WaitsNoMore rule left left'
-      → Queues dependents (λ r. r ≡ rule) mid new → LettingWait dependents grown left' old new
-  letting_wait_one rule left left' old mid new w leaves v = record {
-    shape = v.shape ∙ w.shape;
-    fewer = λ r h. w.fewer r (stayed r h);
-    same = ap length leaves.rest ∙ length-set left rule false ∙ w.same;
-    only = λ q h. elim ((v.waits q).0 h) [
-      | inl i ↦ w.only q i
-      | inr i ↦ inr (record { rule = i.rule; gains = subst (Waits grown) (sym i.gains) (w.fewer rule leaves.waited); noted = i.noted })
-    ];
-    kept = λ q h. (v.waits q).1 (inl (w.kept q h));
-    done = λ r q h k. elim (w.done r q h k) [
-      | inl i ↦ elim (cases_eq r rule) [
-        | inl e ↦ inr ((v.waits q).1 (inr (record { rule = r; gains = e; noted = k })))
-        | inr ne ↦ inl (ap (λ l. get_or l r false) leaves.rest ∙ get_or-set_other left rule r false false ne ∙ i)
-      ]
-      | inr i ↦ inr ((v.waits q).1 (inl i))
-    ];
-  }
-    where
-      stayed : (r : ℕ) → Waits left' r → Waits left r
-      stayed r h = elim (get_or-set left rule r false false) [
-        | inl e ↦ sym e ∙ sym (ap (λ l. get_or l r false) leaves.rest) ∙ h
-        | inr e ↦ absurd (true≢false (sym h ∙ ap (λ l. get_or l r false) leaves.rest ∙ e.1))
-      ]
-
-  pub letting_wait_all : (left old new : List Bool) → NoneWaits left → LettingWait dependents grown left old new → Queues dependents (Waits grown) old new
-  letting_wait_all left old new none w = record {
-    shape = w.shape;
-    waits = λ q. (
-      w.only q,
-      (λ h. elim h [
-        | inl i ↦ w.kept q i
-        | inr i ↦ elim (w.done i.rule q i.gains i.noted) [
-          | inl j ↦ absurd (true≢false (sym j ∙ none i.rule))
-          | inr j ↦ j
-        ]
-      ]),
-    );
-  }
-
 pub notes_rule : (p q : ℕ) (old new : List (List ℕ)) → Notes p (λ r. r ≡ q) old new → Notes p (λ r. Rule r ≡ Rule q) old new
 notes_rule p q old new w = notes_as p _ _ old new (λ r e. ap Rule e) (λ r e. cc) w
 
@@ -94,9 +41,6 @@ abbrev pub NotesLookahead : ℕ → List Sym → ℕ → List (List ℕ) → Lis
 NotesLookahead p a n old new = Notes p (λ r. Contains (take n a) (Rule r)) old new
 
 module _ (p : ℕ) (a : List Sym) where
-  pub prefix_none : (x : List (List ℕ)) → NotesLookahead p a 0 x x
-  prefix_none x = notes_none p _ x (λ r h. omega (arith, h.1))
-
   pub prefix_more : (n : ℕ) (s : Sym) (old mid new : List (List ℕ)) → n < length a → s ≡ get_or a n s → NotesLookahead p a n old mid
       → Notes p (λ r. Rule r ≡ s) mid new → NotesLookahead p a (n + 1) old new
   prefix_more n s old mid new lt is w v = notes_as p _ _ old new

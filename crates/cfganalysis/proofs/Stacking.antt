@@ -8,7 +8,7 @@ use Rattle.std.proofs.lemmas.Option.{get_or_from_slice_get}
 use Rattle.lemmas.proofs.Elements.{within_from_get_or, set-slice_get}
 use Rattle.std.specs.List.Sorted.{IsPermutation}
 use Rattle.cfganalysis.specs.Table.{bits_on}
-use Rattle.cfganalysis.specs.Inner.Waiting.{waits, Waits, NoneWaits, IsStack}
+use Rattle.cfganalysis.specs.Inner.Waiting.{waits, Waits, IsStack}
 use Rattle.search.proofs.Bits.{bits_on-set}
 
 -- one bit fewer
@@ -59,14 +59,6 @@ module _ (x : List Bool) (stack : List ℕ) (is : IsStack x stack) where
   -- a number that waits isn't pushed again
   pub stack_again : (n : ℕ) → slice_get x n ≡ Some true → IsStack (slice_set x n true) stack
   stack_again n on = subst (λ l. IsStack l stack) (sym (set-slice_get x n true on)) is
-
-  -- if the stack is empty, no number waits
-  pub stack_empty : stack ≡ [] → NoneWaits x
-  stack_empty e n = off (waits x n) (sym (is.once n) ∙ ap (λ l. count_by (λ m. eqb m n) l) e)
-    where
-      off : (b : Bool) → ◌≡◌ {A = ℕ} (cond b 1 0) 0 → b ≡ false
-      off true h = absurd (omega (arith, h))
-      off false h = refl
 
   module _ (n : ℕ) (rest : List ℕ) (last : stack ≡ rest ++ n ∷ []) where
     counted : (m : ℕ) → count_by (λ k. eqb k m) rest + cond (eqb n m) 1 0 ≡ cond (waits x m) 1 0

@@ -3,8 +3,10 @@
 
 pub mod ast;
 pub mod duplicates;
+pub mod indices;
 pub mod unused;
 pub mod writing;
 
 pub use ast::{GrammarAST, tree_of, tree_with};
+pub use indices::symbol_indices;
 pub use writing::clone_with_start;

@@ -17,11 +17,6 @@ module _ (P : ℕ → List Sym → Type 0) where
   abbrev pub IsYielded : ℕ → List ℕ → Type 0
   IsYielded r w = Yields P (Rule r ∷ []) w
 
-  pub split_from_trees : {a : List Sym} {w : List ℕ} → Yields P a w → Split IsYielded a w
-  split_from_trees empty = done
-  split_from_trees (token h) = itself (split_from_trees h)
-  split_from_trees (opened {u = u} has h k e) = part (opened has h empty (sym (append-nil u))) (split_from_trees k) e
-
   pub trees_from_split : {a : List Sym} {w : List ℕ} → Split IsYielded a w → Yields P a w
   trees_from_split done = empty
   trees_from_split (itself s) = token (trees_from_split s)

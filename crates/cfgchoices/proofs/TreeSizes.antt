@@ -31,11 +31,6 @@ module _ (g : Grammar) (choices : List (Option (ℕ × ℕ))) (each : ℕ) where
   tree_size_token zero t = refl
   tree_size_token (suc n) t = refl
 
-  pub tree_size_unchosen : (n r : ℕ) → rule_choice choices r ≡ None → size n (Rule r) ≡ each
-  unfolding tree_size
-  tree_size_unchosen zero r none = refl
-  tree_size_unchosen (suc n) r none = ap (size_of (size n)) none
-
   pub tree_size_positive : 0 < each → (n : ℕ) (s : Sym) → 0 < size n s
   unfolding tree_size
   tree_size_positive some n (Token t) = let one = tree_size_token n t in omega (arith, one)

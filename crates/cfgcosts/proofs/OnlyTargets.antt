@@ -15,7 +15,6 @@ use Rattle.cfgchoices.specs.Kinds.{HasRulesAsTargets, AreKinds, LeadsTo, IsChain
 use Rattle.cfgchoices.specs.Chains.{Along, here, next}
 use Rattle.cfgchoices.specs.declared.kinds.Kind.{Kind}
 use Rattle.cfgchoices.specs.declared.kinds.Kind.TheVariants.{Suboptimal, Chain}
-use Rattle.lemmas.proofs.Contained.{contains_none}
 use Rattle.cfgchoices.proofs.Optimal.{base_leads_nowhere, base_makes, minimal_made, one_target}
 
 -- what the first of some productions leads to
@@ -28,9 +27,6 @@ module _ {S : Type 0} (kinds : List (Kind S)) where
 
   abbrev pub OnlyOne : List ℕ → Option (RIdx S) → Type 0
   OnlyOne positions only = MatchOption only ((p : ℕ) → Contains positions p → get_or kinds p Suboptimal ≡ Suboptimal) (One positions)
-
-  pub only_begins : (positions : List ℕ) → OnlyOne (take 0 positions) None
-  only_begins positions p h = absurd (contains_none p h)
 
   module _ (positions : List ℕ) (n p : ℕ) (lt : n < length positions) (is : p ≡ get_or positions n p) where
     longer : take (n + 1) positions ≡ take n positions ++ p ∷ []

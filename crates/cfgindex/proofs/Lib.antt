@@ -2,4 +2,5 @@ pub mod Bits
 pub mod Words
 pub mod Joining
 pub mod ListTables
+pub mod ListsBetween
 pub mod SetBits

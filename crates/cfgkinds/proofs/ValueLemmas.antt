@@ -1,12 +1,12 @@
 -- What each setting shows, and lists of settings with other locations.
-use Rattle.std.proofs.Common.{◌≡◌, ◌∙◌, ℕ, List, [], ◌∷◌, map, refl, sym, ap, String, Vec, Global, string_bytes}
-use Rattle.cfgkinds.specs.Values.{ShownSetting, Unitary, Constructor, Number, Text, Array}
+use Rattle.std.proofs.Common.{◌≡◌, ◌∙◌, ℕ, List, [], ◌∷◌, map, refl, sym, ap, Vec, Global}
+use Rattle.cfgkinds.specs.Values.{ShownSetting, Unitary, Constructor, Number, Array}
 use Rattle.cfgkinds.specs.Values.{setting, settings_of, settings_view, setting_view, setting_step, namespaced_view, map_setting, map_settings}
 use Rattle.cfgkinds.specs.declared.value.Namespaced.{Namespaced}
 use Rattle.cfgkinds.specs.declared.value.Setting.{Setting, fold-roll-Setting}
 use Rattle.cfgkinds.specs.declared.value.Setting.TheOpen.{Setting-F}
 use Rattle.cfgkinds.specs.declared.value.Setting.TheVariants as rust
-use Rattle.cfgkinds.specs.declared.value.Setting.TheVariants.{rolls-Unitary, rolls-Constructor, rolls-Num, rolls-String, rolls-Array}
+use Rattle.cfgkinds.specs.declared.value.Setting.TheVariants.{rolls-Unitary, rolls-Constructor, rolls-Num, rolls-Array}
 
 module _ {T : Type 0} where
   pub view_name : (name : Namespaced T) → setting_view (rust.Unitary name) ≡ Unitary (namespaced_view name)
@@ -18,9 +18,6 @@ module _ {T : Type 0} where
 
   pub view_number : (number : ℕ) (location : T) → setting_view (rust.Num number location) ≡ Number number location
   view_number number location = ap setting_view (sym (rolls-Num number location)) ∙ fold-roll-Setting T (ShownSetting T) setting_step (Setting-F.Num number location)
-
-  pub view_text : (text : String Global) (location : T) → setting_view (rust.String text location) ≡ Text (string_bytes text) location
-  view_text text location = ap setting_view (sym (rolls-String text location)) ∙ fold-roll-Setting T (ShownSetting T) setting_step (Setting-F.String text location)
 
   pub view_array : (settings : Vec (Setting T) Global) (opens closes : T) → setting_view (rust.Array settings opens closes) ≡ Array (settings_view settings.items) opens closes
   view_array settings opens closes =

@@ -3,7 +3,7 @@ use Rattle.std.proofs.Common.{◌≡◌, ℕ, ◌+◌, ◌<◌, inl, inr, List, 
 use Rattle.std.specs.Prelude.{IsSomeAnd}
 use Rattle.std.proofs.lemmas.List.{get_or-set_same, length-replicate}
 use Rattle.std.proofs.lemmas.List.Folds.{sum_by-replicate}
-use Rattle.std.proofs.lemmas.List.Sums.{sum_by-set, get_or-le-sum_by}
+use Rattle.std.proofs.lemmas.List.Sums.{sum_by-set}
 use Rattle.std.proofs.lemmas.List.Elements.{All-weaker}
 use Rattle.lemmas.proofs.Elements.{get_or-set, get_or-replicate_default}
 use Rattle.derivation.specs.Grammar.{Sym, Rule, Token, Grammar}
@@ -34,12 +34,6 @@ module _ (g : Grammar) (cost : ℕ → ℕ) where
       (within : r < g.rules) (open' : rule_cost least r ≡ None) where
     in_costs : r < length least
     in_costs = subst (λ m. r < m) (sym state.costs) within
-
-    pub number_small : n < g.rules
-    number_small =
-        let one : unsettled (get_or least r None) ≡ 1 = ap unsettled open' in
-        let most = get_or-le-sum_by unsettled least r None in_costs in
-        omega (arith, one, most, state.counted)
 
     pub gains_one : (c : ℕ) → Gains (rule_cost least) (rule_cost (slice_set least r (Some c))) r c
     gains_one c = record {

@@ -1,5 +1,5 @@
 -- Sums that are cut down to 65536 while they are computed.
-use Rattle.std.proofs.Common.{◌≡◌, ℕ, ◌+◌, min, List, [], ◌∷◌, Option, Some, None, option_map, arith, refl, sym, ap, ◌∙◌}
+use Rattle.std.proofs.Common.{◌≡◌, ℕ, ◌+◌, min, List, [], ◌∷◌, Option, Some, arith, refl, sym, ap, ◌∙◌}
 use Rattle.derivation.specs.Grammar.{Sym}
 use Rattle.derivation.specs.Sums.{plus, sum_of}
 use Rattle.derivation.proofs.Sums.{plus_assoc, zero_plus}
@@ -21,10 +21,3 @@ module _ (costs : Sym → Option ℕ) (all : List Sym) where
     cut = omega (arith, w.cut, made);
     whole = w.whole ∙ sym (plus_assoc (Some w.so_far) (costs s) (sum_of costs rest)) ∙ ap (λ o. plus (plus (Some w.so_far) o) (sum_of costs rest)) e;
   }
-
-  pub sum_missing : (s : Sym) (rest : List Sym) (sum : ℕ) → SumSoFar costs all (s ∷ rest) sum → costs s ≡ None
-      → None ≡ option_map (λ n. min n 65536) (sum_of costs all)
-  sum_missing s rest sum w e = sym (ap (option_map (λ n. min n 65536)) (w.whole ∙ ap (λ o. plus (Some w.so_far) (plus o (sum_of costs rest))) e))
-
-  pub sum_all : (sum : ℕ) → SumSoFar costs all [] sum → Some sum ≡ option_map (λ n. min n 65536) (sum_of costs all)
-  sum_all sum w = ap Some (omega (arith, w.cut)) ∙ sym (ap (option_map (λ n. min n 65536)) w.whole)

@@ -203,19 +203,6 @@ module _ (g : Grammar) (cost : ℕ → ℕ) (settled : ℕ → Option ℕ) (floo
         → (d : ℕ) × (settled (nth_production g p).rule ≡ Some d) × (d ≤ min m 65536)
     finished p m h e = finish p m (state.phase p h) e
 
-  -- before anything is settled
-  pub none_open : (waiting : List (List Partial)) → ((r : ℕ) → settled r ≡ None) → ((r : ℕ) → waiting_for waiting r ≡ [])
-      → floor ≤ 65536 → AreOpen cost settled g [] waiting (λ q. 0 ≤ q) floor
-  none_open waiting none empty limit = record {
-    queued_sum = λ c p h. absurd (contains_none (c, p) h);
-    queued_position = λ c p h. absurd (contains_none (c, p) h);
-    queued_above = λ c p h. absurd (contains_none (c, p) h);
-    held_for = λ r x h. absurd (contains_none x (subst (λ l. Contains l x) (empty r) h));
-    phase = λ q h. moved (omega arith);
-    settled_below = λ r c e. let no : None ≡ Some c = sym (none r) ∙ e in absurd (cc);
-    limit = limit;
-  }
-
 -- the top of the queue settles its rule
 module _ (g : Grammar) (cost : ℕ → ℕ) (old new : ℕ → Option ℕ) (r c : ℕ) (gains : Gains old new r c) (floor p : ℕ) (owner : (nth_production g p).rule ≡ r)
     (queue rest : List (ℕ × ℕ)) (waiting : List (List Partial)) (out : IsPermutation queue ((c, p) ∷ rest)) (above : All (λ (x : ℕ × ℕ). c ≤ x.0) rest)

@@ -11,7 +11,7 @@ use Rattle.cfgleast.specs.declared.partial.Partial.{Partial}
 use Rattle.derivation.specs.Sums.{sum_of, symbol_cost}
 use Rattle.derivation.specs.CostLists.{IsListed}
 use Rattle.cfgleast.specs.CutSums.{IsCutSum, StopsAt}
-use Rattle.cfgleast.specs.Inner.Open.{IsPartial, WaitsFor, HasAtMost, by_cost, by_sum, AreBests, MovesOn, enters, beaten, waits, Enqueues, enqueued, declined, Phase, past, held, moved, AreOpen, AreAllOpen, AreWaking, IsAmong, count_open, waiting_for}
+use Rattle.cfgleast.specs.Inner.Open.{WaitsFor, HasAtMost, by_cost, by_sum, AreBests, MovesOn, enters, beaten, waits, Enqueues, enqueued, declined, Phase, past, held, moved, AreOpen, AreAllOpen, AreWaking, IsAmong, count_open, waiting_for}
 use Rattle.derivation.proofs.Sums.{sum_of-append, plus_both, plus_zero}
 use Rattle.lemmas.proofs.Contained.{contains_cases}
 use Rattle.lemmas.proofs.Elements.{get_or-set}
@@ -33,18 +33,6 @@ module _ (cost : ℕ → ℕ) (settled : ℕ → Option ℕ) where
   cut_all a i sum end h = subst (λ l. IsCutSum cost settled l sum) (take_all i a end) h
 
   module _ (g : Grammar) where
-    -- a production of which nothing was summed
-    pub partial_none : (x : Partial) → x.production < length g.productions → x.taken ≡ 0 → x.sum ≡ 0 → IsPartial cost settled g x
-    partial_none x index taken sum = record {
-      index = index;
-      taken = omega (arith, taken);
-      sum = subst (λ n. IsCutSum cost settled (take n (nth_production g x.production).symbols) x.sum) (sym taken)
-          (subst (IsCutSum cost settled []) (sym sum) (record { total = 0; is = refl; cut = refl }));
-    }
-
-    pub partial_waiting : (r : ℕ) (x : Partial) → WaitsFor cost settled g r x → IsPartial cost settled g x
-    partial_waiting r x h = record { index = h.index; taken = omega (arith, h.taken); sum = h.sum }
-
     -- the rule at which a walk stops is a rule of the grammar
     pub stop_listed : (a : List Sym) (rules tokens r : ℕ) (x : Partial) → All (IsListed rules tokens) a → StopsAt cost settled a r x → r < rules
     stop_listed a rules tokens r x all h = subst (IsListed rules tokens) h.symbol (All-get_or (IsListed rules tokens) a x.taken (Rule r) h.taken all)

@@ -11,6 +11,6 @@ abbrev pub step : ℕ
 step = 256
 
 -- count k is the number of characters that begin in the first k steps of a text; there is one for each full step, and one for none
-pub record IsOptimalByKind (text counts : List ℕ) : Type 0 where
+pub record AreCountsOf (text counts : List ℕ) : Type 0 where
   pub reach : length text / step < length counts
   pub each : (k : ℕ) → k < length counts → slice_index counts k ≡ count_by begins_character (take (k * step) text)

@@ -3,7 +3,7 @@
 ghost use Rattle.std.specs.Prelude.{◌≡◌, ◌≤◌, length, take, IfOk, SomeIff};
 ghost use Rattle.std.specs.List.{count_by, slice_range};
 ghost use Rattle.std.specs.Str.{IsCharBoundary};
-ghost use Rattle.cfglines.specs.Characters.{IsOptimalByKind, begins_character};
+ghost use Rattle.cfglines.specs.Characters.{AreCountsOf, begins_character};
 ghost use Rattle.cfglines.specs.Lines.{character_count, column, line_end, line_number, line_start};
 
 use crate::newlinecache::{FeedError, NewlineCache, ends_crlf};
@@ -28,7 +28,7 @@ pub struct Positions<'a> {
 impl<'a> Model for Positions<'a> {
     ghost use Rattle.std.specs.Prelude.{IfSome, List, ℕ};
     ghost use Rattle.std.specs.Str.{IsUtf8};
-    ghost use Rattle.cfglines.specs.Characters.{IsOptimalByKind};
+    ghost use Rattle.cfglines.specs.Characters.{AreCountsOf};
     ghost use Rattle.cfglines.specs.Lines.{StandsFor};
 
     ghost Value = { List ℕ };
@@ -36,7 +36,7 @@ impl<'a> Model for Positions<'a> {
     ghost view = { λ positions. positions.text.now };
 
     ghost invariant = { λ positions. IsUtf8 positions.text.now × StandsFor positions.lines positions.text.now
-        × IfSome positions.counts (λ counts. IsOptimalByKind positions.text.now counts.items) };
+        × IfSome positions.counts (λ counts. AreCountsOf positions.text.now counts.items) };
 }
 
 impl<'a> Positions<'a> {
@@ -136,7 +136,7 @@ impl<'a> Positions<'a> {
 
 /// How many characters begin before the byte, by the counts of the text.
 fn begun_before(text: &[u8], counts: &[usize], byte: usize) -> usize
-    requires counted { IsOptimalByKind text.now counts.now }
+    requires counted { AreCountsOf text.now counts.now }
     requires within { byte ≤ length text.now }
     ensures { result ≡ count_by begins_character (take byte text.now) }
 {
@@ -146,7 +146,7 @@ fn begun_before(text: &[u8], counts: &[usize], byte: usize) -> usize
 
 /// How many characters begin before each `STEP`th byte, and how many the text has.
 fn counts_of(alloc: Global, text: &[u8]) -> Result<Vec<usize>, AllocError>
-    ensures { IfOk result (λ counts. IsOptimalByKind text.now counts.items) }
+    ensures { IfOk result (λ counts. AreCountsOf text.now counts.items) }
 {
     let mut begun = 0;
     let mut counts = Vec::new(alloc);

@@ -14,7 +14,7 @@ use Rattle.cfgitems.specs.Syntax.{Syntax, Symbol, last_of}
 use Rattle.cfgitems.specs.SyntaxView.{precedence_entry, printed_entry, span_entry, text_view}
 use Rattle.cfgitems.specs.declared.precedence.Precedence.{Precedence}
 use Rattle.cfgnumbers.specs.Numbered.{precedence_of_token, printed_form, avoids_insert, token_in, last_token}
-use Rattle.cfgnumbers.proofs.Lookups.{is_key}
+use Rattle.cfgitems.proofs.Views.{is_key}
 
 module _ (s : Syntax) (name : List ℕ) where
   pub precedence_found : (es : List (String Global × (Precedence × Span))) → map precedence_entry es ≡ s.tables.precedences

@@ -25,33 +25,33 @@ added_short (Some names) s =
     All-added (λ p. length p.symbols ≤ 3) names s (omega arith) (λ k d within. omega arith) (omega arith) (omega (arith, start_short (Some names) s))
 
 module _ (max : ℕ) (implicit : Option (List (List ℕ))) (s : Syntax) where
-  abbrev IsOptimalByKind : NumberedProduction → Type 0
-  IsOptimalByKind p = length p.symbols ≤ max
+  abbrev IsShort : NumberedProduction → Type 0
+  IsShort p = length p.symbols ≤ max
 
   abbrev HasRoom : Production → Type 0
   HasRoom p = length (file_symbols implicit s p.symbols) ≤ max
 
-  counted : (rules : List ℕ) (ps : List Production) → All HasRoom ps → All IsOptimalByKind (map (file_production implicit s) (zip rules ps))
-  counted [] ps h = All-nil IsOptimalByKind
-  counted (r ∷ rules) [] h = All-nil IsOptimalByKind
+  counted : (rules : List ℕ) (ps : List Production) → All HasRoom ps → All IsShort (map (file_production implicit s) (zip rules ps))
+  counted [] ps h = All-nil IsShort
+  counted (r ∷ rules) [] h = All-nil IsShort
   counted (r ∷ rules) (p ∷ ps) h =
-      All-cons IsOptimalByKind (file_production implicit s (r, p)) _ (All-head HasRoom p ps h) (counted rules ps (All-tail HasRoom p ps h))
+      All-cons IsShort (file_production implicit s (r, p)) _ (All-head HasRoom p ps h) (counted rules ps (All-tail HasRoom p ps h))
 
   uncounted : (rules : List ℕ) (ps : List Production) (rest : List NumberedProduction) → length rules ≡ length ps
-      → All IsOptimalByKind (map (file_production implicit s) (zip rules ps) ++ rest) → All HasRoom ps
+      → All IsShort (map (file_production implicit s) (zip rules ps) ++ rest) → All HasRoom ps
   uncounted rules [] rest as_long h = All-nil HasRoom
   uncounted [] (p ∷ ps) rest as_long h = absurd (omega (arith, as_long))
   uncounted (r ∷ rules) (p ∷ ps) rest as_long h =
-      All-cons HasRoom p ps (All-head IsOptimalByKind (file_production implicit s (r, p)) _ h)
-      (uncounted rules ps rest (omega (arith, as_long)) (All-tail IsOptimalByKind (file_production implicit s (r, p)) _ h))
+      All-cons HasRoom p ps (All-head IsShort (file_production implicit s (r, p)) _ h)
+      (uncounted rules ps rest (omega (arith, as_long)) (All-tail IsShort (file_production implicit s (r, p)) _ h))
 
-  all_counted : LeavesRoom max implicit s → All IsOptimalByKind (numbered_by implicit s).productions
+  all_counted : LeavesRoom max implicit s → All IsShort (numbered_by implicit s).productions
   unfolding numbered_by
-  all_counted room = All-append IsOptimalByKind (map (file_production implicit s) (zip s.production_rules s.productions)) (added_productions implicit s)
+  all_counted room = All-append IsShort (map (file_production implicit s) (zip s.production_rules s.productions)) (added_productions implicit s)
       (counted s.production_rules s.productions room.symbols)
-      (All-weaker (λ p. length p.symbols ≤ rules_before implicit) IsOptimalByKind (λ p short. omega (arith, short, room.rules)) (added_productions implicit s) (added_short implicit s))
+      (All-weaker (λ p. length p.symbols ≤ rules_before implicit) IsShort (λ p short. omega (arith, short, room.rules)) (added_productions implicit s) (added_short implicit s))
 
-  all_room : IsWellFormed s → All IsOptimalByKind (numbered_by implicit s).productions → All HasRoom s.productions
+  all_room : IsWellFormed s → All IsShort (numbered_by implicit s).productions → All HasRoom s.productions
   unfolding numbered_by
   all_room well = uncounted s.production_rules s.productions (added_productions implicit s) well.production_rules_as_long
 

@@ -6,4 +6,3 @@ pub mod TablesView
 pub mod WellNumbered
 pub mod Resolved
 pub mod Numberable
-pub mod Inner

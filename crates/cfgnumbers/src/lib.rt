@@ -3,7 +3,6 @@
 #![tactic(auto)]
 
 pub mod laws;
-mod lists;
 mod names;
 pub mod numbering;
 mod production_rows;

@@ -1,7 +1,7 @@
 -- Slices of symbols, and their numbers.
 use Rattle.std.proofs.Common.{◌≡◌, ℕ, ◌+◌, ◌-◌, ◌<◌, List, ◌∷◌, map, length, get_or, take, drop, subst, sym, ap, ◌∙◌, All}
 use Rattle.std.proofs.lemmas.List.{length-map, get_or-map, take_rest, drop-map, drop_more}
-use Rattle.std.proofs.lemmas.List.Elements.{All-get_or, All-drop}
+use Rattle.std.proofs.lemmas.List.Elements.{All-get_or}
 
 module _ {X Y : Type 0} (f : X → Y) (xs : List X) (i : ℕ) (x : X) (is : x ≡ get_or xs i x) (lt : i < length xs) where
   pub mapped_within : i < length (map f xs)
@@ -19,6 +19,3 @@ module _ {X Y : Type 0} (f : X → Y) (xs : List X) (i : ℕ) (x : X) (is : x �
 
   pub mapped_drop : drop i (map f xs) ≡ f x ∷ map f (take (length xs - (i + 1)) (drop (i + 1) xs))
   mapped_drop = drop_more (map f xs) i (f x) mapped_within ∙ ap (λ y. y ∷ drop (i + 1) (map f xs)) (sym mapped_at) ∙ ap (λ l. f x ∷ l) (sym mapped_rest)
-
-  pub mapped_all_rest : (P : Y → Type 0) → All P (map f xs) → All P (map f (take (length xs - (i + 1)) (drop (i + 1) xs)))
-  mapped_all_rest P all = subst (λ l. All P l) (sym mapped_rest) (All-drop P (i + 1) (map f xs) all)

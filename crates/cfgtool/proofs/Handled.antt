@@ -1,5 +1,5 @@
 -- How a run ends, by what its arguments name and what its source returns.
-use Rattle.std.proofs.Common.{◌≡◌, ℕ, ◌<◌, ◌≤◌, List, [], ◌∷◌, length, map, get_or, Option, Some, Result, Ok, Err, Vec, Global, Bool, true, refl, sym, subst, ap, arith}
+use Rattle.std.proofs.Common.{◌≡◌, ℕ, ◌<◌, ◌≤◌, List, [], ◌∷◌, length, map, get_or, Option, Some, Result, Ok, Err, Vec, Global, true, refl, sym, subst, ap, arith}
 use Rattle.std.specs.Prelude.{IsErrAnd}
 use Rattle.std.specs.Borrow.{Bor}
 use Rattle.std.specs.Io.KnownBytes.{Keeps}
@@ -14,7 +14,7 @@ use Rattle.cfgtool.specs.declared.arguments.Command.{Command}
 use Rattle.cfgprogram.specs.declared.kinds.KindArg.{KindArg}
 use Rattle.cfgtool.specs.Endings.{Ending, NotUtf8, Usage, IsFetched, ending_in, ending_of, ending_with}
 use Rattle.cfgprogram.specs.Kinds.{kind_named}
-use Rattle.cfgtool.specs.Arguments.{asks_lexer, command_named}
+use Rattle.cfgtool.specs.Arguments.{command_named}
 use Rattle.cfgtool.specs.Report.{ReportsText}
 use Rattle.cfgtool.specs.Run.{EndsReported, EndsUnread, HandlesFirst, HandlesLexer, HandlesNames, HandlesTexts, HandlesArguments, WithBytes, WithText}
 
@@ -25,16 +25,6 @@ three_arguments (x ∷ []) d least below = absurd (omega (arith, least))
 three_arguments (x ∷ (y ∷ [])) d least below = absurd (omega (arith, least))
 three_arguments (x ∷ (y ∷ (z ∷ []))) d least below = refl
 three_arguments (x ∷ (y ∷ (z ∷ (w ∷ rest)))) d least below = absurd (omega (arith, below))
-
-four_arguments : (arguments : List (Bor (List ℕ))) (d : Bor (List ℕ)) → 4 ≤ length arguments → length arguments < 5
-    → map (λ word. word.now) arguments
-    ≡ (get_or arguments 0 d).now ∷ ((get_or arguments 1 d).now ∷ ((get_or arguments 2 d).now ∷ ((get_or arguments 3 d).now ∷ [])))
-four_arguments [] d least below = absurd (omega (arith, least))
-four_arguments (x ∷ []) d least below = absurd (omega (arith, least))
-four_arguments (x ∷ (y ∷ [])) d least below = absurd (omega (arith, least))
-four_arguments (x ∷ (y ∷ (z ∷ []))) d least below = absurd (omega (arith, least))
-four_arguments (x ∷ (y ∷ (z ∷ (w ∷ [])))) d least below = refl
-four_arguments (x ∷ (y ∷ (z ∷ (w ∷ (v ∷ rest))))) d least below = absurd (omega (arith, below))
 
 -- how a run ends whose report failed
 pub ended_with : (r : Result Outcome RunFault) (fault : ReportFault) → IsErrAnd r (λ made. ending_with made ≡ ending_of (Err fault)) → ending_in r ≡ ending_of (Err fault)
@@ -96,14 +86,6 @@ module _ {S : Type 0} (arguments : List (Bor (List ℕ))) (d : Bor (List ℕ)) (
       → HandlesNames (kind_named (get_or arguments 0 d).now) (command_named (get_or arguments 1 d).now) (get_or arguments 2 d).now Fetches before after old new ending
       → HandlesArguments (map (λ word. word.now) arguments) Fetches before after old new ending
   handled least below handles = subst (λ ws. HandlesArguments ws Fetches before after old new ending) (sym (three_arguments arguments d least below)) handles
-
-  -- four arguments
-  pub handled_lexer : 4 ≤ length arguments → length arguments < 5
-      → (requested : Bool) → requested ≡ asks_lexer (get_or arguments 1 d).now (get_or arguments 2 d).now (get_or arguments 3 d).now
-      → HandlesLexer (kind_named (get_or arguments 0 d).now) requested (get_or arguments 2 d).now (get_or arguments 3 d).now Fetches before after old new ending
-      → HandlesArguments (map (λ word. word.now) arguments) Fetches before after old new ending
-  handled_lexer least below requested is handles = subst (λ ws. HandlesArguments ws Fetches before after old new ending) (sym (four_arguments arguments d least below))
-      (subst (λ a. HandlesLexer (kind_named (get_or arguments 0 d).now) a (get_or arguments 2 d).now (get_or arguments 3 d).now Fetches before after old new ending) is handles)
 
   -- neither three arguments nor four
   pub unrequested : ending ≡ Usage → after ≡ before → new ≡ old → (3 ≤ length arguments → length arguments < 5 → ⊥) → HandlesArguments (map (λ word. word.now) arguments) Fetches before after old new ending

@@ -108,19 +108,19 @@ step_within kind (b ∷ c ∷ rest) = go (passes_one kind b) (passes_two kind b 
     go false false = omega arith
 
 -- What a counter knows after i bytes, if step more are passed next: its count and what is passed of the rest make up the whole.
-pub record IsOptimalByKind (kind : Kind) (text : List ℕ) (i step : ℕ) : Type 0 where
+pub record IsCounted (kind : Kind) (text : List ℕ) (i step : ℕ) : Type 0 where
   pub within : i ≤ length text
   pub next : step ≡ step_len kind (drop i text)
   pub counted : i + passed_len kind (drop i text) ≡ passed_len kind text
 
-pub counted_start : (kind : Kind) (text : List ℕ) (step : ℕ) → step ≡ step_len kind text → IsOptimalByKind kind text 0 step
+pub counted_start : (kind : Kind) (text : List ℕ) (step : ℕ) → step ≡ step_len kind text → IsCounted kind text 0 step
 counted_start kind text step e = record { within = omega arith; next = e; counted = omega arith }
 
-pub counted_within : (kind : Kind) (text : List ℕ) (i step : ℕ) → IsOptimalByKind kind text i step → i + step ≤ length text
+pub counted_within : (kind : Kind) (text : List ℕ) (i step : ℕ) → IsCounted kind text i step → i + step ≤ length text
 counted_within kind text i step c = omega (arith, c.within, c.next, step_within kind (drop i text), length-drop i text)
 
-pub counted_on : (kind : Kind) (text : List ℕ) (i step more : ℕ) → IsOptimalByKind kind text i step
-    → more ≡ step_len kind (take (length text - (i + step)) (drop (i + step) text)) → IsOptimalByKind kind text (i + step) more
+pub counted_on : (kind : Kind) (text : List ℕ) (i step more : ℕ) → IsCounted kind text i step
+    → more ≡ step_len kind (take (length text - (i + step)) (drop (i + step) text)) → IsCounted kind text (i + step) more
 counted_on kind text i step more c e = record {
   within = counted_within kind text i step c;
   next = rw take_rest at e;
@@ -131,7 +131,7 @@ counted_on kind text i step more c e = record {
       omega (arith, on, c.counted);
 }
 
-pub counted_end : (kind : Kind) (text : List ℕ) (i step : ℕ) → IsOptimalByKind kind text i step → step ≤ 0 → i ≡ passed_len kind text
+pub counted_end : (kind : Kind) (text : List ℕ) (i step : ℕ) → IsCounted kind text i step → step ≤ 0 → i ≡ passed_len kind text
 counted_end kind text i step c none =
     let ended : step_len kind (drop i text) ≡ 0 = omega (arith, c.next) in
     omega (arith, c.counted, len_stop kind (drop i text) (eq-eqb _ _ ended))

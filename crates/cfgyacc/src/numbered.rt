@@ -7,7 +7,7 @@ ghost use Rattle.cfgnumbers.specs.Numberable.{IsNumberable};
 ghost use Rattle.cfgnumbers.specs.Numbered.{numbered};
 
 use crate::grammar::YaccGrammar;
-use cfgast::GrammarAST;
+use cfgast::{GrammarAST, symbol_indices};
 use cfgindex::Storage;
 use cfgkinds::YaccKind;
 use cfgnumbers::Numbering;
@@ -31,5 +31,7 @@ pub fn numbered_if_fits<S: Storage>(
     if !Numbering::new(kind, ast).fits::<S>() {
         return Ok(None);
     }
-    Ok(Some(YaccGrammar::from_numberable(alloc, kind, ast)?))
+    let indices = symbol_indices(alloc, ast)?;
+    let grammar = YaccGrammar::from_numberable(alloc, kind, ast, &indices)?;
+    Ok(Some(grammar))
 }

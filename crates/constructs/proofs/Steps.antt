@@ -4,8 +4,8 @@ use Rattle.std.specs.Prelude.{IsErrAnd}
 use Rattle.std.proofs.lemmas.List.Sums.{fold-append}
 use Rattle.std.proofs.lemmas.Result.{err_from_is_err_and}
 use Rattle.constructs.specs.Leaves.{Gives, ValueOf, Leaves, Less, One, OneOrEnd}
-use Rattle.constructs.specs.Read.{Read, gives, prefixed, follow_outcome, recover_outcome}
-use Rattle.constructs.specs.Construct.{Construct, then, recovers, again, many, repeat, while_test, computes}
+use Rattle.constructs.specs.Read.{Read, gives, follow_outcome}
+use Rattle.constructs.specs.Construct.{Construct, then, again, many, repeat, while_test, computes}
 use Rattle.constructs.specs.Steps.{ReaderKind, Grows, Stops, Returns, Fails, Builds}
 use Rattle.constructs.proofs.Agree.{leaves}
 use Rattle.constructs.proofs.Loops.{Prefix, prefix_start, prefix_one, prefix_done, prefix_stopped}
@@ -40,38 +40,6 @@ module _ {Reader Fixed Stop Made Item Fault : Type 0} (R : ReaderKind Reader Fix
         subst (λ o. Returns R (λ x. f (view x)) old new (Ok x) (follow_outcome r.items o (λ a. gives (f a)))) (sym returns.0)
         (refl, returns.1, returns.2 ∙ ap (λ items. fold R.add (R.made old) items) (sym (append-nil r.items)))
     returns_then view (Err e) returns = stops_then (R.fault e) returns
-
-  -- a construct that no fault stopped
-  pub whole_builds : {l m : Leaves} {G : Gives} {X : Type 0} (c : Construct Item Fault l G) (d : Fault → Construct Item Fault m G) (view : X → ValueOf G)
-      (now next : Reader) (x : X) → Builds R view now next (Ok x) c → Builds R view now next (Ok x) (recovers c d)
-  whole_builds c d view now next x (outcome, fixed, grown) =
-      subst (λ o. Returns R view now next (Ok x) (recover_outcome (computes c (R.rest now)).items o (λ fault. computes (d fault) (R.rest now))))
-      (sym outcome) (refl, fixed, grown)
-
-  -- what was read again after a fault, from where the construct began
-  module _ {A : Type 0} (now stopped again next : Reader) (items : List Item) (r : Read Item Fault A) (made : R.made again ≡ R.made stopped)
-      (before : Grows R now stopped items) where
-    grows_after : Grows R again next r.items → Grows R now next (items ++ r.items)
-    grows_after more = more ∙ ap (λ s. fold R.add s r.items) (made ∙ before) ∙ sym (fold-append R.add (R.made now) items r.items)
-
-    stops_after : (o : Option Fault) → Stops R again next o r → Stops R now next o (prefixed items r)
-    stops_after None stops = tt
-    stops_after (Some fault) stops = (stops.0, grows_after stops.1)
-
-    returns_after : {X : Type 0} (view : X → A) (result : Result X Stop) → R.fixed again ≡ R.fixed now → Returns R view again next result r
-        → Returns R view now next result (prefixed items r)
-    returns_after view (Ok x) fixed returns = (returns.0, returns.1 ∙ fixed, grows_after returns.2)
-    returns_after view (Err e) fixed returns = stops_after (R.fault e) returns
-
-  pub recovers_builds : {l m : Leaves} {G : Gives} {X : Type 0} (c : Construct Item Fault l G) (d : Fault → Construct Item Fault m G) (view : X → ValueOf G)
-      (now stopped again next : Reader) (fault : Fault) (result : Result X Stop) → Stops R now stopped (Some fault) (computes c (R.rest now))
-      → R.rest again ≡ R.rest now → R.fixed again ≡ R.fixed now → R.made again ≡ R.made stopped
-      → Builds R view again next result (d fault) → Builds R view now next result (recovers c d)
-  recovers_builds c d view now stopped again next fault result (outcome, grown) rest fixed made builds =
-      let items = (computes c (R.rest now)).items in
-      subst (λ o. Returns R view now next result (recover_outcome items o (λ fault. computes (d fault) (R.rest now)))) (sym outcome)
-      (returns_after now stopped again next items (computes (d fault) (R.rest now)) made grown view result fixed
-      (subst (λ text. Returns R view again next result (computes (d fault) text)) rest builds))
 
   -- the turns of a loop with a test
   module _ {A : Type 0} (test : List ℕ → Bool) (d : Fixed → Construct Item Fault Less (One A)) (now : Reader) where

@@ -21,6 +21,7 @@ ghost use Rattle.cfgsyntax.specs.Inner.Steps.{IsReadSection};
 ghost use Rattle.cfgsyntax.specs.SelfNamed.{ReturnsNaming, ReturnsNamedOr, IsParsedAs};
 ghost use Rattle.cfgsyntax.specs.Reads.{Reads, HasOneReading, Stop};
 ghost use Rattle.cfgast.specs.Sound.{IsSound};
+ghost use Rattle.cfgast.specs.SymbolIndices.{symbol_indices};
 ghost use Rattle.cfgsyntax.specs.ErrorSpans.{EachFaultSpan, EachParsedSpan};
 ghost use Rattle.cfgsyntax.specs.Starts.{restarted, IsStartFault};
 
@@ -29,35 +30,48 @@ use crate::validation::has_rule;
 pub use cfgast::GrammarAST;
 use cfgast::{clone_with_start, tree_with};
 use cfgerrors::{YaccGrammarError, YaccGrammarErrorKind, YaccGrammarResult};
+use cfgindex::Lists;
 pub use cfgitems::{Production, Rule, Settings, Symbol};
 use cfgkinds::YaccKind;
 use cfgsection::HeaderFault;
 use cfgsection::named::{kind_if_named, kind_named};
-use errors::{errors_found, fault_of};
+use errors::{fault_of, validated};
 pub use every_check::every_error;
 pub use source::KindSource;
 pub use start::{ASTModificationError, StartFault};
 use std::alloc::{AllocError, Global};
+use std::fmt;
 use std::marker::Model;
 
 /// The syntax of what was read of a Yacc file, and the errors of the file.
-#[derive(Debug, Drop)]
+#[derive(Drop)]
 pub struct ASTWithValidityInfo {
     kind: YaccKind,
     ast: GrammarAST,
     errors: Vec<YaccGrammarError>,
+    // Of what the symbols of productions name, so that the grammar needn't look for it again.
+    indices: Lists<usize>,
 }
 
 impl Model for ASTWithValidityInfo {
+    ghost use Rattle.std.specs.Prelude.{◌≡◌};
     ghost use Rattle.cfgast.specs.TreeView.{syntax};
     ghost use Rattle.cfgsyntax.specs.Parsed.{Parsed};
     ghost use Rattle.cfgast.specs.Sound.{IsSound};
+    ghost use Rattle.cfgast.specs.SymbolIndices.{symbol_indices};
 
     ghost Value = { Parsed };
 
     ghost view = { λ x. record { kind = x.kind; syntax = syntax x.ast; errors = x.errors.items } };
 
-    ghost invariant = { λ x. IsSound (syntax x.ast) x.errors.items };
+    ghost invariant = { λ x. IsSound (syntax x.ast) x.errors.items × (x.indices ≡ symbol_indices (syntax x.ast)) };
+}
+
+/// What the symbols of the productions name, by index. No public path of `cfgrammar` leads to it.
+pub fn indices_of(parsed: &ASTWithValidityInfo) -> &Lists<usize>
+    ensures { result.now ≡ symbol_indices parsed.now.syntax }
+{
+    &parsed.indices
 }
 
 impl ASTWithValidityInfo {
@@ -149,9 +163,14 @@ impl ASTWithValidityInfo {
         ensures offsets { IfOk result (EachParsedSpan (IsPiece text.now) (IsWithin text.now)) }
     {
         let (ast, stop) = read(alloc, kind, text, rest)?;
-        let errors = errors_found(alloc, &ast, stop);
-        let (ast, errors) = tree_with(ast, errors)?;
-        Ok(ASTWithValidityInfo { kind, ast, errors })
+        let found = validated(alloc, &ast, stop);
+        let (ast, (indices, errors)) = tree_with(ast, found)?;
+        Ok(ASTWithValidityInfo {
+            kind,
+            ast,
+            errors,
+            indices,
+        })
     }
 
     /// What was read of the file. It need not be valid.
@@ -200,11 +219,13 @@ impl ASTWithValidityInfo {
             return Err(StartFault::Modification(ASTModificationError { kind }));
         }
         let errors = self.errors.to_vec(alloc)?;
+        let indices = self.indices.clone()?;
         let ast = clone_with_start(&self.ast, name)?;
         Ok(ASTWithValidityInfo {
             kind: self.kind,
             ast,
             errors,
+            indices,
         })
     }
 }
@@ -214,11 +235,23 @@ impl Clone for ASTWithValidityInfo {
 
     fn clone(&self) -> Result<Self, AllocError> {
         let errors = self.errors.clone()?;
+        let indices = self.indices.clone()?;
         let ast = self.ast.clone()?;
         Ok(ASTWithValidityInfo {
             kind: self.kind,
             ast,
             errors,
+            indices,
         })
+    }
+}
+
+impl fmt::Debug for ASTWithValidityInfo {
+    fn fmt<W: fmt::Write>(&self, f: &mut fmt::Formatter<W>) -> fmt::Result {
+        f.debug_struct("ASTWithValidityInfo")
+            .field("kind", &self.kind)
+            .field("ast", &self.ast)
+            .field("errors", &self.errors)
+            .finish()
     }
 }

@@ -1,7 +1,6 @@
 use Rattle.std.proofs.Common.{refl, sym, ap, ◌∙◌}
 use Rattle.std.specs.Borrow.{Bor}
 use Rattle.cfgitems.specs.declared.occurrence.Unique.{Unique}
-use Rattle.cfgitems.specs.SyntaxView.{occurrence_view}
 use Rattle.cfgast.specs.TreeView.{duplicate_view}
 use Rattle.cfgast.specs.Duplicates.{duplicates}
 use Rattle.cfgast.proofs.Gathered.{offset_apart, offset_added, located_nowhere}

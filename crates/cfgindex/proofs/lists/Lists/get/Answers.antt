@@ -1,7 +1,7 @@
 use Rattle.std.proofs.Common.{Some, length, slice_range, arith, sym, ap, ◌∙◌}
 use Rattle.std.proofs.lemmas.List.{length-take-le}
-use Rattle.cfgnumbers.proofs.ListsBetween.{at_first, at_next, within}
-use Rattle.cfgnumbers.proofs.lists.Lists.get.Goals as goal
+use Rattle.cfgindex.proofs.ListsBetween.{at_first, at_next, within}
+use Rattle.cfgindex.proofs.lists.Lists.get.Goals as goal
 
 pub index-end-requires : goal.index-end-requires
 index-end-requires g c = omega (arith, within c.self.inside.items.items c.self.inside.ends.items c.self.invariant _ c.self.view_is c.args.index c.requires)

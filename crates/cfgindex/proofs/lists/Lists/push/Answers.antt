@@ -1,6 +1,6 @@
 use Rattle.std.proofs.Common.{◌++◌, ◌∷◌, [], arith, ap, ◌∙◌}
-use Rattle.cfgnumbers.proofs.ListsBetween.{pushed}
-use Rattle.cfgnumbers.proofs.lists.Lists.push.Goals as goal
+use Rattle.cfgindex.proofs.ListsBetween.{pushed}
+use Rattle.cfgindex.proofs.lists.Lists.push.Goals as goal
 
 pub invariant_of-self-2 : goal.invariant_of-self-2
 invariant_of-self-2 g c =

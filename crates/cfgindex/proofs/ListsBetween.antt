@@ -2,7 +2,7 @@
 use Rattle.std.proofs.Common.{◌≡◌, ℕ, zero, suc, ◌+◌, ◌-◌, ◌<◌, ◌≤◌, List, [], ◌∷◌, ◌++◌, length, get_or, slice_get, slice_range, take, drop, Some, arith, refl, sym, ap, subst, ◌∙◌, length-append}
 use Rattle.std.proofs.Math.Seq.{drop-append_seam}
 use Rattle.std.proofs.lemmas.List.{drop-append-le, length-drop, take_all, take-append-le}
-use Rattle.cfgnumbers.specs.Inner.Lists.{AreEnds, lists_between}
+use Rattle.cfgindex.specs.Inner.Lists.{AreEnds, lists_between}
 
 pub lists_between-length : {A : Type 0} (items : List A) (start : ℕ) (ends : List ℕ) → length (lists_between items start ends) ≡ length ends
 lists_between-length items start [] = refl

@@ -14,7 +14,7 @@ pub struct Lists<T: Copy> {
 
 impl<T: Copy> Model for Lists<T> {
     ghost use Rattle.std.specs.Prelude.{List, length};
-    ghost use Rattle.cfgnumbers.specs.Inner.Lists.{AreEnds, lists_between};
+    ghost use Rattle.cfgindex.specs.Inner.Lists.{AreEnds, lists_between};
 
     ghost Value = { List (List T) };
 
@@ -64,5 +64,18 @@ impl<T: Copy> Lists<T> {
         self.items.extend_from_slice(list)?;
         self.ends.push_reserved(self.items.len());
         Ok(())
+    }
+}
+
+impl<T: Copy> Clone for Lists<T> {
+    ghost is_clone = { λ lists copy. copy ≡ lists };
+
+    fn clone(&self) -> Result<Self, AllocError> {
+        let alloc = *self.items.allocator();
+        let mut items = Vec::new(alloc);
+        items.extend_from_slice(&self.items)?;
+        let mut ends = Vec::new(alloc);
+        ends.extend_from_slice(&self.ends)?;
+        Ok(Lists { items, ends })
     }
 }
