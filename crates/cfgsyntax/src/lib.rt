@@ -1,6 +1,7 @@
 //! Yacc grammars as written: the text of a Yacc file, its syntax, and its errors.
 #![tactic(auto)]
 
+pub mod indices;
 pub mod laws;
 mod read;
 mod validation;

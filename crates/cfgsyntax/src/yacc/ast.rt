@@ -21,7 +21,6 @@ ghost use Rattle.cfgsyntax.specs.Inner.Steps.{IsReadSection};
 ghost use Rattle.cfgsyntax.specs.SelfNamed.{ReturnsNaming, ReturnsNamedOr, IsParsedAs};
 ghost use Rattle.cfgsyntax.specs.Reads.{Reads, HasOneReading, Stop};
 ghost use Rattle.cfgast.specs.Sound.{IsSound};
-ghost use Rattle.cfgast.specs.SymbolIndices.{symbol_indices};
 ghost use Rattle.cfgsyntax.specs.ErrorSpans.{EachFaultSpan, EachParsedSpan};
 ghost use Rattle.cfgsyntax.specs.Starts.{restarted, IsStartFault};
 
@@ -50,7 +49,7 @@ pub struct ASTWithValidityInfo {
     ast: GrammarAST,
     errors: Vec<YaccGrammarError>,
     // Of what the symbols of productions name, so that the grammar needn't look for it again.
-    indices: Lists<usize>,
+    pub(crate) indices: Lists<usize>,
 }
 
 impl Model for ASTWithValidityInfo {
@@ -65,13 +64,6 @@ impl Model for ASTWithValidityInfo {
     ghost view = { λ x. record { kind = x.kind; syntax = syntax x.ast; errors = x.errors.items } };
 
     ghost invariant = { λ x. IsSound (syntax x.ast) x.errors.items × (x.indices ≡ symbol_indices (syntax x.ast)) };
-}
-
-/// What the symbols of the productions name, by index. No public path of `cfgrammar` leads to it.
-pub fn indices_of(parsed: &ASTWithValidityInfo) -> &Lists<usize>
-    ensures { result.now ≡ symbol_indices parsed.now.syntax }
-{
-    &parsed.indices
 }
 
 impl ASTWithValidityInfo {
