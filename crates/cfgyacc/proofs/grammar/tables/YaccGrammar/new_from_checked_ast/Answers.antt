@@ -21,7 +21,7 @@ from_numberable-requires g c =
       room = of_both HasRoom (syntax c.ast.result.now) parsed.syntax (implicit_of c.yacc_kind.result (syntax c.ast.result.now)) (implicit_of parsed.kind parsed.syntax)
           c.ast.ensures.value (λ i. implicit_of (c.yacc_kind.ensures i) (c.ast.ensures.value i))
           (room g.S.Storage.MAX parsed.kind parsed.syntax c.ast.ensures.sound.well_formed c.requires.1);
-      indices = c.indices_of.ensures ∙ ap symbol_indices (sym c.ast.ensures.value);
+      indices = c.indices_of-indices.ensures ∙ ap symbol_indices (sym c.ast.ensures.value);
     }
 
 pub returns : goal.returns
