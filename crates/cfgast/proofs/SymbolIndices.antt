@@ -9,14 +9,16 @@ use Rattle.lemmas.proofs.Positions.{found-position, position-map}
 use Rattle.cfgwords.specs.FileWords.{Word}
 use Rattle.cfgerrors.specs.Errors.{GrammarError}
 use Rattle.cfgitems.specs.Building.{has_name}
-use Rattle.cfgitems.specs.Syntax.{Syntax, Rule, Production, RuleSymbol, TokenSymbol}
+use Rattle.cfgitems.specs.Syntax.{Syntax, Rule, Production, RuleSymbol, TokenSymbol, entry_name}
 use Rattle.cfgitems.specs.SyntaxView.{rule_entry, production_view, symbol_view}
 use Rattle.cfgitems.specs.declared.symbol.Symbol as source_symbol
 use Rattle.cfgitems.specs.declared.production.Production as source_production
 use Rattle.cfgitems.specs.declared.rule.Rule as source
 use Rattle.cfgitems.proofs.Views.{is_key}
 use Rattle.cfgast.specs.Check.{symbol_error}
+use Rattle.cfgast.specs.Inner.Nodes.{node_of}
 use Rattle.cfgast.specs.SymbolIndices.{symbol_index, symbol_indices}
+use Rattle.cfgast.specs.Unused.{RuleName}
 
 -- if there is no index, the first that passes is the number of elements
 module _ {A : Type 0} (p : A → Bool) where
@@ -83,3 +85,8 @@ index_at s symbols n symbol indices within is same =
     ap (λ all. get_or all n 0) same
     ∙ get_or-map (symbol_index s) (map symbol_view symbols) n (symbol_view symbol) 0 (omega (arith, within, length-map symbols symbol_view))
     ∙ ap (symbol_index s) (get_or-map symbol_view symbols n symbol (symbol_view symbol) within ∙ ap symbol_view (sym is))
+
+-- the node of a rule, by whether its index is one
+pub rule_node : (s : Syntax) (word : Word) (b : Bool) → nat_lt (symbol_index s (RuleSymbol word)) (length s.rules) ≡ b
+    → node_of s (RuleName word.name) ≡ cond b (Some (symbol_index s (RuleSymbol word))) None
+rule_node s word b is = position-map (bytes_eq word.name) entry_name s.rules ∙ ap (λ b. cond b (Some (symbol_index s (RuleSymbol word))) None) is

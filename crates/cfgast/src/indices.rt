@@ -59,7 +59,7 @@ fn put_indices(
 }
 
 /// The index of what the symbol names.
-fn symbol_index(ast: &GrammarAST, symbol: &Symbol) -> usize
+pub(crate) fn symbol_index(ast: &GrammarAST, symbol: &Symbol) -> usize
     ensures { result ≡ symbol_index (syntax ast.now) (symbol_view symbol.now) }
 {
     match symbol {

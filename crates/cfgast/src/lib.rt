@@ -9,4 +9,5 @@ pub mod writing;
 
 pub use ast::{GrammarAST, tree_of, tree_with};
 pub use indices::symbol_indices;
+pub use unused::indexed_warnings;
 pub use writing::clone_with_start;

@@ -4,6 +4,7 @@ ghost use Rattle.std.specs.Prelude.{◌≡◌, ◌+◌, ◌-◌, ◌^◌, ◌<�
 ghost use Rattle.cfgrammar.specs.TextSpans.{IsPiece, IsWithin};
 ghost use Rattle.cfgrammar.specs.Syntax.{EachSpan};
 ghost use Rattle.cfgrammar.specs.TreeView.{syntax};
+ghost use Rattle.cfgrammar.specs.Unused.{AreWarnings};
 ghost use Rattle.cfgrammar.specs.Answer.{Found};
 ghost use Rattle.cfgprogram.specs.ReadText.{IsFound};
 ghost use Rattle.cfgtool.specs.FirstLines.{AreFirstLines};
@@ -22,8 +23,8 @@ use crate::lines::{error_lines, production_lines, warning_lines};
 use crate::sentence_lines::sentence_lines;
 use cfgprogram::KindArg;
 use cfgprogram::driver::{TextReader, read_text};
-use cfgrammar::yacc::ast::GrammarAST;
-use cfgrammar::yacc::{YaccGrammar, YaccGrammarError};
+use cfgrammar::yacc::ast::{ASTWithValidityInfo, GrammarAST};
+use cfgrammar::yacc::{YaccGrammar, YaccGrammarError, YaccGrammarWarning};
 pub use cfgsink::{Outcome, ReportFault};
 use cfgsink::{Sink, write_report};
 use std::alloc::{AllocError, Global};
@@ -115,11 +116,12 @@ impl TextReader<(Outcome, String)> for RequestReader<'_> {
         &self,
         alloc: Global,
         text: &str,
-        ast: &GrammarAST,
+        parsed: &ASTWithValidityInfo,
     ) -> Result<Option<(Outcome, String)>, AllocError> {
         match self.request {
             Request::Command(Command::Warnings) => {
-                let lines = reported_warnings(alloc, text, ast)?;
+                let warnings = parsed.warnings(alloc)?;
+                let lines = reported_warnings(alloc, text, parsed.ast(), &warnings)?;
                 Ok(Some((Outcome::Done, lines)))
             }
             Request::Command(_) | Request::Names(_) => Ok(None),
@@ -195,7 +197,10 @@ fn command_lines(
         Command::Firsts => reported_firsts(alloc, grammar),
         Command::Follows => reported_follows(alloc, grammar),
         Command::Sentences => sentence_lines(alloc, grammar),
-        Command::Warnings => reported_warnings(alloc, text, ast),
+        Command::Warnings => {
+            let warnings = ast.warnings(alloc)?;
+            reported_warnings(alloc, text, ast, &warnings)
+        }
     }
 }
 
@@ -216,10 +221,15 @@ fn reported_follows(alloc: Global, grammar: &YaccGrammar<u32>) -> Result<String,
 }
 
 /// The lines of the warnings of a text with this tree.
-fn reported_warnings(alloc: Global, text: &str, ast: &GrammarAST) -> Result<String, AllocError>
-    requires { EachSpan (IsPiece text.now) (IsWithin text.now) (syntax ast.now) }
+fn reported_warnings(
+    alloc: Global,
+    text: &str,
+    ast: &GrammarAST,
+    warnings: &[YaccGrammarWarning],
+) -> Result<String, AllocError>
+    requires spans { EachSpan (IsPiece text.now) (IsWithin text.now) (syntax ast.now) }
+    requires warnings { AreWarnings (syntax ast.now) warnings.now }
     ensures { IfOk result (λ lines. AreWarningLines text.now (syntax ast.now) (string_bytes lines)) }
 {
-    let warnings = ast.warnings(alloc)?;
-    warning_lines(alloc, text, &warnings)
+    warning_lines(alloc, text, warnings)
 }

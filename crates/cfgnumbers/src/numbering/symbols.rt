@@ -46,8 +46,8 @@ impl Numbering<'_> {
         Ok(last)
     }
 
-    /// Adds a symbol of the file to those that are numbered, given the index of what it names. The result is that index,
-    /// if it is a token's.
+    /// Adds a symbol of the file to those that are numbered, given the index of what it names. Returns that index, if
+    /// it is a token's.
     fn push_symbol<S: Storage>(
         &self,
         numbered: &mut Vec<Symbol<S>>,

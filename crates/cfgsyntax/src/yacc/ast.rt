@@ -14,6 +14,7 @@ ghost use Rattle.cfgitems.specs.Syntax.{syntax_of};
 ghost use Rattle.cfgitems.specs.SyntaxView.{named_view};
 ghost use Rattle.cfgerrors.specs.Refusal.{ListsErrors};
 ghost use Rattle.cfgast.specs.TreeView.{syntax};
+ghost use Rattle.cfgast.specs.Unused.{AreWarnings};
 ghost use Rattle.cfgsection.specs.Named.{HasOneNaming, Names, Naming};
 ghost use Rattle.cfgsyntax.specs.Faults.{errors_of};
 ghost use Rattle.cfgwords.specs.TextSpans.{IsPiece, IsWithin};
@@ -27,8 +28,8 @@ ghost use Rattle.cfgsyntax.specs.Starts.{restarted, IsStartFault};
 use crate::read::{after_section, read};
 use crate::validation::has_rule;
 pub use cfgast::GrammarAST;
-use cfgast::{clone_with_start, tree_with};
-use cfgerrors::{YaccGrammarError, YaccGrammarErrorKind, YaccGrammarResult};
+use cfgast::{clone_with_start, indexed_warnings, tree_with};
+use cfgerrors::{YaccGrammarError, YaccGrammarErrorKind, YaccGrammarResult, YaccGrammarWarning};
 use cfgindex::Lists;
 pub use cfgitems::{Production, Rule, Settings, Symbol};
 use cfgkinds::YaccKind;
@@ -48,7 +49,7 @@ pub struct ASTWithValidityInfo {
     kind: YaccKind,
     ast: GrammarAST,
     errors: Vec<YaccGrammarError>,
-    // Of what the symbols of productions name, so that the grammar needn't look for it again.
+    // Of what the symbols of productions name, so that neither the grammar nor the warnings look for it again.
     pub(crate) indices: Lists<usize>,
 }
 
@@ -192,6 +193,18 @@ impl ASTWithValidityInfo {
         ensures { result.now ≡ self.now.errors }
     {
         self.errors.as_slice()
+    }
+
+    /// What is unused in what was read: the warnings that [`warnings`](GrammarAST::warnings) of its tree returns. No name is
+    /// looked up again.
+    ///
+    /// # Errors
+    ///
+    /// Running out of memory.
+    pub fn warnings(&self, alloc: Global) -> Result<Vec<YaccGrammarWarning>, AllocError>
+        ensures { IfOk result (λ warnings. AreWarnings self.now.syntax warnings.items) }
+    {
+        indexed_warnings(alloc, &self.ast, &self.indices)
     }
 
     /// A copy with another start: the given rule's name and span. The kind and the errors stay as they are, and so does

@@ -101,8 +101,8 @@ fn stop_errors(alloc: Global, stop: Option<Stopped>) -> Result<Vec<YaccGrammarEr
     }
 }
 
-/// What the symbols of this syntax name, by index, and the errors of the file that was read as it, up to what stopped the
-/// reading.
+/// What the symbols of this syntax name, by index, and the errors of the file that was read as it, up to what stopped
+/// the reading.
 pub(super) fn validated(
     alloc: Global,
     ast: &GrammarAST,

@@ -1,7 +1,7 @@
 use Rattle.std.proofs.Common.{arith, ◌∙◌}
 use Rattle.std.proofs.lemmas.List.{get_or_default}
 use Rattle.search.proofs.Each.{each_none, each_more, each_all}
-use Rattle.cfgast.proofs.ast.GrammarAST.reach_all_referred.Goals as goal
+use Rattle.cfgast.proofs.unused.IndexedTree.reach_all_referred.Goals as goal
 
 pub loop-production-init : goal.loop-production-init
 loop-production-init c = each_none _ _

@@ -3,18 +3,18 @@ use Rattle.cfgerrors.specs.Warnings.{GrammarWarning}
 use Rattle.cfgast.specs.Unused.{Warned, none, possible_warnings}
 use Rattle.cfgast.specs.TreeView.{syntax}
 use Rattle.cfgast.proofs.Warning.{unused, warned_more, warned_known, warned_past, warned_all}
-use Rattle.cfgast.proofs.ast.GrammarAST.warnings.Goals as goal
-use Rattle.cfgast.proofs.ast.GrammarAST.warnings.Goals.{then-not-is_reachable+in-Some+in_ok-warning_at+in_ok-push, then-not-is_reachable+in_default, else-not-is_reachable}
+use Rattle.cfgast.proofs.unused.indexed_warnings.Goals as goal
+use Rattle.cfgast.proofs.unused.indexed_warnings.Goals.{then-not-is_reachable+in-Some+in_ok-warning_at+in_ok-push, then-not-is_reachable+in_default, else-not-is_reachable}
 
 pub loop-node-init : goal.loop-node-init
-loop-node-init c = subst (Warned (syntax c.args.self.now) []) (sym c.new-warnings.ensures.items) none
+loop-node-init c = subst (Warned (syntax c.args.ast.now) []) (sym c.new-warnings.ensures.items) none
 
 pub kind_and_span-requires : goal.kind_and_span-requires
 kind_and_span-requires c = omega (arith, c.loop-node-test.true, c.node_count-node-end.ensures.count)
 
 pub loop-node-preserved : goal.loop-node-preserved
 loop-node-preserved c =
-    let s = syntax c.args.self.now in
+    let s = syntax c.args.ast.now in
     let i = c.loop-node.node in
     let reported = c.loop-node.warnings.items in
     let Prefix = λ (l : List GrammarWarning). Warned s (take (i + 1) (possible_warnings s)) l in
@@ -29,4 +29,4 @@ loop-node-preserved c =
     ]
 
 pub returns : goal.returns
-returns c = warned_all (syntax c.args.self.now) c.loop-node.node c.loop-node.warnings.items c.loop-node.invariant (omega (arith, c.loop-node-test.false, c.node_count-node-end.ensures.count))
+returns c = warned_all (syntax c.args.ast.now) c.loop-node.node c.loop-node.warnings.items c.loop-node.invariant (omega (arith, c.loop-node-test.false, c.node_count-node-end.ensures.count))
