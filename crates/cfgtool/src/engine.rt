@@ -4,12 +4,10 @@ ghost use Rattle.std.specs.Prelude.{◌≡◌, ◌+◌, ◌-◌, ◌^◌, ◌<�
 ghost use Rattle.cfgrammar.specs.TextSpans.{IsPiece, IsWithin};
 ghost use Rattle.cfgrammar.specs.Syntax.{EachSpan};
 ghost use Rattle.cfgrammar.specs.TreeView.{syntax};
-ghost use Rattle.cfgrammar.specs.Unused.{AreWarnings};
 ghost use Rattle.cfgrammar.specs.Answer.{Found};
 ghost use Rattle.cfgprogram.specs.ReadText.{IsFound};
 ghost use Rattle.cfgtool.specs.FirstLines.{AreFirstLines};
 ghost use Rattle.cfgtool.specs.FollowLines.{AreFollowLines};
-ghost use Rattle.cfgtool.specs.ReportLines.{AreWarningLines};
 ghost use Rattle.cfgtool.specs.Report.{AreRequestedLines, AreLinesOf, Reports};
 ghost use Rattle.cfgtool.specs.Report.{ReportsLexer, ReportsText};
 ghost use Rattle.cfgsink.specs.Reports.{faults_met};
@@ -24,7 +22,7 @@ use crate::sentence_lines::sentence_lines;
 use cfgprogram::KindArg;
 use cfgprogram::driver::{TextReader, read_text};
 use cfgrammar::yacc::ast::{ASTWithValidityInfo, GrammarAST};
-use cfgrammar::yacc::{YaccGrammar, YaccGrammarError, YaccGrammarWarning};
+use cfgrammar::yacc::{YaccGrammar, YaccGrammarError};
 pub use cfgsink::{Outcome, ReportFault};
 use cfgsink::{Sink, write_report};
 use std::alloc::{AllocError, Global};
@@ -121,7 +119,7 @@ impl TextReader<(Outcome, String)> for RequestReader<'_> {
         match self.request {
             Request::Command(Command::Warnings) => {
                 let warnings = parsed.warnings(alloc)?;
-                let lines = reported_warnings(alloc, text, parsed.ast(), &warnings)?;
+                let lines = warning_lines(alloc, text, &warnings)?;
                 Ok(Some((Outcome::Done, lines)))
             }
             Request::Command(_) | Request::Names(_) => Ok(None),
@@ -199,7 +197,7 @@ fn command_lines(
         Command::Sentences => sentence_lines(alloc, grammar),
         Command::Warnings => {
             let warnings = ast.warnings(alloc)?;
-            reported_warnings(alloc, text, ast, &warnings)
+            warning_lines(alloc, text, &warnings)
         }
     }
 }
@@ -218,18 +216,4 @@ fn reported_follows(alloc: Global, grammar: &YaccGrammar<u32>) -> Result<String,
 {
     let follows = grammar.follows(alloc)?;
     follow_lines(alloc, grammar, &follows)
-}
-
-/// The lines of the warnings of a text with this tree.
-fn reported_warnings(
-    alloc: Global,
-    text: &str,
-    ast: &GrammarAST,
-    warnings: &[YaccGrammarWarning],
-) -> Result<String, AllocError>
-    requires spans { EachSpan (IsPiece text.now) (IsWithin text.now) (syntax ast.now) }
-    requires warnings { AreWarnings (syntax ast.now) warnings.now }
-    ensures { IfOk result (λ lines. AreWarningLines text.now (syntax ast.now) (string_bytes lines)) }
-{
-    warning_lines(alloc, text, warnings)
 }
