@@ -41,6 +41,12 @@ def test_gate_by_a_symlink(room):
         write(tool, "#!/bin/sh\nexit 1\n")
         assert run_gate(room)[0] == 1, f"{it} fails, and the gate passes"
         write(tool, text)
+    for shown in ("must-fail a/b.edit: BAD EDIT: its text isn't there",
+                  "must-fail a/b.edit: refused, as it must be (only by a limit of the prover, which gave no verdict)",
+                  "must-fail a/b.edit: refused, as it must be (only because a proof file names what the edit took away)"):
+        write_script(f"{room}/bin/rt", f'echo "{shown}"\necho "1 passed, 0 failed"')
+        status, out, said = run_gate(room)
+        assert f"gate_runs 1 1 in {room}/repository" in out.splitlines(), f"{status} {out}{said}"
     write_script(f"{room}/bin/rt", "echo")
     status, out, said = run_gate(room)
     assert status == 1 and "rt ci counted nothing" in said, f"{status} {out}{said}"
