@@ -13,6 +13,7 @@ from .rendered import note, placed, rendered, visible
 from .section import named_kind, section
 from .shown_states import states_text
 from .validation import errors_of, every_fault
+from .words import action_text
 
 USAGE = 'usage: cfglint [OPTION..] [--] FILE..\n'
 VERSION = 'cfglint 0.15.0\n'
@@ -242,7 +243,7 @@ class Tally:
             self.add_lines(states_text(tree))
 
     def add_errors(self, options, name, t, errors, tree):
-        for index, error in enumerate(shown_errors(errors, tree)):
+        for index, error in enumerate(shown_errors(t, errors, tree)):
             self.add_error(options, name, t, error, words_on(t, error, tree, index < SUGGESTIONS))
 
     def add_error(self, options, name, t, error, words):
@@ -252,7 +253,7 @@ class Tally:
         else:
             message = ': '.join(['error', error.display(), *([] if words is None else [words])])
             self.add_message(options, name, t, '%s [%s]' % (message, error_word(error)), error)
-            self.add_note(options, name, t, words, error.spans[0][0])
+            self.add_note(options, name, t, words, error.spans[-1 if error.kind == 'IncompleteRule' else 0][0])
 
     def add_unread(self, options, name, before, word, says):
         """Adds a file whose reading stopped after this text."""
@@ -327,11 +328,28 @@ def error_word(error):
     return 'section-' * isinstance(error, HeaderFault) + re.sub('(?<=[a-z])(?=[A-Z])', '-', name).lower()
 
 
-def shown_errors(errors, tree):
-    """The errors of a text that are printed: unless one stopped the reading, each fault of its tree."""
+def open_rule(t, tree):
+    """The spans of the names of the rule that the end of a text cuts: of one, or of none if it isn't known which."""
+    if not tree.rules:
+        return []
+    *_, rule = tree.rules.values()
+    if not rule.productions:
+        return [rule.span]
+    number, white = rule.productions[-1], re.compile(rb'[ \t\r\n]*')
+    production = tree.productions[number]
+    end = white.match(t, production.span[1]).end()
+    if production.action and t.startswith(b'{', end):
+        end = white.match(t, action_text(t, end)[2]).end()
+    return [rule.span] if number + 1 == len(tree.productions) and t.startswith(b'|', end) else []
+
+
+def shown_errors(t, errors, tree):
+    """The errors of a text that are printed: unless one stopped the reading, each fault of its tree. One that the end cuts a rule has
+    the name of that rule too."""
     if any(isinstance(error, BisonFault) for error in errors):
         return errors
-    shown = [error for error in errors if error.kind not in VALIDATION]
+    shown = [Fault(error.kind, error.span, None, open_rule(t, tree)) if error.kind == 'IncompleteRule' else error
+             for error in errors if error.kind not in VALIDATION]
     if any(map(stops_reading, errors)):
         return shown
     shown += [fault for fault in every_fault(tree) if fault.kind != 'NoPrecForToken']

@@ -133,6 +133,7 @@ bison_noted_as error hint = record {
   spans = spans_of error;
   spanskind = spanskind_of error.kind;
   hint = hint;
+  note_index = 0;
   has_symbols = has_symbols_of error.kind;
 }
 

@@ -1,9 +1,9 @@
 -- Errors as they are reported, whatever the files that they are in.
-use Rattle.std.specs.Prelude.{ℕ, Bool, true, List, [], ◌++◌, codes, drop, map, slice_get, take, Option, Some, None}
+use Rattle.std.specs.Prelude.{ℕ, ◌-◌, Bool, true, List, [], ◌++◌, codes, drop, length, map, slice_get, take, Option, Some, None}
 use Rattle.std.specs.List.{flat_map}
 use Rattle.std.specs.Option.{option_map_or, option_or}
 use Rattle.cfgrammar.specs.ColumnUnit.{ColumnUnit}
-use Rattle.cfgrammar.specs.Errors.{GrammarError, spanskind_of}
+use Rattle.cfgrammar.specs.Errors.{ErrorKind, GrammarError, IncompleteRule, spanskind_of}
 use Rattle.cfgrammar.specs.ErrorTexts.{error_text}
 use Rattle.cfgrammar.specs.Hints.{hint_text}
 use Rattle.cfgrammar.specs.Render.{note_line}
@@ -14,14 +14,15 @@ use Rattle.cfglint.specs.ErrorWords.{error_word, has_symbols_of}
 use Rattle.cfglint.specs.Severities.{printed}
 use Rattle.cfglint.specs.Suggestions.{Names, most_suggestions, no_names, suggestion}
 
--- an error as it is reported: what it says, the word of its kind, where it is, which of these spans are shown, the note on it, if there is one, and
--- whether the spans are names of symbols
+-- an error as it is reported: what it says, the word of its kind, where it is, which of these spans are shown, the note on it, if there is one, the
+-- index of the span where that is, and whether the spans are names of symbols
 pub record NotedError : Type 0 where
   pub text : List ℕ
   pub word : List ℕ
   pub spans : List Span
   pub spanskind : SpansKind
   pub hint : Option (List ℕ)
+  pub note_index : ℕ
   pub has_symbols : Bool
 
 -- the message: with its note, if there is one, since few programs show the line of a note, and with the word of its kind
@@ -32,13 +33,13 @@ said_note (Some words) rest = codes ": " ++ (words ++ rest)
 abbrev pub error_message : NotedError → List ℕ
 error_message shown = shown.text ++ said_note shown.hint (codes " [" ++ (shown.word ++ codes "]"))
 
--- the offset of an error, in bytes: the start of its first span
-abbrev pub error_offset : NotedError → ℕ
-error_offset shown = option_map_or (λ (span : Span). span.start) (slice_get shown.spans 0) 0
+-- the offset of the note on an error, in bytes: the start of that span
+abbrev pub note_offset : NotedError → ℕ
+note_offset shown = option_map_or (λ (span : Span). span.start) (slice_get shown.spans shown.note_index) 0
 
 -- the line of the note
 abbrev pub hint_line : ColumnUnit → List ℕ → List ℕ → NotedError → List ℕ
-hint_line unit name text shown = option_map_or (λ words. note_line unit name text words (error_offset shown)) shown.hint []
+hint_line unit name text shown = option_map_or (λ words. note_line unit name text words (note_offset shown)) shown.hint []
 
 -- the lines for errors in a text with this name, with columns in this unit, and with colours or not
 abbrev pub error_lines : ColumnUnit → Bool → List ℕ → List ℕ → List NotedError → List ℕ
@@ -56,6 +57,14 @@ shown_error shown = record {
   has_symbols = shown.has_symbols;
 }
 
+-- the span where the note on an error is: of a rule that the end of the text cuts the last one, its name, if that is known
+abbrev pub note_index_of : ErrorKind → List Span → ℕ
+note_index_of IncompleteRule spans = length spans - 1
+note_index_of kind spans = 0
+
+abbrev pub note_index : GrammarError → ℕ
+note_index error = note_index_of error.kind error.spans
+
 -- an error of a file of one of the library's kinds, with this note
 abbrev pub noted_as : GrammarError → Option (List ℕ) → NotedError
 noted_as error hint = record {
@@ -64,6 +73,7 @@ noted_as error hint = record {
   spans = error.spans;
   spanskind = spanskind_of error.kind;
   hint = hint;
+  note_index = note_index error;
   has_symbols = has_symbols_of error.kind;
 }
 

@@ -55,8 +55,8 @@ module _ (format : Format) (unit : ColumnUnit) (colors : Bool) (name text : List
   -- that it has these errors, and was read as this syntax unless it names no kind: the errors that are shown, each with its note
   abbrev pub ReportsErrors : Option Syntax → List GrammarError → Printed → Type 0
   ReportsErrors syntax all reported =
-      AreErrorLines (noted_errors text (option_map_or names_of syntax no_names) (shown_errors syntax all)) reported.lines
-      × (reported.errors ≡ length (shown_errors syntax all)) × (reported.warnings ≡ 0)
+      AreErrorLines (noted_errors text (option_map_or names_of syntax no_names) (shown_errors text syntax all)) reported.lines
+      × (reported.errors ≡ length (shown_errors text syntax all)) × (reported.warnings ≡ 0)
 
   -- the findings about its grammar, given its syntax, its numbers, and how the operators of its levels associate, with these levels of
   -- findings but for those that comments allow, and after them the states if they are shown; those that are no errors are warnings

@@ -1,11 +1,12 @@
 -- The errors of a text that are shown.
-use Rattle.std.specs.Prelude.{Bool, true, false, not, if◌then◌else◌, List, [], ◌++◌, Option, None, Some}
+use Rattle.std.specs.Prelude.{ℕ, Bool, true, false, not, if◌then◌else◌, List, [], ◌++◌, map, Option, None, Some}
 use Rattle.std.specs.List.{filter, filter_map, list_any}
-use Rattle.std.specs.Option.{option_and_then, option_map_or}
+use Rattle.std.specs.Option.{option_and_then, option_map_or, option_to_list}
 use Rattle.cfgrammar.specs.Building.{has_entry}
 use Rattle.cfgrammar.specs.Errors.{ErrorKind, GrammarError, error_at, DuplicatePrecedence, DuplicateAvoidInsertDeclaration, DuplicateImplicitTokensDeclaration, DuplicateExpectDeclaration, DuplicateExpectRRDeclaration, DuplicateStartDeclaration, DuplicateActiontypeDeclaration, DuplicateEPP, StorageTooSmall, NoStartRule, InvalidStartRule, UnknownRuleRef, UnknownToken, NoPrecForToken, UnknownEPP}
 use Rattle.cfgrammar.specs.EveryError.{every_error}
 use Rattle.cfgrammar.specs.Syntax.{Production, Syntax}
+use Rattle.cfglint.specs.OpenRule.{cut_rule}
 
 -- Whether an error of this kind is one of validation, of what was read; and whether it stopped the reading.
 abbrev pub is_of_validation : ErrorKind → Bool
@@ -58,6 +59,11 @@ every_check syntax = filter (λ (error : GrammarError). not (is_of_precedence er
 abbrev pub failed_checks : Option Syntax → List GrammarError → List GrammarError
 failed_checks syntax all = if is_stopped all then [] else option_map_or every_check syntax []
 
+-- an error, and as its other place the name of the rule that it is about, if it has one
+abbrev pub placed : List ℕ → Option Syntax → GrammarError → GrammarError
+placed text syntax error = record error { spans = error.spans ++ option_to_list (cut_rule text syntax error.kind) }
+
 -- the errors that are shown: those that aren't of validation, and then every check that fails
-abbrev pub shown_errors : Option Syntax → List GrammarError → List GrammarError
-shown_errors syntax all = filter (λ (error : GrammarError). not (is_of_validation error.kind)) all ++ failed_checks syntax all
+abbrev pub shown_errors : List ℕ → Option Syntax → List GrammarError → List GrammarError
+shown_errors text syntax all =
+    map (placed text syntax) (filter (λ (error : GrammarError). not (is_of_validation error.kind)) all) ++ failed_checks syntax all

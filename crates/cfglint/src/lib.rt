@@ -9,6 +9,7 @@ mod file_levels;
 mod file_reporter;
 pub mod linter;
 mod messages;
+mod open_rule;
 pub mod program;
 mod reading;
 mod reported;

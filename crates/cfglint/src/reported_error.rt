@@ -3,20 +3,20 @@
 ghost use Rattle.std.specs.Prelude.{◌≡◌, [], ◌∷◌, ◌++◌, IfOk, OnOk, string_bytes};
 ghost use Rattle.std.specs.Option.{option_map};
 ghost use Rattle.cfglint.specs.BisonNotes.{bison_noted_as, has_symbols_of};
-ghost use Rattle.cfglint.specs.ReportedErrors.{error_lines, error_offset, noted_as};
+ghost use Rattle.cfglint.specs.ReportedErrors.{error_lines, note_index, note_offset, noted_as};
 
 use crate::error_words::{error_word, has_symbols};
 use crate::messages::Message;
 use cfgjson::{Diagnosed, Diagnostic};
 use cfgrammar::bison::{Error, ErrorKind};
-use cfgrammar::yacc::YaccGrammarError;
+use cfgrammar::yacc::{YaccGrammarError, YaccGrammarErrorKind};
 use cfgrammar::{ColumnUnit, Source, Span, Spanned, SpansKind};
 use std::alloc::{AllocError, Global};
 use std::fmt;
 use std::marker::Model;
 
-/// An error, as it is reported: what it says, the word of its kind, where it is, the note on it, if there is one,
-/// and whether its spans are names of symbols.
+/// An error, as it is reported: what it says, the word of its kind, where it is, the note on it, if there is one, the
+/// index of the span where that is, and whether its spans are names of symbols.
 #[derive(Debug, Drop)]
 pub(crate) struct ReportedError {
     text: String,
@@ -24,6 +24,7 @@ pub(crate) struct ReportedError {
     spans: Vec<Span>,
     spanskind: SpansKind,
     hint: Option<String>,
+    note_index: usize,
     has_symbols: bool,
 }
 
@@ -40,6 +41,7 @@ impl Model for ReportedError {
       spans = x.spans.items;
       spanskind = x.spanskind;
       hint = option_map (λ words. string_bytes words) x.hint;
+      note_index = x.note_index;
       has_symbols = x.has_symbols;
     } };
 }
@@ -64,6 +66,7 @@ impl ReportedError {
             spans: error.spans().to_vec(alloc)?,
             spanskind: error.spanskind(),
             hint,
+            note_index: note_index(error),
             has_symbols: has_symbols(error.kind()),
         })
     }
@@ -87,6 +90,7 @@ impl ReportedError {
             spans: error.spans(alloc)?,
             spanskind: error.spanskind(),
             hint,
+            note_index: 0,
             has_symbols: is_about_symbol(error.kind),
         })
     }
@@ -101,11 +105,11 @@ impl ReportedError {
         }
     }
 
-    /// Its offset in bytes: the start of its first span.
-    fn offset(&self) -> usize
-        ensures { result ≡ error_offset self.now }
+    /// The offset of the note on it, in bytes.
+    fn note_offset(&self) -> usize
+        ensures { result ≡ note_offset self.now }
     {
-        match self.spans.first() {
+        match self.spans.get(self.note_index) {
             Some(span) => span.start(),
             None => 0,
         }
@@ -144,6 +148,17 @@ impl Diagnosed for ReportedError {
             spans: self.spans.as_slice(),
             has_symbols: self.has_symbols,
         }
+    }
+}
+
+/// The index of the span where the note on an error is: of a rule that the end of the text cuts the last one, its name,
+/// if that is known.
+fn note_index(error: &YaccGrammarError) -> usize
+    ensures { result ≡ note_index error.now }
+{
+    match error.kind() {
+        YaccGrammarErrorKind::IncompleteRule => error.spans().len().saturating_sub(1),
+        _ => 0,
     }
 }
 
@@ -193,7 +208,7 @@ fn push_error(
     };
     message.push(alloc, lines, source, colors)?;
     match error.hint() {
-        Some(hint) => source.push_note(lines, hint, error.offset()),
+        Some(hint) => source.push_note(lines, hint, error.note_offset()),
         None => Ok(()),
     }
 }

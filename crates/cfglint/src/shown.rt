@@ -8,8 +8,10 @@ ghost use Rattle.cfgrammar.specs.EveryError.{every_error};
 ghost use Rattle.cfgrammar.specs.SyntaxView.{production_view};
 ghost use Rattle.cfgrammar.specs.TreeView.{syntax};
 ghost use Rattle.cfglint.specs.ShownErrors.{every_check, failed_checks, is_of_precedence, is_of_validation, is_stopped};
-ghost use Rattle.cfglint.specs.ShownErrors.{precedence_error, shown_errors, stops_reading};
+ghost use Rattle.cfglint.specs.ShownErrors.{placed, precedence_error, shown_errors, stops_reading};
 
+use crate::open_rule::cut_rule;
+use cfgrammar::Spanned;
 use cfgrammar::yacc::ast::{GrammarAST, Production, every_error};
 use cfgrammar::yacc::{YaccGrammarError, YaccGrammarErrorKind};
 use std::alloc::{AllocError, Global};
@@ -17,27 +19,46 @@ use text_findings::has_precedence;
 
 /// The errors that are shown of a text that was read as this tree, unless it names no kind, and has these errors: those
 /// that aren't of validation, and then every check of validation that fails. Where an error stopped the reading these
-/// aren't shown: what was not read may mend them.
+/// aren't shown: what was not read may mend them. The name of a rule that the text's end cuts is that error's second
+/// span.
 ///
 /// # Errors
 ///
 /// Running out of memory.
 pub(crate) fn shown_errors(
     alloc: Global,
+    text: &str,
     ast: Option<&GrammarAST>,
     errors: &[YaccGrammarError],
 ) -> Result<Vec<YaccGrammarError>, AllocError>
     ensures { IfOk result (λ shown. shown.items
-        ≡ shown_errors (option_map (λ ast. syntax ast.now) ast.entry) errors.now) }
+        ≡ shown_errors text.now (option_map (λ ast. syntax ast.now) ast.entry) errors.now) }
 {
     let mut shown = Vec::new(alloc);
     for error in errors {
         if !is_of_validation(error.kind()) {
-            shown.push(error.clone()?)?;
+            shown.push(placed(alloc, text, ast, error)?)?;
         }
     }
     shown.append(&mut failed_checks(alloc, ast, errors)?)?;
     Ok(shown)
+}
+
+/// An error, and as its second span the name of the rule that the text's end cuts, if that is the error.
+fn placed(
+    alloc: Global,
+    text: &str,
+    ast: Option<&GrammarAST>,
+    error: &YaccGrammarError,
+) -> Result<YaccGrammarError, AllocError>
+    ensures { IfOk result (λ it. it
+        ≡ placed text.now (option_map (λ ast. syntax ast.now) ast.entry) error.now) }
+{
+    let mut spans = error.spans().to_vec(alloc)?;
+    if let Some(name) = cut_rule(text, ast, error.kind()) {
+        spans.push(name)?;
+    }
+    Ok(YaccGrammarError::new(error.kind().clone()?, spans))
 }
 
 /// The checks of validation that fail, unless an error stopped the reading.

@@ -70,7 +70,7 @@ impl TextReader<Outcome> for FileReporter<'_> {
         ast: Option<&GrammarAST>,
         errors: &[YaccGrammarError],
     ) -> Result<Outcome, AllocError> {
-        let shown = shown_errors(alloc, ast, errors)?;
+        let shown = shown_errors(alloc, text, ast, errors)?;
         let names = Names::of(alloc, ast)?;
         let reported = reported_errors(alloc, text, &names, &shown)?;
         let report = self.report_errors(alloc, text, &reported)?;
