@@ -9,8 +9,8 @@ ghost use Rattle.cfglint.specs.OpenRule.{after_action, after_blanks, after_produ
 use cfgrammar::Span;
 use cfgrammar::yacc::YaccGrammarErrorKind;
 use cfgrammar::yacc::ast::{GrammarAST, Production, Rule};
-use cfgwords::bytes::ByteClass;
 use cfgwords::actions::leading_action;
+use cfgwords::bytes::ByteClass;
 use cfgwords::run::run;
 use constructs::after_word;
 
