@@ -1,5 +1,6 @@
 pub mod ErrorWords
 pub mod Suggestions
+pub mod OpenRule
 pub mod ShownErrors
 pub mod Signs
 pub mod BisonNotes
