@@ -1,10 +1,11 @@
 -- The errors of a text that are shown.
-use Rattle.std.specs.Prelude.{ℕ, Bool, true, false, not, if◌then◌else◌, List, [], ◌++◌, map, Option, None, Some}
+use Rattle.std.specs.Prelude.{ℕ, Bool, true, false, not, if◌then◌else◌, List, [], ◌∷◌, ◌++◌, map, Option, None, Some}
 use Rattle.std.specs.List.{filter, filter_map, list_any}
-use Rattle.std.specs.Option.{option_and_then, option_map_or, option_to_list}
+use Rattle.std.specs.Option.{option_and_then, option_map_or}
 use Rattle.cfgrammar.specs.Building.{has_entry}
-use Rattle.cfgrammar.specs.Errors.{ErrorKind, GrammarError, error_at, DuplicatePrecedence, DuplicateAvoidInsertDeclaration, DuplicateImplicitTokensDeclaration, DuplicateExpectDeclaration, DuplicateExpectRRDeclaration, DuplicateStartDeclaration, DuplicateActiontypeDeclaration, DuplicateEPP, StorageTooSmall, NoStartRule, InvalidStartRule, UnknownRuleRef, UnknownToken, NoPrecForToken, UnknownEPP}
+use Rattle.cfgrammar.specs.Errors.{ErrorKind, GrammarError, error_at, IncompleteRule, DuplicatePrecedence, DuplicateAvoidInsertDeclaration, DuplicateImplicitTokensDeclaration, DuplicateExpectDeclaration, DuplicateExpectRRDeclaration, DuplicateStartDeclaration, DuplicateActiontypeDeclaration, DuplicateEPP, StorageTooSmall, NoStartRule, InvalidStartRule, UnknownRuleRef, UnknownToken, NoPrecForToken, UnknownEPP}
 use Rattle.cfgrammar.specs.EveryError.{every_error}
+use Rattle.cfgrammar.specs.Span.{Span}
 use Rattle.cfgrammar.specs.Syntax.{Production, Syntax}
 use Rattle.cfglint.specs.OpenRule.{cut_rule}
 
@@ -59,9 +60,13 @@ every_check syntax = filter (λ (error : GrammarError). not (is_of_precedence er
 abbrev pub failed_checks : Option Syntax → List GrammarError → List GrammarError
 failed_checks syntax all = if is_stopped all then [] else option_map_or every_check syntax []
 
--- an error, and as its other place the name of the rule that it is about, if it has one
+-- the error at these spans that the end of the text cuts the rule of this name
+abbrev pub cut_error : List Span → Span → GrammarError
+cut_error spans name = record { kind = IncompleteRule; spans = spans ++ name ∷ [] }
+
+-- an error, with the name of the rule that it is about, if the end of the text cuts one and it is known which
 abbrev pub placed : List ℕ → Option Syntax → GrammarError → GrammarError
-placed text syntax error = record error { spans = error.spans ++ option_to_list (cut_rule text syntax error.kind) }
+placed text syntax error = option_map_or (cut_error error.spans) (cut_rule text syntax error.kind) error
 
 -- the errors that are shown: those that aren't of validation, and then every check that fails
 abbrev pub shown_errors : List ℕ → Option Syntax → List GrammarError → List GrammarError

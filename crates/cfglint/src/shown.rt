@@ -7,13 +7,13 @@ ghost use Rattle.cfgrammar.specs.Errors.{GrammarError, kind_view};
 ghost use Rattle.cfgrammar.specs.EveryError.{every_error};
 ghost use Rattle.cfgrammar.specs.SyntaxView.{production_view};
 ghost use Rattle.cfgrammar.specs.TreeView.{syntax};
-ghost use Rattle.cfglint.specs.ShownErrors.{every_check, failed_checks, is_of_precedence, is_of_validation, is_stopped};
-ghost use Rattle.cfglint.specs.ShownErrors.{placed, precedence_error, shown_errors, stops_reading};
+ghost use Rattle.cfglint.specs.ShownErrors.{cut_error, every_check, failed_checks, is_of_precedence, is_of_validation};
+ghost use Rattle.cfglint.specs.ShownErrors.{is_stopped, placed, precedence_error, shown_errors, stops_reading};
 
 use crate::open_rule::cut_rule;
-use cfgrammar::Spanned;
 use cfgrammar::yacc::ast::{GrammarAST, Production, every_error};
 use cfgrammar::yacc::{YaccGrammarError, YaccGrammarErrorKind};
+use cfgrammar::{Span, Spanned};
 use std::alloc::{AllocError, Global};
 use text_findings::has_precedence;
 
@@ -54,11 +54,19 @@ fn placed(
     ensures { IfOk result (λ it. it
         ≡ placed text.now (option_map (λ ast. syntax ast.now) ast.entry) error.now) }
 {
-    let mut spans = error.spans().to_vec(alloc)?;
-    if let Some(name) = cut_rule(text, ast, error.kind()) {
-        spans.push(name)?;
+    match cut_rule(text, ast, error.kind()) {
+        Some(name) => cut_error(alloc, error.spans(), name),
+        None => error.clone(),
     }
-    Ok(YaccGrammarError::new(error.kind().clone()?, spans))
+}
+
+/// The error at these spans that the end of the text cuts the rule of this name.
+fn cut_error(alloc: Global, spans: &[Span], name: Span) -> Result<YaccGrammarError, AllocError>
+    ensures { IfOk result (λ error. error ≡ cut_error spans.now name) }
+{
+    let mut spans = spans.to_vec(alloc)?;
+    spans.push(name)?;
+    Ok(YaccGrammarError::new(YaccGrammarErrorKind::IncompleteRule, spans))
 }
 
 /// The checks of validation that fail, unless an error stopped the reading.
