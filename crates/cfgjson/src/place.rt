@@ -63,7 +63,8 @@ fn put_position(
     column_name: &str,
 ) -> Result<(), AllocError>
     ensures { OnOk result (members_view members.new.entries
-        ≡ put_position line_name.now column_name.now (position_of positions.now byte) (members_view members.old.entries)) }
+        ≡ put_position line_name.now column_name.now (position_of positions.now byte)
+        (members_view members.old.entries)) }
 {
     match positions.line_and_column(byte) {
         Some((line, column)) => {

@@ -208,7 +208,8 @@ fn put_place(
     span: Option<Span>,
 ) -> Result<(), AllocError>
     ensures { OnOk result (members_view place.new.entries
-        ≡ put_region (option_and_then (region_of positions.now) span) (put_file uri.now (members_view place.old.entries))) }
+        ≡ put_region (option_and_then (region_of positions.now) span)
+        (put_file uri.now (members_view place.old.entries))) }
 {
     let uri = uri.to_value(alloc)?;
     let file = object_with(alloc, "uri", uri)?;

@@ -4,7 +4,8 @@ ghost use Rattle.std.specs.Prelude.{◌≡◌, map, option_map};
 ghost use Rattle.cfgrammar.specs.Errors.{kind_view};
 ghost use Rattle.cfgrammar.specs.SyntaxView.{production_view, rule_view};
 ghost use Rattle.cfgrammar.specs.TreeView.{syntax};
-ghost use Rattle.cfglint.specs.OpenRule.{after_action, after_blanks, after_production, cut_rule, goes_on, is_open, open_rule};
+ghost use Rattle.cfglint.specs.OpenRule.{after_action, after_blanks, after_production, cut_rule, goes_on, is_open};
+ghost use Rattle.cfglint.specs.OpenRule.{open_rule};
 
 use cfgrammar::Span;
 use cfgrammar::yacc::YaccGrammarErrorKind;

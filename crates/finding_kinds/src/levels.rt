@@ -23,8 +23,8 @@ pub struct Levels {
 }
 
 impl Levels {
-    /// A start rule without a sentence, an expectation that isn't met and a reference to no symbol are errors, and every
-    /// other finding is a warning, except for two groups that aren't reported: those that only follow from a rule
+    /// A start rule without a sentence, an expectation that isn't met and a reference to no symbol are errors, and
+    /// every other finding is a warning, except for two groups that aren't reported: those that only follow from a rule
     /// without a sentence, and those about a style that many files have.
     pub fn new() -> Self
         ensures { result ≡ default_levels }

@@ -53,7 +53,8 @@ impl Lookaheads {
     ///
     /// Out of memory.
     pub fn of(alloc: Global, grammar: &YaccGrammar<u32>) -> Result<Self, AllocError>
-        ensures states { IfOk result (λ x. AreStates (core grammar.now) (IsUsed (core grammar.now)) x.automaton.states) }
+        ensures states { IfOk result (λ x.
+            AreStates (core grammar.now) (IsUsed (core grammar.now)) x.automaton.states) }
         ensures gotos { IfOk result (λ x. AreGotos (core grammar.now) (IsUsed (core grammar.now)) x.automaton) }
         ensures targets { IfOk result (λ x. HaveTargets (core grammar.now) x.automaton) }
         ensures lookaheads { IfOk result (λ x. AreLookaheads (core grammar.now) (IsUsed (core grammar.now)) x) }

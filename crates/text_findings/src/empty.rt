@@ -6,7 +6,8 @@ ghost use Rattle.cfgrammar.specs.TreeView.{syntax};
 ghost use Rattle.cfgrammar.specs.SyntaxView.{production_view};
 ghost use Rattle.text_findings.specs.Reports.{ReportsBelow};
 ghost use Rattle.text_findings.specs.Empty.{ReportsImplicitlyEmpty, ReportsMissingEmpty, begins_at, implicitly_empty};
-ghost use Rattle.text_findings.specs.Empty.{is_action_name, is_implicitly_empty, is_of_action, rule_name_at, says_empty};
+ghost use Rattle.text_findings.specs.Empty.{is_action_name, is_implicitly_empty, is_of_action, rule_name_at};
+ghost use Rattle.text_findings.specs.Empty.{says_empty};
 
 use crate::finding::{Finding, FindingKind};
 use crate::reporter::{Reporter, push_reported};

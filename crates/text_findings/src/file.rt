@@ -14,8 +14,8 @@ use crate::values::push_unread_values;
 use cfgrammar::yacc::ast::GrammarAST;
 use std::alloc::{AllocError, Global};
 
-/// Adds what a file seems to lack to the findings: precedences of tokens that a `%prec` names, `%empty`, the `:` after a
-/// rule's type, what makes a key of its section known, symbols before an action that refers to them, and
+/// Adds what a file seems to lack to the findings: precedences of tokens that a `%prec` names, `%empty`, the `:` after
+/// a rule's type, what makes a key of its section known, symbols before an action that refers to them, and
 /// actions after one that read its value.
 ///
 /// # Errors

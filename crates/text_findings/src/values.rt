@@ -110,7 +110,8 @@ fn symbol_number(ast: &GrammarAST, number: usize, name: &str) -> usize
     count_before(name, rest).saturating_add(1)
 }
 
-/// Whether the productions up to the first one that has the rule with this name have an action that refers to the value.
+/// Whether the productions up to the first one that has the rule with this name have an action that refers to the
+/// value.
 fn is_read(name: &str, value: Value, productions: &[Production]) -> bool
     ensures { result ≡ is_read name.now value (map production_view productions.now) }
 {

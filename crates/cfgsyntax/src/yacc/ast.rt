@@ -195,8 +195,8 @@ impl ASTWithValidityInfo {
         self.errors.as_slice()
     }
 
-    /// What is unused in what was read: the warnings that [`warnings`](GrammarAST::warnings) of its tree returns. No name is
-    /// looked up again.
+    /// What is unused in what was read: the warnings that [`warnings`](GrammarAST::warnings) of its tree returns. No
+    /// name is looked up again.
     ///
     /// # Errors
     ///

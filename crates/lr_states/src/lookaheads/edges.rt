@@ -84,7 +84,8 @@ impl<'a> Graph<'a> {
             self.now.firsts.now self.now.nullable_from.now self.now.used.now }
         requires nodes { length edges.old ≡ self.now.nodes.now.len }
         requires production { production < length self.now.grammar.now.productions }
-        ensures { OnOk result (AddsEdges (ProductionEdge (core self.now.grammar.now) (IsUsed (core self.now.grammar.now))
+        ensures { OnOk result (AddsEdges
+            (ProductionEdge (core self.now.grammar.now) (IsUsed (core self.now.grammar.now))
             (numbers_of self.now.nodes.now) self.now.states.now production) edges.old edges.new) }
     {
         if !self.used.get(production).unwrap_or(false) {
