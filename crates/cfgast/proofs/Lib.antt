@@ -3,7 +3,6 @@ pub mod Found
 pub mod Gathered
 pub mod Nodes
 pub mod Repeats
-pub mod SymbolIndices
 pub mod Trees
 pub mod UnusedNodes
 pub mod Warning

@@ -2,7 +2,6 @@
 pub mod Check
 pub mod Duplicates
 pub mod Sound
-pub mod SymbolIndices
 pub mod TreeView
 pub mod WellFormed
 pub mod Unused

@@ -3,11 +3,8 @@
 
 pub mod ast;
 pub mod duplicates;
-pub mod indices;
 pub mod unused;
 pub mod writing;
 
 pub use ast::{GrammarAST, tree_of, tree_with};
-pub use indices::symbol_indices;
-pub use unused::indexed_warnings;
 pub use writing::clone_with_start;

@@ -10,19 +10,15 @@ ghost use Rattle.cfgast.specs.Inner.Nodes.{nodes, node_of, RefersAt, IsNodeOf, K
 ghost use Rattle.cfgast.specs.Unused.{RuleName, TokenName, name_of, entry_token, Expected, IsStart, AreWarnings};
 ghost use Rattle.cfgast.specs.Unused.{AreUnused, Name, possible_warnings};
 ghost use Rattle.cfgitems.specs.SyntaxView.{symbol_view, span_entry};
-ghost use Rattle.cfgast.specs.SymbolIndices.{symbol_index, symbol_indices};
 ghost use Rattle.cfgast.specs.TreeView.{syntax};
 
 use crate::ast::GrammarAST;
-use crate::indices::{symbol_index, symbol_indices};
 use cfgbase::Span;
 use cfgerrors::{YaccGrammarWarning, YaccGrammarWarningKind, warning_at};
-use cfgindex::Lists;
 use cfgitems::Symbol;
 use indexmap::IndexMap;
 use search::{Bits, Edges, Search};
 use std::alloc::{AllocError, Global};
-use std::marker::Model;
 
 #[tactic(auto, unfolding(crate::specs::TreeView::syntax, cfgitems::specs::SyntaxView::syntax_view))]
 impl GrammarAST {
@@ -36,8 +32,16 @@ impl GrammarAST {
     pub fn warnings(&self, alloc: Global) -> Result<Vec<YaccGrammarWarning>, AllocError>
         ensures { IfOk result (λ warnings. AreWarnings (syntax self.now) warnings.items) }
     {
-        let indices = symbol_indices(alloc, self)?;
-        indexed_warnings(alloc, self, &indices)
+        let known = self.known(alloc)?;
+        let mut warnings = Vec::new(alloc);
+        for node in 0..self.node_count() {
+            if !known.is_reachable(node) {
+                if let Some((kind, span)) = self.kind_and_span(node) {
+                    warnings.push(warning_at(alloc, kind, span)?)?;
+                }
+            }
+        }
+        Ok(warnings)
     }
 
     /// For each rule, and then for each token, whether it is unused, in order: whether [`warnings`](Self::warnings) has
@@ -49,8 +53,7 @@ impl GrammarAST {
     pub fn unused(&self, alloc: Global) -> Result<Vec<bool>, AllocError>
         ensures { IfOk result (λ unused. AreUnused (syntax self.now) unused.items) }
     {
-        let indices = symbol_indices(alloc, self)?;
-        let known = known(alloc, self, &indices)?;
+        let known = self.known(alloc)?;
         let mut unused = Vec::new(alloc);
         for node in 0..self.node_count() {
             unused.push(!known.is_reachable(node))?;
@@ -78,6 +81,17 @@ impl GrammarAST {
         }
         let span = self.syntax.spans.get(node - self.syntax.rules.len())?;
         Some((YaccGrammarWarningKind::UnusedToken, *span))
+    }
+
+    // A search that has reached what is reachable from the start rule, and what is expected to be unused.
+    fn known(&self, alloc: Global) -> Result<Search, AllocError>
+        ensures { IfOk result (Knows (syntax self.now)) }
+    {
+        let mut search = Search::through(alloc, self.node_count())?;
+        reach_one(&mut search, self.start_node())?;
+        search.go_on(self)?;
+        self.reach_expected(&mut search)?;
+        Ok(search)
     }
 
     // Reaches what is expected to be unused.
@@ -112,6 +126,32 @@ impl GrammarAST {
         Ok(())
     }
 
+    // Reaches what the productions hold.
+    fn reach_all_referred(
+        &self,
+        search: &mut Search,
+        productions: &[usize],
+    ) -> Result<(), AllocError>
+        requires { length search.old.reachable ≡ length (nodes (syntax self.now)) }
+        ensures { OnOk result (Reaches (FoundBy (RefersAt (syntax self.now)) productions.now) search.old search.new) }
+    {
+        for production in productions {
+            self.reach_referred(search, *production)?;
+        }
+        Ok(())
+    }
+
+    // Reaches what a production holds.
+    fn reach_referred(&self, search: &mut Search, production: usize) -> Result<(), AllocError>
+        requires { length search.old.reachable ≡ length (nodes (syntax self.now)) }
+        ensures { OnOk result (Reaches (RefersAt (syntax self.now) production) search.old search.new) }
+    {
+        match self.syntax.prods.get(production) {
+            Some(production) => self.reach_symbols(search, &production.symbols),
+            None => Ok(()),
+        }
+    }
+
     // Reaches the symbols.
     fn reach_symbols(&self, search: &mut Search, symbols: &[Symbol]) -> Result<(), AllocError>
         requires { length search.old.reachable ≡ length (nodes (syntax self.now)) }
@@ -119,7 +159,7 @@ impl GrammarAST {
             (map name_of (map symbol_view symbols.now))) search.old search.new) }
     {
         for symbol in symbols {
-            reach_one(search, self.node_at(symbol, symbol_index(self, symbol)))?;
+            reach_one(search, self.symbol_node(symbol))?;
         }
         Ok(())
     }
@@ -134,27 +174,14 @@ impl GrammarAST {
         self.rule_node(name)
     }
 
-    // The node of what the symbol names, given its index, if the tree has it.
-    fn node_at(&self, symbol: &Symbol, index: usize) -> Option<usize>
-        requires { index ≡ symbol_index (syntax self.now) (symbol_view symbol.now) }
+    // The node of the symbol, if the tree has its name.
+    fn symbol_node(&self, symbol: &Symbol) -> Option<usize>
         ensures within { IfSome result (λ node. node < length (nodes (syntax self.now))) }
         ensures node { result ≡ node_of (syntax self.now) (name_of (symbol_view symbol.now)) }
     {
         match symbol {
-            Symbol::Rule(_, _) => {
-                if index < self.syntax.rules.len() {
-                    Some(index)
-                } else {
-                    None
-                }
-            }
-            Symbol::Token(_, _) => {
-                if index < self.syntax.tokens.len() {
-                    Some(self.syntax.rules.len() + index)
-                } else {
-                    None
-                }
-            }
+            Symbol::Rule(name, _) => self.rule_node(name),
+            Symbol::Token(name, _) => self.token_node(name),
         }
     }
 
@@ -177,130 +204,22 @@ impl GrammarAST {
     }
 }
 
-/// The warnings of a tree, as [`GrammarAST::warnings`] has them, given what its symbols name. No public path of
-/// `cfgrammar` leads to it.
-///
-/// # Errors
-///
-/// Running out of memory.
-pub fn indexed_warnings(
-    alloc: Global,
-    ast: &GrammarAST,
-    indices: &Lists<usize>,
-) -> Result<Vec<YaccGrammarWarning>, AllocError>
-    requires { indices.now ≡ symbol_indices (syntax ast.now) }
-    ensures { IfOk result (λ warnings. AreWarnings (syntax ast.now) warnings.items) }
-{
-    let known = known(alloc, ast, indices)?;
-    let mut warnings = Vec::new(alloc);
-    for node in 0..ast.node_count() {
-        if !known.is_reachable(node) {
-            if let Some((kind, span)) = ast.kind_and_span(node) {
-                warnings.push(warning_at(alloc, kind, span)?)?;
-            }
-        }
-    }
-    Ok(warnings)
-}
-
-// A search that has reached what is reachable from the start rule, and what is expected to be unused.
-fn known(alloc: Global, ast: &GrammarAST, indices: &Lists<usize>) -> Result<Search, AllocError>
-    requires { indices.now ≡ symbol_indices (syntax ast.now) }
-    ensures { IfOk result (Knows (syntax ast.now)) }
-{
-    let mut search = Search::through(alloc, ast.node_count())?;
-    reach_one(&mut search, ast.start_node())?;
-    search.go_on(&IndexedTree { ast, indices })?;
-    ast.reach_expected(&mut search)?;
-    Ok(search)
-}
-
-// A tree, and what the symbols of its productions name.
-#[derive(Drop)]
-struct IndexedTree<'a> {
-    ast: &'a GrammarAST,
-    indices: &'a Lists<usize>,
-}
-
-impl<'a> Model for IndexedTree<'a> {
-    ghost use Rattle.std.specs.Prelude.{◌≡◌};
-    ghost use Rattle.cfgast.specs.SymbolIndices.{symbol_indices};
-    ghost use Rattle.cfgast.specs.TreeView.{syntax};
-    ghost use Rattle.cfgitems.specs.Syntax.{Syntax};
-
-    ghost Value = { Syntax };
-
-    ghost view = { λ x. syntax x.ast.now };
-
-    ghost invariant = { λ x. x.indices.now ≡ symbol_indices (syntax x.ast.now) };
-}
-
-impl<'a> IndexedTree<'a> {
-    // Reaches what the productions hold.
-    fn reach_all_referred(
-        &self,
-        search: &mut Search,
-        productions: &[usize],
-    ) -> Result<(), AllocError>
-        requires { length search.old.reachable ≡ length (nodes self.now) }
-        ensures { OnOk result (Reaches (FoundBy (RefersAt self.now) productions.now) search.old search.new) }
-    {
-        for production in productions {
-            self.reach_referred(search, *production)?;
-        }
-        Ok(())
-    }
-
-    // Reaches what a production holds.
-    fn reach_referred(&self, search: &mut Search, production: usize) -> Result<(), AllocError>
-        requires { length search.old.reachable ≡ length (nodes self.now) }
-        ensures { OnOk result (Reaches (RefersAt self.now production) search.old search.new) }
-    {
-        match self.ast.prods().get(production) {
-            Some(found) => reach_indexed(
-                self.ast,
-                search,
-                &found.symbols,
-                self.indices.get(production),
-            ),
-            None => Ok(()),
-        }
-    }
-}
-
 // Rules lead to what their productions hold, and tokens to nothing.
-impl<'a> Edges<Bits> for IndexedTree<'a> {
+impl Edges<Bits> for GrammarAST {
     ghost use Rattle.std.specs.Prelude.{length};
     ghost use Rattle.cfgast.specs.Inner.Nodes.{nodes, IsEdge};
+    ghost use Rattle.cfgast.specs.TreeView.{syntax};
 
-    ghost nodes = { λ s. length (nodes s) };
+    ghost nodes = { λ tree. length (nodes (syntax tree)) };
 
-    ghost leads = { λ s. IsEdge s };
+    ghost leads = { λ tree. IsEdge (syntax tree) };
 
     fn reach_from(&self, node: usize, search: &mut Search) -> Result<(), AllocError> {
-        match self.ast.rules().get_index(node) {
+        match self.syntax.rules.get_index(node) {
             Some((_, rule)) => self.reach_all_referred(search, &rule.pidxs),
             None => Ok(()),
         }
     }
-}
-
-// Reaches the symbols, given what they name.
-fn reach_indexed(
-    ast: &GrammarAST,
-    search: &mut Search,
-    symbols: &[Symbol],
-    indices: &[usize],
-) -> Result<(), AllocError>
-    requires nodes { length search.old.reachable ≡ length (nodes (syntax ast.now)) }
-    requires indices { indices.now ≡ map (symbol_index (syntax ast.now)) (map symbol_view symbols.now) }
-    ensures { OnOk result (Reaches (FoundBy (IsNodeOf (syntax ast.now))
-        (map name_of (map symbol_view symbols.now))) search.old search.new) }
-{
-    for at in 0..symbols.len() {
-        reach_one(search, ast.node_at(&symbols[at], indices[at]))?;
-    }
-    Ok(())
 }
 
 // Reaches the node, if there is one.

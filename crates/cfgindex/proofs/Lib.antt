@@ -2,5 +2,4 @@ pub mod Bits
 pub mod Words
 pub mod Joining
 pub mod ListTables
-pub mod ListsBetween
 pub mod SetBits

@@ -1,3 +1,2 @@
 -- Definitions for the crate's private clauses. No public call depends on them.
-pub mod Lists
 pub mod SetBits

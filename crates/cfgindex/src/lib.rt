@@ -4,12 +4,10 @@
 pub mod idxnewtype;
 pub mod laws;
 pub mod list_table;
-pub mod lists;
 pub mod storage;
 pub mod vob;
 
 pub use idxnewtype::{PIdx, RIdx, SIdx, Symbol, TIdx};
 pub use list_table::ListTable;
-pub use lists::Lists;
 pub use storage::{Storage, to_storage};
 pub use vob::{IterSetBits, Vob};

@@ -3,6 +3,7 @@ pub mod Beside
 pub mod DistinctNames
 pub mod Listed
 pub mod ListedPositions
+pub mod ListsBetween
 pub mod Lookups
 pub mod Marks
 pub mod Positions

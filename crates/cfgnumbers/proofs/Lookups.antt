@@ -19,7 +19,6 @@ use Rattle.cfgitems.specs.Building.{has_name, has_rule}
 use Rattle.cfgitems.specs.Syntax.{Syntax, Rule, index_of}
 use Rattle.cfgitems.specs.SyntaxView.{rule_entry}
 use Rattle.cfgitems.proofs.Views.{is_key}
-use Rattle.cfgast.proofs.SymbolIndices.{file_rule_position, file_token_position}
 use Rattle.cfgnumbers.specs.Numbered.{NumberedRule, end_token}
 use Rattle.cfgnumbers.specs.Accessors.{has_token_name}
 use Rattle.cfgnumbers.specs.TablesView.{names, rule_view, token_view}
@@ -32,7 +31,9 @@ position-keys name es = position-map (is_key name) (λ e. e.0) es
 
 pub rule_index : (name : List ℕ) (s : Syntax) (es : List (String Global × source.Rule)) → map rule_entry es ≡ s.rules → has_rule name s.rules ≡ true
     → position (is_key name) (keys_of es) ≡ Some (position_or_len (λ rule. bytes_eq name rule.0) s.rules)
-rule_index name s es same known = file_rule_position name s es same ∙ first_position (λ (rule : List ℕ × Rule). bytes_eq name rule.0) s.rules known
+rule_index name s es same known =
+    position-keys name es ∙ sym (position-map (λ (rule : List ℕ × Rule). bytes_eq name rule.0) rule_entry es)
+    ∙ ap (position (λ (rule : List ℕ × Rule). bytes_eq name rule.0)) same ∙ first_position (λ (rule : List ℕ × Rule). bytes_eq name rule.0) s.rules known
 
 -- a token's name is at its index
 pub token_at : (name : List ℕ) (tokens : List (List ℕ)) → has_name name tokens ≡ true → slice_get tokens (index_of name tokens) ≡ Some name
@@ -43,7 +44,8 @@ token_at name tokens known =
 
 pub token_index : (name : List ℕ) (s : Syntax) (keys : List (String Global)) → map string_bytes keys ≡ s.tokens → has_name name s.tokens ≡ true
     → position (is_key name) keys ≡ Some (index_of name s.tokens)
-token_index name s keys same known = file_token_position name s keys same ∙ first_position (bytes_eq name) s.tokens known
+token_index name s keys same known =
+    sym (position-map (bytes_eq name) string_bytes keys) ∙ ap (position (bytes_eq name)) same ∙ first_position (bytes_eq name) s.tokens known
 
 -- a name's index among the rows of rules
 pub rule_position : {S : Type 0} (number : S → ℕ) (name : List ℕ) (es : List (String Global × RuleRow S))

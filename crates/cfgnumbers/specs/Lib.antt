@@ -6,3 +6,4 @@ pub mod TablesView
 pub mod WellNumbered
 pub mod Resolved
 pub mod Numberable
+pub mod Inner

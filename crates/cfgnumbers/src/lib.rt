@@ -3,6 +3,7 @@
 #![tactic(auto)]
 
 pub mod laws;
+mod lists;
 mod names;
 pub mod numbering;
 mod production_rows;

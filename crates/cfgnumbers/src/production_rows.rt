@@ -5,8 +5,9 @@ ghost use Rattle.std.specs.Prelude.{IfOk, OnOk};
 ghost use Rattle.cfgnumbers.specs.TablesView.{production_view};
 ghost use Rattle.cfgtables.specs.NumberedSymbols.{sym_of};
 
+use crate::lists::Lists;
 use crate::rows::ProductionRow;
-use cfgindex::{Lists, RIdx, Storage, Symbol};
+use cfgindex::{RIdx, Storage, Symbol};
 use std::alloc::{AllocError, Global};
 use std::marker::Model;
 

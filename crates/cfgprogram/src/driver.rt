@@ -46,21 +46,16 @@ pub trait TextReader<R> {
         requires { All (EachErrorSpan (IsPiece text.now)) errors.now }
         ensures { IfOk result (of_errors self.now text.now (option_map (λ ast. syntax ast.now) ast.entry) errors.now) };
 
-    /// Makes the result for a text that was read as this, if it is the same whatever the grammar; the grammar's tables
-    /// are then not made.
+    /// Makes the result for a text that has this tree, if it is the same whatever the grammar; the grammar's tables are
+    /// then not made.
     ///
     /// # Errors
     ///
     /// Running out of memory.
-    fn tree(
-        &self,
-        _alloc: Global,
-        text: &str,
-        parsed: &ASTWithValidityInfo,
-    ) -> Result<Option<R>, AllocError>
-        requires { EachSpan (IsPiece text.now) (IsWithin text.now) parsed.now.syntax }
+    fn tree(&self, _alloc: Global, text: &str, ast: &GrammarAST) -> Result<Option<R>, AllocError>
+        requires { EachSpan (IsPiece text.now) (IsWithin text.now) (syntax ast.now) }
         ensures { IfOk result (λ made. IfSome made (λ made. (grammar : Numbered)
-            → of_grammar self.now text.now parsed.now.syntax grammar made)) }
+            → of_grammar self.now text.now (syntax ast.now) grammar made)) }
     {
         Ok(None)
     }
@@ -217,7 +212,7 @@ fn finish_valid<R, T: TextReader<R>>(
     requires grammar { IsGrammar greatest (WasRead parsed.now) (in_numbers parsed.now) }
     ensures { IfOk result (IsMadeOfGrammar (T.of_grammar reader.now text.now) (WasRead parsed.now)) }
 {
-    match reader.tree(alloc, text, parsed)? {
+    match reader.tree(alloc, text, parsed.ast())? {
         Some(made) => Ok(made),
         None => {
             let grammar = YaccGrammar::new_from_checked_ast(alloc, parsed)?;

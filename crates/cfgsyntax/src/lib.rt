@@ -1,7 +1,6 @@
 //! Yacc grammars as written: the text of a Yacc file, its syntax, and its errors.
 #![tactic(auto)]
 
-pub mod indices;
 pub mod laws;
 mod read;
 mod validation;

@@ -1,9 +1,8 @@
 //! Validation: whether what a syntax names exists.
 
-ghost use Rattle.std.specs.Prelude.{◌≡◌, ◌↔◌, None, IfOk, IsTrue, map, option_map, string_bytes};
+ghost use Rattle.std.specs.Prelude.{◌≡◌, IfOk, map, option_map, string_bytes};
 ghost use Rattle.cfgitems.specs.Building.{has_entry, has_name, has_rule};
 ghost use Rattle.cfgitems.specs.SyntaxView.{symbol_view, text_view, production_view};
-ghost use Rattle.cfgast.specs.SymbolIndices.{symbol_index, symbol_indices};
 ghost use Rattle.cfgast.specs.TreeView.{syntax};
 ghost use Rattle.cfgast.specs.Check.{start_error, symbol_error};
 ghost use Rattle.cfgast.specs.Check.{precedence_error, production_error, printed_error, locate_error, rule_error};
@@ -16,7 +15,6 @@ use cfgerrors::YaccGrammarErrorKind::{
     InvalidStartRule, NoPrecForToken, NoStartRule, UnknownEPP, UnknownRuleRef, UnknownToken,
 };
 use cfgerrors::{YaccGrammarError, error_at};
-use cfgindex::Lists;
 use cfgitems::{Production, Rule, Symbol};
 use std::alloc::{AllocError, Global};
 
@@ -142,80 +140,39 @@ fn check_symbols<'a>(ast: &GrammarAST, symbols: &'a [Symbol]) -> Result<(), Vali
     Ok(())
 }
 
-/// Whether there is what the symbol names, by its index.
-fn is_there(ast: &GrammarAST, symbol: &Symbol, index: usize) -> bool
-    requires { index ≡ symbol_index (syntax ast.now) (symbol_view symbol.now) }
-    ensures { IsTrue result ↔ (symbol_error (syntax ast.now) (symbol_view symbol.now) ≡ None) }
-{
-    match symbol {
-        Symbol::Rule(_, _) => index < ast.rules().len(),
-        Symbol::Token(_, _) => index < ast.tokens().len(),
-    }
-}
-
-/// Checks the symbols of a production, which name what has these indices.
-fn check_named<'a>(
-    ast: &GrammarAST,
-    symbols: &'a [Symbol],
-    indices: &[usize],
-) -> Result<(), ValidationError<'a>>
-    requires { indices.now ≡ map (symbol_index (syntax ast.now)) (map symbol_view symbols.now) }
-    ensures { found result ≡ first_error (symbol_error (syntax ast.now)) (map symbol_view symbols.now) }
-{
-    for at in 0..symbols.len() {
-        if !is_there(ast, &symbols[at], indices[at]) {
-            check_symbol(ast, &symbols[at])?;
-        }
-    }
-    Ok(())
-}
-
 fn check_production<'a>(
     ast: &GrammarAST,
     production: &'a Production,
-    indices: &[usize],
 ) -> Result<(), ValidationError<'a>>
-    requires { indices.now ≡ map (symbol_index (syntax ast.now)) (production_view production.now).symbols }
     ensures { found result ≡ production_error (syntax ast.now) (production_view production.now) }
 {
     check_precedence(ast, &production.precedence)?;
-    check_named(ast, &production.symbols, indices)
+    check_symbols(ast, &production.symbols)
 }
 
-fn check_index<'a>(
-    ast: &'a GrammarAST,
-    indices: &Lists<usize>,
-    index: usize,
-) -> Result<(), ValidationError<'a>>
-    requires { indices.now ≡ symbol_indices (syntax ast.now) }
+fn check_index(ast: &GrammarAST, index: usize) -> Result<(), ValidationError<'_>>
     ensures { found result ≡ locate_error (syntax ast.now) index }
 {
     match ast.prods().get(index) {
         None => Ok(()),
-        Some(production) => check_production(ast, production, indices.get(index)),
+        Some(production) => check_production(ast, production),
     }
 }
 
-fn check_rule<'a>(
-    ast: &'a GrammarAST,
-    indices: &Lists<usize>,
-    rule: &Rule,
-) -> Result<(), ValidationError<'a>>
-    requires { indices.now ≡ symbol_indices (syntax ast.now) }
+fn check_rule<'a>(ast: &'a GrammarAST, rule: &Rule) -> Result<(), ValidationError<'a>>
     ensures { found result ≡ first_error (locate_error (syntax ast.now)) rule.now.pidxs.items }
 {
     for index in &rule.pidxs {
-        check_index(ast, indices, *index)?;
+        check_index(ast, *index)?;
     }
     Ok(())
 }
 
-fn check_rules<'a>(ast: &'a GrammarAST, indices: &Lists<usize>) -> Result<(), ValidationError<'a>>
-    requires { indices.now ≡ symbol_indices (syntax ast.now) }
+fn check_rules(ast: &GrammarAST) -> Result<(), ValidationError<'_>>
     ensures { found result ≡ first_error (rule_error (syntax ast.now)) (syntax ast.now).rules }
 {
     for (_, rule) in ast.rules() {
-        check_rule(ast, indices, rule)?;
+        check_rule(ast, rule)?;
     }
     Ok(())
 }
@@ -247,22 +204,17 @@ fn check_printed_forms(ast: &GrammarAST) -> Result<(), ValidationError<'_>>
 
 /// Validates a tree: that its start is a rule; rule by rule and production by production, that the token of a `%prec`
 /// is a token and has a precedence, and that what each symbol names exists; that each key of `%epp` is a token; and
-/// that what each symbol of `%expect-unused` names exists. The indices are of what the symbols of productions name. It
-/// allocates nothing.
+/// that what each symbol of `%expect-unused` names exists. It allocates nothing.
 ///
 /// # Errors
 ///
 /// The first check that the syntax fails.
 #[tactic(auto, unfolding(cfgast::specs::Check::check_of))]
-pub(crate) fn check<'a>(
-    ast: &'a GrammarAST,
-    indices: &Lists<usize>,
-) -> Result<(), ValidationError<'a>>
-    requires { indices.now ≡ symbol_indices (syntax ast.now) }
+pub(crate) fn check(ast: &GrammarAST) -> Result<(), ValidationError<'_>>
     ensures { found result ≡ check_of (syntax ast.now) }
 {
     check_start(ast)?;
-    check_rules(ast, indices)?;
+    check_rules(ast)?;
     check_printed_forms(ast)?;
     check_symbols(ast, ast.expect_unused())
 }

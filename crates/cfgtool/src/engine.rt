@@ -8,6 +8,7 @@ ghost use Rattle.cfgrammar.specs.Answer.{Found};
 ghost use Rattle.cfgprogram.specs.ReadText.{IsFound};
 ghost use Rattle.cfgtool.specs.FirstLines.{AreFirstLines};
 ghost use Rattle.cfgtool.specs.FollowLines.{AreFollowLines};
+ghost use Rattle.cfgtool.specs.ReportLines.{AreWarningLines};
 ghost use Rattle.cfgtool.specs.Report.{AreRequestedLines, AreLinesOf, Reports};
 ghost use Rattle.cfgtool.specs.Report.{ReportsLexer, ReportsText};
 ghost use Rattle.cfgsink.specs.Reports.{faults_met};
@@ -21,7 +22,7 @@ use crate::lines::{error_lines, production_lines, warning_lines};
 use crate::sentence_lines::sentence_lines;
 use cfgprogram::KindArg;
 use cfgprogram::driver::{TextReader, read_text};
-use cfgrammar::yacc::ast::{ASTWithValidityInfo, GrammarAST};
+use cfgrammar::yacc::ast::GrammarAST;
 use cfgrammar::yacc::{YaccGrammar, YaccGrammarError};
 pub use cfgsink::{Outcome, ReportFault};
 use cfgsink::{Sink, write_report};
@@ -114,12 +115,11 @@ impl TextReader<(Outcome, String)> for RequestReader<'_> {
         &self,
         alloc: Global,
         text: &str,
-        parsed: &ASTWithValidityInfo,
+        ast: &GrammarAST,
     ) -> Result<Option<(Outcome, String)>, AllocError> {
         match self.request {
             Request::Command(Command::Warnings) => {
-                let warnings = parsed.warnings(alloc)?;
-                let lines = warning_lines(alloc, text, &warnings)?;
+                let lines = reported_warnings(alloc, text, ast)?;
                 Ok(Some((Outcome::Done, lines)))
             }
             Request::Command(_) | Request::Names(_) => Ok(None),
@@ -195,10 +195,7 @@ fn command_lines(
         Command::Firsts => reported_firsts(alloc, grammar),
         Command::Follows => reported_follows(alloc, grammar),
         Command::Sentences => sentence_lines(alloc, grammar),
-        Command::Warnings => {
-            let warnings = ast.warnings(alloc)?;
-            warning_lines(alloc, text, &warnings)
-        }
+        Command::Warnings => reported_warnings(alloc, text, ast),
     }
 }
 
@@ -216,4 +213,13 @@ fn reported_follows(alloc: Global, grammar: &YaccGrammar<u32>) -> Result<String,
 {
     let follows = grammar.follows(alloc)?;
     follow_lines(alloc, grammar, &follows)
+}
+
+/// The lines of the warnings of a text with this tree.
+fn reported_warnings(alloc: Global, text: &str, ast: &GrammarAST) -> Result<String, AllocError>
+    requires { EachSpan (IsPiece text.now) (IsWithin text.now) (syntax ast.now) }
+    ensures { IfOk result (λ lines. AreWarningLines text.now (syntax ast.now) (string_bytes lines)) }
+{
+    let warnings = ast.warnings(alloc)?;
+    warning_lines(alloc, text, &warnings)
 }

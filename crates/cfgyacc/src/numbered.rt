@@ -7,7 +7,7 @@ ghost use Rattle.cfgnumbers.specs.Numberable.{IsNumberable};
 ghost use Rattle.cfgnumbers.specs.Numbered.{numbered};
 
 use crate::grammar::YaccGrammar;
-use cfgast::{GrammarAST, symbol_indices};
+use cfgast::GrammarAST;
 use cfgindex::Storage;
 use cfgkinds::YaccKind;
 use cfgnumbers::Numbering;
@@ -31,7 +31,5 @@ pub fn numbered_if_fits<S: Storage>(
     if !Numbering::new(kind, ast).fits::<S>() {
         return Ok(None);
     }
-    let indices = symbol_indices(alloc, ast)?;
-    let grammar = YaccGrammar::from_numberable(alloc, kind, ast, &indices)?;
-    Ok(Some(grammar))
+    Ok(Some(YaccGrammar::from_numberable(alloc, kind, ast)?))
 }

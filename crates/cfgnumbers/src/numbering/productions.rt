@@ -7,7 +7,6 @@ ghost use Rattle.std.specs.Option.{option_to_list};
 ghost use Rattle.derivation.specs.Grammar.{Rule, Token};
 ghost use Rattle.cfgitems.specs.Building.{has_name};
 ghost use Rattle.cfgitems.specs.SyntaxView.{production_view as plain_production};
-ghost use Rattle.cfgast.specs.SymbolIndices.{symbol_index, symbol_indices};
 ghost use Rattle.cfgnumbers.specs.Fits.{LeavesRoom};
 ghost use Rattle.cfgnumbers.specs.Numberable.{IsNumberable};
 ghost use Rattle.cfgnumbers.specs.Numbered.{added_production, added_productions, file_production, token_index};
@@ -21,14 +20,13 @@ use super::marks::precedence_of;
 use crate::production_rows::ProductionRows;
 use crate::rows::{ProductionRow, TokenRow};
 use cfgbase::Span;
-use cfgindex::{Lists, RIdx, Storage, Symbol, to_storage};
+use cfgindex::{RIdx, Storage, Symbol, to_storage};
 use cfgitems::Production;
 use indexmap::IndexMap;
 use std::alloc::{AllocError, Global};
 
 impl Numbering<'_> {
-    /// The productions: those of the file, and then the added ones. The tokens have these rows, and the indices are of
-    /// what the symbols of productions name.
+    /// The productions: those of the file, and then the added ones. The tokens have these rows.
     ///
     /// # Errors
     ///
@@ -37,10 +35,8 @@ impl Numbering<'_> {
         &self,
         alloc: Global,
         tokens: &IndexMap<String, TokenRow>,
-        indices: &Lists<usize>,
     ) -> Result<ProductionRows<S>, AllocError>
         requires numberable { IsNumberable (file_of self.now) }
-        requires indices { indices.now ≡ symbol_indices (file_of self.now) }
         requires tokens { map token_view tokens.now.entries
             ≡ map (file_token (file_of self.now)) (zip (file_of self.now).tokens (file_of self.now).spans) }
         requires implicit { AreTokens (file_of self.now) (implicit_in self.now) }
@@ -52,7 +48,7 @@ impl Numbering<'_> {
     {
         let of_file = self.ast.prods().len();
         let mut rows = ProductionRows::with_capacity(alloc, of_file.saturating_add(1))?;
-        self.push_file_rows(alloc, &mut rows, tokens, indices)?;
+        self.push_file_rows(alloc, &mut rows, tokens)?;
         self.push_added(alloc, &mut rows)?;
         Ok(rows)
     }
@@ -63,10 +59,8 @@ impl Numbering<'_> {
         alloc: Global,
         rows: &mut ProductionRows<S>,
         tokens: &IndexMap<String, TokenRow>,
-        indices: &Lists<usize>,
     ) -> Result<(), AllocError>
         requires empty { rows.old ≡ [] }
-        requires indices { indices.now ≡ symbol_indices (file_of self.now) }
         requires tokens { map (λ token. token.1.precedence) tokens.now.entries
             ≡ map (precedence_of_token (file_of self.now)) (file_of self.now).tokens }
         requires numberable { IsNumberable (file_of self.now) }
@@ -77,14 +71,13 @@ impl Numbering<'_> {
     {
         let mut symbols = Vec::new(alloc);
         for (rule, production) in self.ast.prods_rules().iter().zip(self.ast.prods()) {
-            let own = indices.get(rows.len());
-            self.push_file_row(rows, &mut symbols, tokens, *rule, production, own)?;
+            self.push_file_row(rows, &mut symbols, tokens, *rule, production)?;
         }
         Ok(())
     }
 
-    /// Adds a production of the file to the rows; its rule has this index, and what its symbols name has these. Its
-    /// symbols are numbered in `symbols`. The tokens have these rows.
+    /// Adds a production of the file to the rows; its rule has this index. Its symbols are numbered in `symbols`. The
+    /// tokens have these rows.
     fn push_file_row<S: Storage>(
         &self,
         rows: &mut ProductionRows<S>,
@@ -92,19 +85,16 @@ impl Numbering<'_> {
         tokens: &IndexMap<String, TokenRow>,
         rule: usize,
         production: &Production,
-        indices: &[usize],
     ) -> Result<(), AllocError>
         requires tokens { map (λ token. token.1.precedence) tokens.now.entries
             ≡ map (precedence_of_token (file_of self.now)) (file_of self.now).tokens }
         requires rule { rule < length (file_of self.now).rules }
-        requires indices { indices.now
-            ≡ map (symbol_index (file_of self.now)) (plain_production production.now).symbols }
         requires resolved { Resolves (file_of self.now) (plain_production production.now) }
         requires room { LeavesRoom S.MAX (implicit_in self.now) (file_of self.now) }
         ensures { OnOk result (rows.new ≡ rows.old
             ++ file_production (implicit_in self.now) (file_of self.now) (rule, plain_production production.now) ∷ []) }
     {
-        let last = self.number_symbols(symbols, &production.symbols, indices)?;
+        let last = self.number_symbols(symbols, &production.symbols)?;
         let (action, action_span) = action_parts(production)?;
         let row = ProductionRow {
             span: production.prod_span,

@@ -5,7 +5,6 @@ ghost use Rattle.std.specs.Prelude.{IfOk, OnOk};
 ghost use Rattle.cfgitems.specs.Building.{has_name, has_rule};
 ghost use Rattle.cfgitems.specs.SyntaxView.{symbol_view};
 ghost use Rattle.cfgast.specs.Check.{symbol_error};
-ghost use Rattle.cfgast.specs.SymbolIndices.{symbol_index};
 ghost use Rattle.cfgnumbers.specs.Fits.{LeavesRoom};
 ghost use Rattle.cfgnumbers.specs.Numbered.{rule_index, rules_before, token_index, file_symbol, file_symbols, spaced};
 ghost use Rattle.cfgnumbers.specs.Numbered.{start_symbols, last_token, token_in};
@@ -18,16 +17,13 @@ use cfgindex::{RIdx, Storage, Symbol, TIdx, to_storage};
 use std::alloc::AllocError;
 
 impl Numbering<'_> {
-    /// Replaces the content of `numbered` by the symbols of a production of the file, given the indices of what they
-    /// name. If there are implicit tokens, the rule for these follows each token. The result is the last token of the
-    /// production, if it has one.
+    /// Replaces the content of `numbered` by the symbols of a production of the file. If there are implicit tokens, the
+    /// rule for these follows each token. The result is the last token of the production, if it has one.
     pub(super) fn number_symbols<S: Storage>(
         &self,
         numbered: &mut Vec<Symbol<S>>,
         symbols: &[cfgitems::Symbol],
-        indices: &[usize],
     ) -> Result<Option<TIdx<S>>, AllocError>
-        requires indices { indices.now ≡ map (symbol_index (file_of self.now)) (map symbol_view symbols.now) }
         requires known { All (λ symbol. symbol_error (file_of self.now) symbol ≡ None)
             (map symbol_view symbols.now) }
         requires room { LeavesRoom S.MAX (implicit_in self.now) (file_of self.now) }
@@ -39,22 +35,19 @@ impl Numbering<'_> {
     {
         numbered.clear();
         let mut last = None;
-        for at in 0..symbols.len() {
-            let token = self.push_symbol(numbered, &symbols[at], indices[at])?;
+        for symbol in symbols {
+            let token = self.push_symbol(numbered, symbol)?;
             last = token.or(last);
         }
         Ok(last)
     }
 
-    /// Adds a symbol of the file to those that are numbered, given the index of what it names. Returns that index, if
-    /// it is a token's.
+    /// Adds a symbol of the file to those that are numbered. The result is its index, if it is a token.
     fn push_symbol<S: Storage>(
         &self,
         numbered: &mut Vec<Symbol<S>>,
         symbol: &cfgitems::Symbol,
-        index: usize,
     ) -> Result<Option<TIdx<S>>, AllocError>
-        requires index { index ≡ symbol_index (file_of self.now) (symbol_view symbol.now) }
         requires known { symbol_error (file_of self.now) (symbol_view symbol.now) ≡ None }
         requires room { LeavesRoom S.MAX (implicit_in self.now) (file_of self.now) }
         ensures symbols { OnOk result (map (sym_of S.number) numbered.new.items
@@ -66,12 +59,12 @@ impl Numbering<'_> {
             ≡ option_map Some (token_in (symbol_view symbol.now))) }
     {
         match symbol {
-            cfgitems::Symbol::Rule(_, _) => {
-                numbered.push(Symbol::Rule(self.rule_at(index)))?;
+            cfgitems::Symbol::Rule(name, _) => {
+                numbered.push(Symbol::Rule(self.rule_of(name.as_str())))?;
                 Ok(None)
             }
-            cfgitems::Symbol::Token(_, _) => {
-                let token = TIdx(to_storage(index));
+            cfgitems::Symbol::Token(name, _) => {
+                let token = self.token_of(name.as_str());
                 numbered.push(Symbol::Token(token))?;
                 if let Some(rule) = self.implicit_rule() {
                     numbered.push(Symbol::Rule(rule))?;

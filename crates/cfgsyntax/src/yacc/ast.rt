@@ -14,7 +14,6 @@ ghost use Rattle.cfgitems.specs.Syntax.{syntax_of};
 ghost use Rattle.cfgitems.specs.SyntaxView.{named_view};
 ghost use Rattle.cfgerrors.specs.Refusal.{ListsErrors};
 ghost use Rattle.cfgast.specs.TreeView.{syntax};
-ghost use Rattle.cfgast.specs.Unused.{AreWarnings};
 ghost use Rattle.cfgsection.specs.Named.{HasOneNaming, Names, Naming};
 ghost use Rattle.cfgsyntax.specs.Faults.{errors_of};
 ghost use Rattle.cfgwords.specs.TextSpans.{IsPiece, IsWithin};
@@ -28,43 +27,37 @@ ghost use Rattle.cfgsyntax.specs.Starts.{restarted, IsStartFault};
 use crate::read::{after_section, read};
 use crate::validation::has_rule;
 pub use cfgast::GrammarAST;
-use cfgast::{clone_with_start, indexed_warnings, tree_with};
-use cfgerrors::{YaccGrammarError, YaccGrammarErrorKind, YaccGrammarResult, YaccGrammarWarning};
-use cfgindex::Lists;
+use cfgast::{clone_with_start, tree_with};
+use cfgerrors::{YaccGrammarError, YaccGrammarErrorKind, YaccGrammarResult};
 pub use cfgitems::{Production, Rule, Settings, Symbol};
 use cfgkinds::YaccKind;
 use cfgsection::HeaderFault;
 use cfgsection::named::{kind_if_named, kind_named};
-use errors::{fault_of, validated};
+use errors::{errors_found, fault_of};
 pub use every_check::every_error;
 pub use source::KindSource;
 pub use start::{ASTModificationError, StartFault};
 use std::alloc::{AllocError, Global};
-use std::fmt;
 use std::marker::Model;
 
 /// The syntax of what was read of a Yacc file, and the errors of the file.
-#[derive(Drop)]
+#[derive(Debug, Drop)]
 pub struct ASTWithValidityInfo {
     kind: YaccKind,
     ast: GrammarAST,
     errors: Vec<YaccGrammarError>,
-    // Of what the symbols of productions name, so that neither the grammar nor the warnings look for it again.
-    pub(crate) indices: Lists<usize>,
 }
 
 impl Model for ASTWithValidityInfo {
-    ghost use Rattle.std.specs.Prelude.{◌≡◌};
     ghost use Rattle.cfgast.specs.TreeView.{syntax};
     ghost use Rattle.cfgsyntax.specs.Parsed.{Parsed};
     ghost use Rattle.cfgast.specs.Sound.{IsSound};
-    ghost use Rattle.cfgast.specs.SymbolIndices.{symbol_indices};
 
     ghost Value = { Parsed };
 
     ghost view = { λ x. record { kind = x.kind; syntax = syntax x.ast; errors = x.errors.items } };
 
-    ghost invariant = { λ x. IsSound (syntax x.ast) x.errors.items × (x.indices ≡ symbol_indices (syntax x.ast)) };
+    ghost invariant = { λ x. IsSound (syntax x.ast) x.errors.items };
 }
 
 impl ASTWithValidityInfo {
@@ -156,14 +149,9 @@ impl ASTWithValidityInfo {
         ensures offsets { IfOk result (EachParsedSpan (IsPiece text.now) (IsWithin text.now)) }
     {
         let (ast, stop) = read(alloc, kind, text, rest)?;
-        let found = validated(alloc, &ast, stop);
-        let (ast, (indices, errors)) = tree_with(ast, found)?;
-        Ok(ASTWithValidityInfo {
-            kind,
-            ast,
-            errors,
-            indices,
-        })
+        let errors = errors_found(alloc, &ast, stop);
+        let (ast, errors) = tree_with(ast, errors)?;
+        Ok(ASTWithValidityInfo { kind, ast, errors })
     }
 
     /// What was read of the file. It need not be valid.
@@ -195,18 +183,6 @@ impl ASTWithValidityInfo {
         self.errors.as_slice()
     }
 
-    /// What is unused in what was read: the warnings that [`warnings`](GrammarAST::warnings) of its tree returns. No
-    /// name is looked up again.
-    ///
-    /// # Errors
-    ///
-    /// Running out of memory.
-    pub fn warnings(&self, alloc: Global) -> Result<Vec<YaccGrammarWarning>, AllocError>
-        ensures { IfOk result (λ warnings. AreWarnings self.now.syntax warnings.items) }
-    {
-        indexed_warnings(alloc, &self.ast, &self.indices)
-    }
-
     /// A copy with another start: the given rule's name and span. The kind and the errors stay as they are, and so does
     /// the rest of the syntax.
     ///
@@ -224,13 +200,11 @@ impl ASTWithValidityInfo {
             return Err(StartFault::Modification(ASTModificationError { kind }));
         }
         let errors = self.errors.to_vec(alloc)?;
-        let indices = self.indices.clone()?;
         let ast = clone_with_start(&self.ast, name)?;
         Ok(ASTWithValidityInfo {
             kind: self.kind,
             ast,
             errors,
-            indices,
         })
     }
 }
@@ -240,23 +214,11 @@ impl Clone for ASTWithValidityInfo {
 
     fn clone(&self) -> Result<Self, AllocError> {
         let errors = self.errors.clone()?;
-        let indices = self.indices.clone()?;
         let ast = self.ast.clone()?;
         Ok(ASTWithValidityInfo {
             kind: self.kind,
             ast,
             errors,
-            indices,
         })
-    }
-}
-
-impl fmt::Debug for ASTWithValidityInfo {
-    fn fmt<W: fmt::Write>(&self, f: &mut fmt::Formatter<W>) -> fmt::Result {
-        f.debug_struct("ASTWithValidityInfo")
-            .field("kind", &self.kind)
-            .field("ast", &self.ast)
-            .field("errors", &self.errors)
-            .finish()
     }
 }

@@ -9,7 +9,6 @@ ghost use Rattle.std.specs.String.{string_bytes};
 ghost use Rattle.cfgwords.specs.TextSpans.{IsPiece, IsWithin};
 ghost use Rattle.cfgitems.specs.SyntaxView.{pair_view};
 ghost use Rattle.cfgerrors.specs.Refusal.{ListsErrors};
-ghost use Rattle.cfgast.specs.SymbolIndices.{symbol_indices};
 ghost use Rattle.cfgast.specs.TreeView.{syntax};
 ghost use Rattle.cfgsyntax.specs.ErrorSpans.{EachFaultSpan, EachParsedSpan};
 ghost use Rattle.cfgkinds.specs.declared.kind.YaccKind.{YaccKind};
@@ -26,10 +25,9 @@ ghost use Rattle.cfgnumbers.specs.WellNumbered.{IsWellNumbered};
 use super::fault::storage_too_small;
 use super::iter::{PIdxIter, RIdxIter, TIdxIter};
 use cfgbase::Span;
-use cfgindex::{Lists, PIdx, RIdx, SIdx, Storage, Symbol, TIdx, to_storage};
+use cfgindex::{PIdx, RIdx, SIdx, Storage, Symbol, TIdx, to_storage};
 use cfgitems::{Precedence, Settings};
 use cfgnumbers::{Numbering, ProductionRows, RuleRow, TokenRow, tokens_by_name};
-use cfgsyntax::indices::indices_of;
 use cfgsyntax::yacc::YaccKind;
 use cfgsyntax::yacc::ast::{ASTWithValidityInfo, GrammarAST};
 use cfgsyntax::yacc::parser::{YaccFault, YaccGrammarResult};
@@ -197,26 +195,23 @@ impl<S: Storage> YaccGrammar<S> {
         requires { IsGrammar S.MAX (WasRead parsed.now) (in_numbers parsed.now) }
         ensures { IfOk result (λ grammar. grammar ≡ in_numbers parsed.now) }
     {
-        let indices = indices_of(parsed);
-        YaccGrammar::from_numberable(alloc, parsed.yacc_kind(), parsed.ast(), indices)
+        YaccGrammar::from_numberable(alloc, parsed.yacc_kind(), parsed.ast())
     }
 
-    /// The grammar of a syntax of this kind that `S` can count. The indices are of what its symbols name.
+    /// The grammar of a syntax of this kind that `S` can count.
     pub(crate) fn from_numberable(
         alloc: Global,
         kind: YaccKind,
         ast: &GrammarAST,
-        indices: &Lists<usize>,
     ) -> Result<Self, AllocError>
         requires numberable { IsNumberable (syntax ast.now) }
-        requires indices { indices.now ≡ symbol_indices (syntax ast.now) }
         requires room { LeavesRoom S.MAX (implicit_of kind (syntax ast.now)) (syntax ast.now) }
         ensures { IfOk result (λ grammar. grammar ≡ numbered kind (syntax ast.now)) }
     {
         let numbering = Numbering::new(kind, ast);
         let tokens = numbering.token_rows(alloc);
         let prods = match &tokens {
-            Ok(tokens) => numbering.production_rows(alloc, tokens, indices),
+            Ok(tokens) => numbering.production_rows(alloc, tokens),
             Err(AllocError) => Err(AllocError),
         };
         let (rules, prods, tokens, settings) = all(

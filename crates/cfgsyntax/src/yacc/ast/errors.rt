@@ -3,7 +3,6 @@
 ghost use Rattle.std.specs.Prelude.{◌≡◌, map, option_map, IfOk};
 ghost use Rattle.cfgast.specs.Duplicates.{duplicates};
 ghost use Rattle.cfgitems.specs.SyntaxView.{occurrence_view};
-ghost use Rattle.cfgast.specs.SymbolIndices.{symbol_indices};
 ghost use Rattle.cfgast.specs.TreeView.{syntax};
 ghost use Rattle.cfgsection.specs.SectionReads.{errors_view};
 ghost use Rattle.cfgerrors.specs.Errors.{kind_view, header_error};
@@ -13,8 +12,8 @@ ghost use Rattle.cfgsyntax.specs.Inner.Steps.{IsFaultOf, stop_view};
 use super::fault::error_of;
 use crate::read::Stopped;
 use crate::validation::check;
+use cfgast::GrammarAST;
 use cfgast::duplicates::duplicates;
-use cfgast::{GrammarAST, symbol_indices};
 use cfgbase::Span;
 use cfgerrors::YaccGrammarErrorKind::{
     DuplicateActiontypeDeclaration, DuplicateAvoidInsertDeclaration, DuplicateEPP,
@@ -22,7 +21,6 @@ use cfgerrors::YaccGrammarErrorKind::{
     DuplicatePrecedence, DuplicateStartDeclaration,
 };
 use cfgerrors::{HeaderError, YaccFault, YaccGrammarError, YaccGrammarErrorKind};
-use cfgindex::Lists;
 use cfgitems::{Occurrence, UniqueKind};
 use cfgsection::HeaderFault;
 use std::alloc::{AllocError, Global};
@@ -101,36 +99,17 @@ fn stop_errors(alloc: Global, stop: Option<Stopped>) -> Result<Vec<YaccGrammarEr
     }
 }
 
-/// What the symbols of this syntax name, by index, and the errors of the file that was read as it, up to what stopped
-/// the reading.
-pub(super) fn validated(
+/// The errors of a file that was read as this syntax, up to what stopped the reading.
+pub(super) fn errors_found(
     alloc: Global,
     ast: &GrammarAST,
-    stop: Option<Stopped>,
-) -> Result<(Lists<usize>, Vec<YaccGrammarError>), AllocError>
-    ensures indices { IfOk result (λ found. found.0 ≡ symbol_indices (syntax ast.now)) }
-    ensures errors { IfOk result (λ found.
-        found.1.items ≡ all_errors (syntax ast.now) (option_map stop_view stop)) }
-{
-    let indices = symbol_indices(alloc, ast)?;
-    let errors = errors_found(alloc, ast, &indices, stop)?;
-    Ok((indices, errors))
-}
-
-/// The errors of a file that was read as this syntax, up to what stopped the reading. The indices are of what its
-/// symbols name.
-fn errors_found(
-    alloc: Global,
-    ast: &GrammarAST,
-    indices: &Lists<usize>,
     stop: Option<Stopped>,
 ) -> Result<Vec<YaccGrammarError>, AllocError>
-    requires { indices.now ≡ symbol_indices (syntax ast.now) }
     ensures { IfOk result (λ errors. errors.items ≡ all_errors (syntax ast.now) (option_map stop_view stop)) }
 {
     let mut errors = duplicate_errors(alloc, ast.occurrences())?;
     errors.append(&mut stop_errors(alloc, stop)?)?;
-    if let Err(invalid) = check(ast, indices) {
+    if let Err(invalid) = check(ast) {
         errors.push(invalid.error(alloc)?)?;
     }
     Ok(errors)

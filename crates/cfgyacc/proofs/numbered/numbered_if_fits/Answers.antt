@@ -11,7 +11,6 @@ from_numberable-requires g c =
     record {
       numberable = c.requires;
       room = of_both HasRoom _ _ _ _ (sym c.new.ensures.file) (sym c.new.ensures.implicit) (c.fits.ensures.0 c.if-not-fits.false);
-      indices = c.in_ok-indices.ensures;
     }
 
 pub returns-then-not-fits-clause-fits : goal.returns-then-not-fits-clause-fits

@@ -11,11 +11,11 @@ pub loop-symbol-init : goal.loop-symbol-init
 loop-symbol-init c = each_none _ _
 
 pub reach_one-requires : goal.reach_one-requires
-reach_one-requires c = subst (λ m. IfSome c.node_at.result (λ n. n < m)) (sym (c.loop-symbol.invariant.shape ∙ c.requires)) c.node_at.ensures.within
+reach_one-requires c = subst (λ m. IfSome c.symbol_node.result (λ n. n < m)) (sym (c.loop-symbol.invariant.shape ∙ c.requires)) c.symbol_node.ensures.within
 
 pub loop-symbol-preserved : goal.loop-symbol-preserved
 loop-symbol-preserved c = each_more _ _ _ _ _ _ _ (omega (arith, c.loop-symbol-test.true)) c.symbol-item.is c.loop-symbol.invariant
-    (subst (λ o. Reaches (λ n. o ≡ Some n) c.loop-symbol.search c.reach_one.new.search) c.node_at.ensures.node c.in_ok-reach_one.ensures)
+    (subst (λ o. Reaches (λ n. o ≡ Some n) c.loop-symbol.search c.reach_one.new.search) c.symbol_node.ensures.node c.in_ok-reach_one.ensures)
 
 pub returns : goal.returns
 returns c =

@@ -6,7 +6,7 @@ use Rattle.cfgnumbers.specs.TablesView.{file_of, implicit_in}
 use Rattle.cfgtables.specs.NumberedSymbols.{sym_of}
 use Rattle.cfgnumbers.proofs.numbering.Numbering.number_symbols.Given as goal
 
-abbrev pub invariant-loop-at : goal.invariant-loop-at
-invariant-loop-at g l =
-    (map (sym_of g.S.Storage.number) l.numbered.items ≡ file_symbols (implicit_in l.self) (file_of l.self) (map symbol_view (take l.at l.symbols)))
-    × (option_map (λ (token : TIdx g.row.S.Denot). slice_get (file_of l.self).tokens (g.S.Storage.number token.0)) l.last ≡ option_map Some (last_token (map symbol_view (take l.at l.symbols))))
+abbrev pub invariant-loop-symbol : goal.invariant-loop-symbol
+invariant-loop-symbol g l =
+    (map (sym_of g.S.Storage.number) l.numbered.items ≡ file_symbols (implicit_in l.self) (file_of l.self) (map symbol_view (take l.symbol-index l.symbols)))
+    × (option_map (λ (token : TIdx g.row.S.Denot). slice_get (file_of l.self).tokens (g.S.Storage.number token.0)) l.last ≡ option_map Some (last_token (map symbol_view (take l.symbol-index l.symbols))))

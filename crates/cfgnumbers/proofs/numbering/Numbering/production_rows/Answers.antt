@@ -13,7 +13,6 @@ pub push_file_rows-requires : goal.push_file_rows-requires
 push_file_rows-requires g c =
     record {
       empty = c.in_ok-rows.ensures;
-      indices = c.requires.indices;
       tokens = precedences_shown (file_of c.args.self.now) c.args.tokens.now.entries c.requires.numberable.well_formed.spans_as_long c.requires.tokens;
       numberable = c.requires.numberable;
       room = c.requires.room;

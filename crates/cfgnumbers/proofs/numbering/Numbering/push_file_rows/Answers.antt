@@ -1,13 +1,9 @@
-use Rattle.std.proofs.Common.{◌≡◌, ℕ, ◌<◌, List, ◌∷◌, ◌++◌, [], length, map, slice_get, Bor, arith, refl, sym, ap, ◌∙◌}
+use Rattle.std.proofs.Common.{ℕ, ◌<◌, ◌∷◌, ◌++◌, [], length, map, Bor, ap, ◌∙◌}
 use Rattle.std.specs.Iterator.Adapters.{zip_first, zip_second}
 use Rattle.std.specs.Slice.Iter.{iter_rest}
 use Rattle.std.proofs.lemmas.Iterator.Consumers.{YieldsList-end}
-use Rattle.std.proofs.lemmas.List.{length-map}
-use Rattle.std.proofs.lemmas.Option.{slice_get_read}
-use Rattle.std.proofs.lemmas.Slice.Zip.{zip_turn}
 use Rattle.cfgitems.specs.Syntax.{Production}
 use Rattle.cfgitems.specs.declared.production.Production as source
-use Rattle.cfgast.proofs.SymbolIndices.{indices_at, indices_long}
 use Rattle.cfgnumbers.specs.Numbered.{file_production}
 use Rattle.cfgnumbers.specs.Resolved.{Resolves}
 use Rattle.cfgnumbers.specs.TablesView.{file_of, implicit_in}
@@ -15,9 +11,6 @@ use Rattle.lemmas.proofs.Roads.{item_holds, more_shown}
 use Rattle.cfgnumbers.proofs.RowLemmas.{production_seen, productions_road}
 use Rattle.lemmas.proofs.Zips.{All-zip}
 use Rattle.cfgnumbers.proofs.numbering.Numbering.push_file_rows.Goals as goal
-
-as_many : {A B C : Type 0} (f : B → C) (v : A → B) (xs : List A) (ys : List C) → ys ≡ map f (map v xs) → length ys ≡ length xs
-as_many f v xs ys same = ap length same ∙ length-map (map v xs) f ∙ length-map xs v
 
 pub push_file_row-requires : goal.push_file_row-requires
 push_file_row-requires g c =
@@ -29,25 +22,7 @@ push_file_row-requires g c =
     let known = item_holds road c.loop-rule.yielded c.loop-rule.rule-iterator c.loop-rule.yielded_by _ c.next.new.self (c.in-Some.rule, c.in-Some.production) c.in-Some.is c.next.ensures.steps
     (λ (pair : ℕ × Production). (pair.0 < length s.rules) × Resolves s pair.1)
     (All-zip (λ r. r < length s.rules) (Resolves s) s.production_rules s.productions c.requires.numberable.well_formed.production_rules_within c.requires.numberable.resolved.symbols) in
-    let turn = zip_turn s.production_rules c.prods.result.now c.loop-rule.yielded c.into_iter-rule-iterator.result c.loop-rule.rule-iterator c.next.new.self c.next.result
-    (ap (λ it. iter_rest (zip_first it)) from ∙ ap iter_rest c.zip-rule-items.ensures.first ∙ c.iter.ensures.rest ∙ c.prods_rules.ensures)
-    (ap (λ it. iter_rest (zip_second it)) from ∙ c.zip-rule-items.ensures.second.0)
-    c.loop-rule.yielded_by (c.in-Some.rule, c.in-Some.production) c.in-Some.is c.next.ensures.steps in
-    let number = c.len.ensures ∙ as_many _ production_seen c.loop-rule.yielded c.loop-rule.rows c.loop-rule.invariant in
-    let own = indices_at s c.prods.result.now c.prods.ensures (length c.loop-rule.yielded) c.in-Some.production.now c.get-own.result.now
-    (slice_get_read c.prods.result.now _ (length c.loop-rule.yielded) c.in-Some.production.now refl turn.1 (turn.3 c.in-Some.production.now))
-    ((λ i. slice_get (sym c.requires.indices i) (sym number i)) ∙ c.get-own.ensures) in
-    record { tokens = c.requires.tokens; rule = known.0; indices = own; resolved = known.1; room = c.requires.room }
-
-pub get-own-requires : goal.get-own-requires
-get-own-requires g c =
-    let from = c.into_iter-rule-iterator.ensures.into_iter_gives in
-    let turn = zip_turn (file_of c.args.self.now).production_rules c.prods.result.now c.loop-rule.yielded c.into_iter-rule-iterator.result c.loop-rule.rule-iterator c.next.new.self c.next.result
-    (ap (λ it. iter_rest (zip_first it)) from ∙ ap iter_rest c.zip-rule-items.ensures.first ∙ c.iter.ensures.rest ∙ c.prods_rules.ensures)
-    (ap (λ it. iter_rest (zip_second it)) from ∙ c.zip-rule-items.ensures.second.0)
-    c.loop-rule.yielded_by (c.in-Some.rule, c.in-Some.production) c.in-Some.is c.next.ensures.steps in
-    let long = ap length c.requires.indices ∙ indices_long (file_of c.args.self.now) c.prods.result.now c.prods.ensures in
-    omega (arith, c.len.ensures, as_many _ production_seen c.loop-rule.yielded c.loop-rule.rows c.loop-rule.invariant, turn.1, long)
+    record { tokens = c.requires.tokens; rule = known.0; resolved = known.1; room = c.requires.room }
 
 pub loop-rule-preserved : goal.loop-rule-preserved
 loop-rule-preserved g c =

@@ -4,7 +4,6 @@ use Rattle.cfgsyntax.specs.Faults.{all_errors, errors_of}
 use Rattle.cfgsyntax.specs.Inner.Steps.{stop_view}
 use Rattle.cfgsyntax.specs.Reads.{Reads, Stop}
 use Rattle.cfgast.specs.Check.{check_of}
-use Rattle.cfgast.specs.SymbolIndices.{symbol_indices}
 use Rattle.cfgast.specs.TreeView.{syntax}
 use Rattle.cfgast.specs.WellFormed.{IsWellFormed}
 use Rattle.cfgast.proofs.WellFormedLemmas.{syntax_of-IsWellFormed}
@@ -22,13 +21,8 @@ same_syntax c = ap syntax c.in_ok-ast-2.ensures.made.0
 
 -- the errors are those that were found
 found : (c : goal.In_ok-ast-2) → c.in_ok-ast-2.errors.items ≡ all_errors (syntax c.in_ok-ast.ast) (option_map stop_view c.in_ok-ast.stop)
-found c = subst (λ made. IfOk made (λ it. it.1.items ≡ all_errors (syntax c.in_ok-ast.ast) (option_map stop_view c.in_ok-ast.stop)))
-    c.in_ok-ast-2.ensures.made.1 c.validated-found.ensures.errors
-
--- the indices are those of the tree's symbols
-indices : (c : goal.In_ok-ast-2) → c.in_ok-ast-2.indices ≡ symbol_indices (syntax c.in_ok-ast-2.ast)
-indices c = subst (λ made. IfOk made (λ it. it.0 ≡ symbol_indices (syntax c.in_ok-ast.ast)))
-    c.in_ok-ast-2.ensures.made.1 c.validated-found.ensures.indices ∙ ap symbol_indices (sym (same_syntax c))
+found c = subst (λ made. IfOk made (λ errors. errors.items ≡ all_errors (syntax c.in_ok-ast.ast) (option_map stop_view c.in_ok-ast.stop)))
+    c.in_ok-ast-2.ensures.made.1 c.errors_found-errors.ensures
 
 syntax_is : (c : goal.In_ok-ast-2) (items : List Item) (stop : Option Stop) → Reads c.args.kind c.args.text.now items stop
     → syntax c.in_ok-ast-2.ast ≡ syntax_of items
@@ -56,11 +50,9 @@ pub invariant_of-result : goal.invariant_of-result
 invariant_of-result c =
     let read = of_reading c.args.kind c.args.text.now _ (λ s. IsWellFormed s × All (λ rule. begins_as_name rule.0) s.rules)
     c.in_ok-ast.ensures.one (syntax_is c)
-    (λ items stop reads. (syntax_of-IsWellFormed items, read_names c.args.kind c.args.text.now c.utf8.text items stop reads)) in (
-      record {
-        well_formed = read.0;
-        rules_are_names = read.1;
-        checked = checked c.in_ok-ast-2.errors.items _ _ (check_of _) (found c ∙ ap (λ s. all_errors s (option_map stop_view c.in_ok-ast.stop)) (sym (same_syntax c)));
-      },
-      indices c,
-    )
+    (λ items stop reads. (syntax_of-IsWellFormed items, read_names c.args.kind c.args.text.now c.utf8.text items stop reads)) in
+    record {
+      well_formed = read.0;
+      rules_are_names = read.1;
+      checked = checked c.in_ok-ast-2.errors.items _ _ (check_of _) (found c ∙ ap (λ s. all_errors s (option_map stop_view c.in_ok-ast.stop)) (sym (same_syntax c)));
+    }

@@ -1,8 +1,7 @@
-use Rattle.std.proofs.Common.{◌≡◌, ◌++◌, length, map, option_map, sym, ap, subst, ◌∙◌}
+use Rattle.std.proofs.Common.{◌≡◌, ◌++◌, length, map, option_map, sym, subst, ◌∙◌}
 use Rattle.scoped.proofs.Given.{given, given_match}
 use Rattle.std.specs.List.{zip}
 use Rattle.cfgitems.specs.SyntaxView.{production_view}
-use Rattle.cfgast.specs.SymbolIndices.{symbol_indices}
 use Rattle.cfgast.specs.TreeView.{syntax}
 use Rattle.cfgast.specs.WellFormed.{IsWellFormed}
 use Rattle.cfgnumbers.specs.Fits.{LeavesRoom}
@@ -32,9 +31,6 @@ pub production_rows-prods-requires-clause-implicit : goal.production_rows-prods-
 production_rows-prods-requires-clause-implicit g c =
     of_both AreTokens _ _ _ _ c.new-numbering.ensures.file c.new-numbering.ensures.implicit
     (implicit_there c.args.kind (syntax c.args.ast.now) c.requires.numberable.well_formed)
-
-pub production_rows-prods-requires-clause-indices : goal.production_rows-prods-requires-clause-indices
-production_rows-prods-requires-clause-indices g c = c.requires.indices ∙ ap symbol_indices (sym c.new-numbering.ensures.file)
 
 pub implicit_rule-requires : goal.implicit_rule-requires
 implicit_rule-requires g c =

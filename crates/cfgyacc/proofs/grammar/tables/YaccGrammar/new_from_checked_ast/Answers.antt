@@ -1,8 +1,7 @@
-use Rattle.std.proofs.Common.{List, Option, ℕ, sym, ap, subst, ◌∙◌}
+use Rattle.std.proofs.Common.{List, Option, ℕ, sym, subst, ◌∙◌}
 use Rattle.std.proofs.lemmas.Result.{IfOk-weaker}
 use Rattle.cfgitems.specs.Syntax.{Syntax}
 use Rattle.cfgast.specs.Sound.{IsSound}
-use Rattle.cfgast.specs.SymbolIndices.{symbol_indices}
 use Rattle.cfgast.specs.TreeView.{syntax}
 use Rattle.cfgnumbers.specs.Fits.{LeavesRoom}
 use Rattle.cfgnumbers.specs.Numberable.{IsNumberable}
@@ -21,7 +20,6 @@ from_numberable-requires g c =
       room = of_both HasRoom (syntax c.ast.result.now) parsed.syntax (implicit_of c.yacc_kind.result (syntax c.ast.result.now)) (implicit_of parsed.kind parsed.syntax)
           c.ast.ensures.value (λ i. implicit_of (c.yacc_kind.ensures i) (c.ast.ensures.value i))
           (room g.S.Storage.MAX parsed.kind parsed.syntax c.ast.ensures.sound.well_formed c.requires.1);
-      indices = c.indices_of-indices.ensures ∙ ap symbol_indices (sym c.ast.ensures.value);
     }
 
 pub returns : goal.returns
