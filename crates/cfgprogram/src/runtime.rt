@@ -4,10 +4,11 @@ ghost use Rattle.std.specs.Prelude.{◌≡◌, ◌≤◌, IfOk, length};
 ghost use Rattle.cfgprogram.specs.declared.source.ReadError.TheVariants.{Other};
 
 use crate::source::{self, ReadError, Source, SourceWithReasons};
-use std::io::{self, Read, Write};
+use std::fs::OpenOptions;
+use std::io::{self, Read, Seek, SeekFrom, Write};
 use std::rt::{Clock, Files};
+use std::thread;
 use std::time::Duration;
-use std::{fs, thread};
 
 /// How many bytes a pipe takes together, or none of them: POSIX promises so many.
 const TOGETHER: usize = 512;
@@ -41,7 +42,7 @@ impl<R: Files + Input + AllocGlobal> Source for SystemFiles<'_, R> {
                 Err(error) => Err(error),
             }
         } else {
-            fs::read(self.rt, name)
+            file_bytes(self.rt, name)
         };
         match bytes {
             Ok(bytes) => source::Input::Bytes(bytes),
@@ -62,6 +63,19 @@ impl<R: Files + Input + AllocGlobal> SourceWithReasons for SystemFiles<'_, R> {
     fn reason(&self) -> ReadError {
         self.reason
     }
+}
+
+/// The bytes of the file with this name. Room for all that the system says it has is made first, if there is memory.
+fn file_bytes<R: Files + AllocGlobal>(rt: &R, name: &str) -> io::Result<Vec<u8>> {
+    let mut file = OpenOptions::new().read(true).open(rt, name)?;
+    let mut bytes = Vec::new(rt.alloc());
+    if let Ok(length) = file.seek(SeekFrom::End(0)) {
+        file.rewind()?;
+        let length = usize::try_from(length).unwrap_or(0);
+        let _has_room = bytes.reserve_exact(length.saturating_add(1));
+    }
+    file.read_to_end(&mut bytes)?;
+    Ok(bytes)
 }
 
 /// The reason that an error of this kind gives.
