@@ -13,11 +13,15 @@ use cfgrammar::{PIdx, Positions, Span, Spanned};
 use itoa::Buffer;
 use std::alloc::{AllocError, Global};
 
+/// How many bytes of room a production's line gets at first. Most lines have fewer.
+const LINE_ROOM: usize = 48;
+
 /// The productions of a grammar, each as a line: its index, a space and its text.
 pub fn production_lines(alloc: Global, grammar: &YaccGrammar<u32>) -> Result<String, AllocError>
     ensures { IfOk result (λ lines. string_bytes lines ≡ production_lines grammar.now) }
 {
-    let mut lines = String::new(alloc);
+    let room = usize::from(grammar.prods_len()).saturating_mul(LINE_ROOM);
+    let mut lines = String::with_capacity(alloc, room)?;
     for pidx in grammar.iter_pidxs() {
         write_production(&mut lines, grammar, pidx)?;
     }
