@@ -24,7 +24,7 @@ impl<T: Copy> Model for Lists<T> {
 }
 
 impl<T: Copy> Lists<T> {
-    /// No lists, with room for this many of one item each.
+    /// No lists, with room for this many of three items each.
     ///
     /// # Errors
     ///
@@ -33,7 +33,7 @@ impl<T: Copy> Lists<T> {
         ensures { IfOk result (λ x. x ≡ []) }
     {
         Ok(Lists {
-            items: Vec::with_capacity(alloc, lists)?,
+            items: Vec::with_capacity(alloc, lists.saturating_mul(3))?,
             ends: Vec::with_capacity(alloc, lists)?,
         })
     }
