@@ -7,7 +7,7 @@ use vectors_rows::page::Page;
 /// Writes each of a text's errors and warnings as a person reads it.
 pub(crate) fn print(out: &mut Page, text: &str, parsed: &ASTWithValidityInfo) {
     write_all(out, text, parsed.errors());
-    match parsed.warnings(out.alloc) {
+    match parsed.ast().warnings(out.alloc) {
         Ok(warnings) => write_all(out, text, &warnings),
         Err(_) => out.tear(),
     }
