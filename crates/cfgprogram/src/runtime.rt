@@ -10,6 +10,9 @@ use std::rt::{Clock, Files};
 use std::thread;
 use std::time::Duration;
 
+/// How far away the end of a file is, at most, if room is made for it. That of a folder may be 2^63 bytes away.
+const MOST_ROOM: u64 = 1 << 40;
+
 /// How many bytes a pipe takes together, or none of them: POSIX promises so many.
 const TOGETHER: usize = 512;
 
@@ -65,14 +68,15 @@ impl<R: Files + Input + AllocGlobal> SourceWithReasons for SystemFiles<'_, R> {
     }
 }
 
-/// The bytes of the file with this name. Room for all that the system says it has is made first, if there is memory.
+/// The bytes of the file with this name. Room for as many as its end is away is made first.
 fn file_bytes<R: Files + AllocGlobal>(rt: &R, name: &str) -> io::Result<Vec<u8>> {
     let mut file = OpenOptions::new().read(true).open(rt, name)?;
     let mut bytes = Vec::new(rt.alloc());
     if let Ok(length) = file.seek(SeekFrom::End(0)) {
         file.rewind()?;
-        let length = usize::try_from(length).unwrap_or(0);
-        let _has_room = bytes.reserve_exact(length.saturating_add(1));
+        if length < MOST_ROOM {
+            bytes.reserve_exact(length as usize + 1)?;
+        }
     }
     file.read_to_end(&mut bytes)?;
     Ok(bytes)
