@@ -14,25 +14,6 @@ place_more name symbols i symbol within is =
     ap (λ l. place_of name (map symbol_view l)) (drop_more symbols i symbol within)
     ∙ ap (λ s. place_of name (symbol_view s ∷ map symbol_view (drop (i + 1) symbols))) (sym is)
 
-module _ (name : List ℕ) (productions : List Production) (i : ℕ) (production : Production) (within : i < length productions) (is : production ≡ get_or productions i production)
-    (place : ℕ) (found : place ≡ place_of name (map symbol_view production.symbols.items)) where
-  abbrev from : ℕ → ℕ
-  from index = count_before name (map production_view (drop index productions))
-
-  more : from i ≡ cond (nat_lt place (length (map symbol_view production.symbols.items))) place (from (i + 1))
-  unfolding count_before
-  more =
-      ap (λ l. count_before name (map production_view l)) (drop_more productions i production within)
-      ∙ ap (λ p. count_before name (production_view p ∷ map production_view (drop (i + 1) productions))) (sym is)
-      ∙ ap (λ n. cond (nat_lt n (length (map symbol_view production.symbols.items))) n (from (i + 1))) (sym found)
-
-  pub count_here : place < length production.symbols.items → from i ≡ place
-  count_here there = more ∙ ap (λ b. cond b place (from (i + 1))) (lt-ltb place _ (subst (λ n. place < n) (sym (length-map production.symbols.items symbol_view)) there))
-
-  pub count_past : (place < length production.symbols.items → ⊥) → from i ≡ from (i + 1)
-  count_past past = more ∙ ap (λ b. cond b place (from (i + 1)))
-      (le-ltb place _ (omega (arith, past, length-map production.symbols.items symbol_view)))
-
 module _ (code : List ℕ) where
   pub place_after : (i : ℕ) → i < length code → place_at code (i + 1) ≡ after (place_at code i) (get_or code i 0)
   place_after i within = fold_more after _ code i 0 within

@@ -107,11 +107,12 @@ impl ImplicitlyEmpty<'_> {
 fn is_said(text: &str, productions: &[Production]) -> bool
     ensures { result ≡ list_any (says_empty text.now) (map production_view productions.now) }
 {
-    let mut is_said = false;
     for production in productions {
-        is_said |= says_empty(text, production);
+        if says_empty(text, production) {
+            return true;
+        }
     }
-    is_said
+    false
 }
 
 /// Whether a production has no symbols, and its text begins with `%empty`.
@@ -135,12 +136,8 @@ fn is_of_action(ast: &GrammarAST, number: usize) -> bool
 pub(crate) fn rule_name_at(ast: &GrammarAST, number: usize) -> Option<&str>
     ensures { option_map (λ name. name.now) result ≡ rule_name_at (syntax ast.now) number }
 {
-    let Some(rule) = ast.prods_rules().get(number) else {
-        return None;
-    };
-    let Some((name, _)) = ast.rules().get_index(*rule) else {
-        return None;
-    };
+    let rule = ast.prods_rules().get(number)?;
+    let (name, _) = ast.rules().get_index(*rule)?;
     Some(name.as_str())
 }
 
@@ -155,10 +152,11 @@ pub(crate) fn is_action_name(name: &str) -> bool
 fn is_implicitly_empty(text: &str, production: &Production) -> bool
     ensures { result ≡ is_implicitly_empty text.now (production_view production.now) }
 {
+    if !production.symbols.is_empty() {
+        return false;
+    }
     let start = production.prod_span.start();
-    production.symbols.is_empty()
-        && !begins_at(text, start, "%empty")
-        && !begins_at(text, start, "%prec")
+    !begins_at(text, start, "%empty") && !begins_at(text, start, "%prec")
 }
 
 /// Whether the text goes on with the word at this offset.

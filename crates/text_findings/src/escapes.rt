@@ -64,6 +64,6 @@ fn is_escape(name: &str) -> bool
 {
     match name.as_bytes() {
         [first, _, ..] => *first == b'\\',
-        _ => false,
+        [_] | [] => false,
     }
 }

@@ -120,10 +120,7 @@ impl Finding {
     pub fn hint(&self) -> Option<&str>
         ensures { option_map (λ hint. hint.now) result ≡ self.now.hint }
     {
-        match &self.hint {
-            Some(hint) => Some(hint.as_str()),
-            None => None,
-        }
+        self.hint.as_deref()
     }
 }
 

@@ -4,7 +4,7 @@ ghost use Rattle.std.specs.Prelude.{◌≡◌, ◌==◌, ◌++◌, length, optio
 ghost use Rattle.std.specs.List.{ends_with};
 ghost use Rattle.cfgrammar.specs.TreeView.{syntax};
 ghost use Rattle.text_findings.specs.Reports.{ReportsBelow};
-ghost use Rattle.text_findings.specs.Glued.{ReportsGlued, glued, has_quote, keyword_at_end, keyword_before};
+ghost use Rattle.text_findings.specs.Glued.{ReportsGlued, glued, has_quote, is_quote, keyword_at_end, keyword_before};
 ghost use Rattle.text_findings.specs.Finding.{ShownFinding};
 ghost use Rattle.text_findings.specs.declared.words.Words.TheVariants.{Precedences, RepeatedTokens, Tokens};
 
@@ -96,9 +96,16 @@ fn has_quote(text: &str, offset: usize) -> bool
     ensures { result ≡ has_quote text.now offset }
 {
     match text.as_bytes().get(offset) {
-        Some(byte) => *byte == b'"' || *byte == b'\'',
+        Some(byte) => is_quote(*byte),
         None => false,
     }
+}
+
+/// Whether a byte is a quote.
+fn is_quote(byte: u8) -> bool
+    ensures { result ≡ is_quote byte }
+{
+    byte == b'"' || byte == b'\''
 }
 
 /// The keyword that ends at this offset of the text, if one does.

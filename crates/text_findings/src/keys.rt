@@ -1,9 +1,11 @@
 //! Keys of a file's section that nothing which reads grammars looks for.
 
 ghost use Rattle.std.specs.Prelude.{◌≡◌, ◌++◌, length, map, option_map, slice_get, string_bytes, IfOk, OnOk};
+ghost use Rattle.std.specs.List.{list_any};
+ghost use Rattle.std.specs.Str.{bytes_eq};
 ghost use Rattle.cfgrammar.specs.SectionReads.{entry_view};
 ghost use Rattle.cfgnear.specs.Nearest.{nearest};
-ghost use Rattle.text_findings.specs.Keys.{ReportsUnknownKey, entries_of, is_known, key_note, known_keys};
+ghost use Rattle.text_findings.specs.Keys.{ReportsUnknownKey, entries_of, key_note, known_keys};
 ghost use Rattle.text_findings.specs.Keys.{unknown, unknown_key};
 ghost use Rattle.text_findings.specs.Reports.{ReportsBelow};
 
@@ -73,7 +75,7 @@ fn entries_of(alloc: Global, text: &str) -> Result<Vec<Entry>, AllocError>
 fn unknown(alloc: Global, entry: &Entry) -> Result<Option<Finding>, AllocError>
     ensures { IfOk result (λ found. found ≡ unknown (entry_view entry.now)) }
 {
-    if is_known(&entry.key) {
+    if is_among(&KNOWN_KEYS, &entry.key) {
         return Ok(None);
     }
     Ok(Some(unknown_key(alloc, &entry.key, entry.key_span)?))
@@ -89,11 +91,11 @@ fn unknown_key(alloc: Global, key: &str, span: Span) -> Result<Finding, AllocErr
     Ok(finding.with_hint(Some(hint)))
 }
 
-/// Whether a program that reads grammars may look for the key.
-fn is_known(key: &str) -> bool
-    ensures { result ≡ is_known key.now }
+/// Whether a word is one of these names.
+fn is_among(names: &[&str], word: &str) -> bool
+    ensures { result ≡ list_any (bytes_eq word.now) (map (λ name. name.now) names.now) }
 {
-    KNOWN_KEYS.contains(&key)
+    names.contains(&word)
 }
 
 /// The note on a key that nothing looks for: the nearest one of those that something does, or all of them.

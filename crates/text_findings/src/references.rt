@@ -94,6 +94,7 @@ fn symbols_before(ast: &GrammarAST, number: usize, production: &Production) -> u
 }
 
 /// How many symbols precede the rule with this name in the first of the productions that has it.
+#[tactic(auto, unfolding(crate::specs::References::count_before))]
 pub(crate) fn count_before(name: &str, productions: &[Production]) -> usize
     ensures { result ≡ count_before name.now (map production_view productions.now) }
 {

@@ -51,9 +51,7 @@ fn rule_at(ast: &GrammarAST, number: usize) -> Option<(&str, &Rule)>
     ensures { option_map (λ rule. (rule.0.now, rule_view rule.1.now)) result
         ≡ slice_get (syntax ast.now).rules number }
 {
-    let Some((name, rule)) = ast.rules().get_index(number) else {
-        return None;
-    };
+    let (name, rule) = ast.rules().get_index(number)?;
     Some((name.as_str(), rule))
 }
 

@@ -62,11 +62,12 @@ impl Reporter for UnreadValues<'_> {
 fn is_inheriting(productions: &[Production]) -> bool
     ensures { result ≡ list_any inherits (map production_view productions.now) }
 {
-    let mut is_inheriting = false;
     for production in productions {
-        is_inheriting |= action_refers(Value::Inherited, production);
+        if action_refers(Value::Inherited, production) {
+            return true;
+        }
     }
-    is_inheriting
+    false
 }
 
 /// The finding about the production with this number.

@@ -37,12 +37,8 @@ pub fn token_at(ast: &GrammarAST, number: usize) -> Option<(&str, Span)>
     ensures { option_map (λ word. record { name = word.0.now; span = word.1 }) result
         ≡ token_at (syntax ast.now) number }
 {
-    let Some(name) = ast.tokens().get_index(number) else {
-        return None;
-    };
-    let Some(span) = ast.spans().get(number) else {
-        return None;
-    };
+    let name = ast.tokens().get_index(number)?;
+    let span = ast.spans().get(number)?;
     Some((name.as_str(), *span))
 }
 
@@ -51,9 +47,7 @@ fn precedence_at(ast: &GrammarAST, number: usize) -> Option<(&str, Span)>
     ensures { option_map (λ word. record { name = word.0.now; span = word.1 }) result
         ≡ precedence_at (syntax ast.now) number }
 {
-    let Some((name, (_, span))) = ast.precs().get_index(number) else {
-        return None;
-    };
+    let (name, (_, span)) = ast.precs().get_index(number)?;
     Some((name.as_str(), *span))
 }
 
@@ -62,8 +56,6 @@ fn repeated_token_at(ast: &GrammarAST, number: usize) -> Option<(&str, Span)>
     ensures { option_map (λ word. record { name = word.0.now; span = word.1 }) result
         ≡ slice_get (syntax ast.now).repeated_tokens number }
 {
-    let Some((name, span)) = ast.repeated_tokens().get(number) else {
-        return None;
-    };
+    let (name, span) = ast.repeated_tokens().get(number)?;
     Some((name.as_str(), *span))
 }

@@ -1,14 +1,11 @@
-use Rattle.std.proofs.Common.{◌≡◌, ◌++◌, List, ap, refl, ◌∙◌, append_assoc}
+use Rattle.std.proofs.Common.{◌≡◌, ◌++◌, List, refl, append_assoc}
 use Rattle.std.proofs.lemmas.Result.{on_ok_weaker}
 use Rattle.text_findings.specs.Finding.{ShownFinding}
 use Rattle.text_findings.proofs.file.push_file_findings.Goals as goal
 
-joined : (a0 a1 a2 a3 a4 a5 a6 p e s k r d : List ShownFinding) → a1 ≡ a0 ++ p → a2 ≡ a1 ++ e → a3 ≡ a2 ++ s → a4 ≡ a3 ++ k → a5 ≡ a4 ++ r
+joined : (a0 p e s k r d : List ShownFinding) {a1 a2 a3 a4 a5 a6 : List ShownFinding} → a1 ≡ a0 ++ p → a2 ≡ a1 ++ e → a3 ≡ a2 ++ s → a4 ≡ a3 ++ k → a5 ≡ a4 ++ r
     → a6 ≡ a5 ++ d → a6 ≡ a0 ++ (p ++ (e ++ (s ++ (k ++ (r ++ d)))))
-joined a0 a1 a2 a3 a4 a5 a6 p e s k r d e1 e2 e3 e4 e5 e6 =
-    let all : a6 ≡ (((((a0 ++ p) ++ e) ++ s) ++ k) ++ r) ++ d =
-    e6 ∙ ap (λ z. z ++ d) (e5 ∙ ap (λ z. z ++ r) (e4 ∙ ap (λ z. z ++ k) (e3 ∙ ap (λ z. z ++ s) (e2 ∙ ap (λ z. z ++ e) e1)))) in
-    all ∙ simp append_assoc
+joined a0 p e s k r d e1 e2 e3 e4 e5 e6 = simp (e6, e5, e4, e3, e2, e1, append_assoc)
 
 pub returns : goal.returns
 returns c =
@@ -35,8 +32,6 @@ returns c =
         are_values = h.1;
         is = refl;
       },
-      joined c.args.all.now.items c.push_undefined_precedences.new.all.items c.push_missing_empty.new.all.items c.push_swallowed.new.all.items
-          c.push_unknown_keys.new.all.items c.push_unknown_references.new.all.items c.push_unread_values.new.all.items precedences empty
-          swallowed keys references h.0 precedences_is empty_is swallowed_is keys_is references_is h.2,
+      joined c.args.all.now.items precedences empty swallowed keys references h.0 precedences_is empty_is swallowed_is keys_is references_is h.2,
     ))
     c.push_unread_values.ensures
