@@ -1,12 +1,10 @@
 -- Steps of the loops over references, and over the symbols before them.
-use Rattle.std.proofs.Common.{◌≡◌, ℕ, ◌+◌, ◌<◌, ◌≤◌, cond, not, nat_lt, List, ◌∷◌, map, drop, length, get_or, Some, sym, ap, subst, ◌∙◌, arith, below_more, lt-ltb}
-use Rattle.std.proofs.lemmas.Bool.{le-ltb}
-use Rattle.std.proofs.lemmas.List.{drop_more, length-map}
+use Rattle.std.proofs.Common.{◌≡◌, ℕ, ◌+◌, ◌<◌, ◌≤◌, cond, not, List, ◌∷◌, map, drop, length, get_or, Some, sym, ap, ◌∙◌, arith, below_more}
+use Rattle.std.proofs.lemmas.List.{drop_more}
 use Rattle.std.proofs.lemmas.List.Sums.{fold_more}
-use Rattle.cfgrammar.specs.SyntaxView.{production_view, symbol_view}
-use Rattle.cfgrammar.specs.AstProduction.{Production}
+use Rattle.cfgrammar.specs.SyntaxView.{symbol_view}
 use Rattle.cfgrammar.specs.AstSymbol.{Symbol}
-use Rattle.text_findings.specs.References.{IsBeyond, after, count_before, is_rule_named, place_at, place_of, reference_at}
+use Rattle.text_findings.specs.References.{IsBeyond, after, is_rule_named, place_at, place_of, reference_at}
 
 pub place_more : (name : List ℕ) (symbols : List Symbol) (i : ℕ) (symbol : Symbol) → i < length symbols → symbol ≡ get_or symbols i symbol
     → place_of name (map symbol_view (drop i symbols)) ≡ cond (not (is_rule_named name (symbol_view symbol))) (1 + place_of name (map symbol_view (drop (i + 1) symbols))) 0
