@@ -8,7 +8,7 @@ use Rattle.cfgrammar.specs.Grammar.{Sym, Rule, Token}
 use Rattle.lr_states.proofs.Spines.{slice_at}
 use Rattle.lr_conflicts.specs.Inner.Tables.{along, is_at, is_symbol}
 use Rattle.lr_conflicts.specs.Inner.Ways.{run}
-use Rattle.lr_conflicts.proofs.Runs.{none_some}
+use Rattle.lr_conflicts.proofs.Runs.{none_some, run_first}
 
 pub symbols_same : (a b : Sym) → is_symbol a b ≡ true → a ≡ b
 symbols_same (Rule a) (Rule b) h = ap Rule ((Decides-eqb a b).0 h)
@@ -34,16 +34,12 @@ step_over list q r x e = go (slice_get list q) refl e
 
 run_over : (list : List Sym) (q r : ℕ) (symbols : List Sym) → run (along list) q symbols ≡ Some r → take q list ++ symbols ≡ take r list
 run_over list q r [] e = let same : q ≡ r = cc in append-nil (take q list) ∙ ap (λ n. take n list) same
-run_over list q r (x ∷ symbols) e = go (λ m. run_over list m r symbols) (along list q x) refl e
-  where
-    go : ((m : ℕ) → run (along list) m symbols ≡ Some r → take m list ++ symbols ≡ take r list) → (o : Option ℕ) → along list q x ≡ o
-        → option_and_then (λ m. run (along list) m symbols) o ≡ Some r → take q list ++ x ∷ symbols ≡ take r list
-    go more None is e = none_some e
-    go more (Some m) is e =
-        let (at, next) = step_over list q m x is in
-        let within : q < length list = slice_get_within list q x at in
-        let front : take (q + 1) list ≡ take q list ++ x ∷ [] = take_more list q x within ∙ ap (λ y. take q list ++ y ∷ []) (get_or_from_slice_get list q x x at) in
-        sym (append_assoc (take q list) (x ∷ []) symbols) ∙ ap (λ l. l ++ symbols) (sym front ∙ ap (λ n. take n list) next) ∙ more m e
+run_over list q r (x ∷ symbols) e =
+    let (m, is, rest) = run_first (along list) q r x symbols e in
+    let (at, next) = step_over list q m x is in
+    let within : q < length list = slice_get_within list q x at in
+    let front : take (q + 1) list ≡ take q list ++ x ∷ [] = take_more list q x within ∙ ap (λ y. take q list ++ y ∷ []) (get_or_from_slice_get list q x x at) in
+    sym (append_assoc (take q list) (x ∷ []) symbols) ∙ ap (λ l. l ++ symbols) (sym front ∙ ap (λ n. take n list) next) ∙ run_over list m r symbols rest
 
 pub run_whole : (list symbols : List Sym) → run (along list) 0 symbols ≡ Some (length list) → symbols ≡ list
 run_whole list symbols e = run_over list 0 (length list) symbols e ∙ take_all (length list) list (omega arith)

@@ -20,7 +20,7 @@ use Rattle.lr_conflicts.specs.declared.examples.Side.{Side}
 use Rattle.lr_conflicts.specs.declared.examples.finder.Finder.{Finder}
 use Rattle.lr_conflicts.specs.Examples.{BeginsAt, IsExample, IsStartApart, Shows, prefix_of, rest_of}
 use Rattle.lr_conflicts.specs.Inner.Clashing.{IsKnown}
-use Rattle.lr_conflicts.specs.Inner.Finders.{FindsEither, FindsOnPrefix, FindsOnStates, FindsOther}
+use Rattle.lr_conflicts.specs.Inner.Finders.{FindsEither, FindsOnPrefix, FindsOnStates, FindsOther, setting_by}
 use Rattle.lr_conflicts.specs.Inner.Tables.{along}
 use Rattle.lr_conflicts.specs.Inner.Ways.{IsReached, item_node, run}
 use Rattle.lr_conflicts.proofs.Along.{run_whole, runs_whole}
@@ -79,16 +79,16 @@ module _ (f : Finder) (whole : IsWhole f.grammar.now) (known : IsKnown f.grammar
 
   -- nodes that are reached
   states_reached : (item : Item) → IsLookahead g Used items item t
-      → IsReached g Used (step g whole.grammar Used f.states.now known.states known.gotos) t (item_node f.conflict.now.state item true)
+      → IsReached (setting_by f (step g whole.grammar Used f.states.now known.states known.gotos)) (item_node f.conflict.now.state item true)
   states_reached item l =
-      followed_reached g Used (step g whole.grammar Used f.states.now known.states known.gotos) t l.before l.after item l.spine l.used l.read f.conflict.now.state
+      followed_reached (setting_by f (step g whole.grammar Used f.states.now known.states known.gotos)) l.before l.after item l.spine l.used l.read f.conflict.now.state
       (subst (λ p. run (step g whole.grammar Used f.states.now known.states known.gotos) 0 p ≡ Some f.conflict.now.state) l.is
       (state_leads g whole.grammar Used f.states.now known.states known.gotos l.prefix f.conflict.now.state known.is.entered.within
       (record { item = item; is = record { before = l.before; after = l.after; spine = l.spine; used = l.used; read = l.read; is = l.is } }) l.state)) l.comes
 
-  prefix_reached : (list : List Sym) (q : ℕ) (item : Item) → length list ≡ q → IsValid g Used list item → IsReached g Used (along list) t (item_node q item false)
+  prefix_reached : (list : List Sym) (q : ℕ) (item : Item) → length list ≡ q → IsValid g Used list item → IsReached (setting_by f (along list)) (item_node q item false)
   prefix_reached list q item long v =
-      item_reached g Used (along list) t v.before v.after item v.spine v.used v.read q (subst (λ p. run (along list) 0 p ≡ Some q) v.is (runs_whole list ∙ ap Some long))
+      item_reached (setting_by f (along list)) v.before v.after item v.spine v.used v.read q (subst (λ p. run (along list) 0 p ≡ Some q) v.is (runs_whole list ∙ ap Some long))
 
   pub none_reduced : FindsOnStates f (read_item f.grammar.now clash.production) None → ⊥
   none_reduced none = none (states_reached (read_item f.grammar.now clash.production) production_there)

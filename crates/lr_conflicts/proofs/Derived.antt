@@ -19,19 +19,20 @@ module _ (g : Grammar) (Used : ℕ → Type 0) where
 
   -- whatever is true of the symbols of productions stays true of all symbols
   module _ (Is : Sym → Type 0) (mine : (p : ℕ) (s : Sym) → Contains (nth_production g p).symbols s → Is s) where
-    step_keeps : {a b : List Sym} → Step P a b → ((s : Sym) → Contains a s → Is s) → (s : Sym) → Contains b s → Is s
-    step_keeps w all s h = elim (Contains-append_cases w.before (w.symbols ++ w.after) s (subst (λ l. Contains l s) w.target h)) [
-      | inl before ↦ all s (subst (λ l. Contains l s) (sym w.source) (Contains-append_left w.before (Rule w.rule ∷ w.after) s before))
+    step_keeps : {a b : List Sym} (w : Step P a b) → ((s : Sym) → Contains w.before s → Is s) → ((s : Sym) → Contains w.after s → Is s) → (s : Sym) → Contains b s → Is s
+    step_keeps w left right s h = elim (Contains-append_cases w.before (w.symbols ++ w.after) s (subst (λ l. Contains l s) w.target h)) [
+      | inl before ↦ left s before
       | inr later ↦ elim (Contains-append_cases w.symbols w.after s later) [
         | inl new ↦ mine w.has.index s (subst (λ l. Contains l s) (sym w.has.is) new)
-        | inr after ↦ all s (subst (λ l. Contains l s) (sym w.source)
-            (Contains-append_right w.before (Rule w.rule ∷ w.after) s (contains_later (Rule w.rule) s w.after after)))
+        | inr after ↦ right s after
       ]
     ]
 
     derived_keeps : {a b : List Sym} → Derives P a b → ((s : Sym) → Contains a s → Is s) → (s : Sym) → Contains b s → Is s
     derived_keeps none all = all
-    derived_keeps (next w d) all = derived_keeps d (step_keeps w all)
+    derived_keeps (next w d) all = derived_keeps d (step_keeps w
+        (λ s h. all s (subst (λ l. Contains l s) (sym w.source) (Contains-append_left w.before (Rule w.rule ∷ w.after) s h)))
+        (λ s h. all s (subst (λ l. Contains l s) (sym w.source) (Contains-append_right w.before (Rule w.rule ∷ w.after) s (contains_later (Rule w.rule) s w.after h)))))
 
   module _ (grammar : IsGrammar g) where
     production_symbols : (p : ℕ) (s : Sym) → Contains (nth_production g p).symbols s → IsSymbolOf g s
@@ -73,11 +74,5 @@ module _ (g : Grammar) (Used : ℕ → Type 0) where
           let Not : Sym → Type 0 = λ s. s ≡ Rule 0 → ⊥ in
           let mine : (p : ℕ) (s : Sym) → Contains (nth_production g p).symbols s → Not s = λ p s h same. apart p (subst (Contains (nth_production g p).symbols) same h) in
           absurd (derived_keeps Not mine d
-          (λ s h. elim (Contains-append_cases w.before (w.symbols ++ w.after) s (subst (λ l. Contains l s) w.target h)) [
-            | inl before' ↦ absurd (contains_none s (subst (λ l. Contains l s) left before'))
-            | inr later ↦ elim (Contains-append_cases w.symbols w.after s later) [
-              | inl new ↦ mine w.has.index s (subst (λ l. Contains l s) (sym w.has.is) new)
-              | inr after' ↦ absurd (contains_none s (subst (λ l. Contains l s) right after'))
-            ]
-          ])
+          (step_keeps Not mine w (λ s h. absurd (contains_none s (subst (λ l. Contains l s) left h))) (λ s h. absurd (contains_none s (subst (λ l. Contains l s) right h))))
           (Rule 0) (subst (λ l. Contains l (Rule 0)) (sym is) (Contains-append_right before (Rule 0 ∷ after) (Rule 0) (contains_first (Rule 0) after))) refl)

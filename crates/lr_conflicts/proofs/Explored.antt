@@ -8,19 +8,19 @@ use Rattle.search.proofs.PathGroups.{contains_there, slice_get_cases, slice_get_
 use Rattle.cfgrammar.specs.Grammar.{Grammar, Sym}
 use Rattle.lr_conflicts.specs.declared.examples.nodes.Node.{Node}
 use Rattle.lr_conflicts.specs.declared.examples.nodes.Step.{Step}
-use Rattle.lr_conflicts.specs.Inner.Ways.{AreSteps, Begins, Finds, HasNode, IsFoundBefore, IsReached, IsSearched, Leads}
+use Rattle.lr_conflicts.specs.Inner.Ways.{AreSteps, Begins, Finds, HasNode, IsFoundBefore, IsReached, IsSearched, Leads, Setting}
 use Rattle.lr_conflicts.proofs.Found.{kept}
 use Rattle.lr_conflicts.proofs.Runs.{none_some}
 
-module _ (g : Grammar) (Used : ℕ → Type 0) (step : ℕ → Sym → Option ℕ) (t : ℕ) where
+module _ (S : Setting) where
   -- what the first nodes lead to is there
   pub record IsPartly (i : ℕ) (es : List (Node × Step)) : Type 0 where
-    pub steps : AreSteps g Used step t es
-    pub begun : (n : Node) → Begins g Used step t n → HasNode es n
-    pub led : (k : ℕ) → k < i → (e : Node × Step) → slice_get es k ≡ Some e → (m : Node) → Leads g Used step t e.0 m → HasNode es m
+    pub steps : AreSteps S es
+    pub begun : (n : Node) → Begins S n → HasNode es n
+    pub led : (k : ℕ) → k < i → (e : Node × Step) → slice_get es k ≡ Some e → (m : Node) → Leads S e.0 m → HasNode es m
 
   -- the steps of a way that begins
-  pub partly_first : (es : List (Node × Step)) → Finds g Used step t None (Begins g Used step t) [] es → IsPartly 0 es
+  pub partly_first : (es : List (Node × Step)) → Finds S None (Begins S) [] es → IsPartly 0 es
   partly_first es w = record {
     steps = record {
       shown = λ n s h. w.shown n s (subst (λ l. Contains l (n, s)) w.is h);
@@ -40,8 +40,8 @@ module _ (g : Grammar) (Used : ℕ → Type 0) (step : ℕ → Sym → Option �
   }
 
   -- steps from a node that was found
-  steps_more : (i : ℕ) (old new : List (Node × Step)) (e : Node × Step) {F : Node → Type 0} → AreSteps g Used step t old → slice_get old i ≡ Some e
-      → Finds g Used step t (Some e.0) F old new → AreSteps g Used step t new
+  steps_more : (i : ℕ) (old new : List (Node × Step)) (e : Node × Step) {F : Node → Type 0} → AreSteps S old → slice_get old i ≡ Some e
+      → Finds S (Some e.0) F old new → AreSteps S new
   steps_more i old new e p at w = record {
     shown = λ n s h. elim (Contains-append_cases old w.more (n, s) (subst (λ l. Contains l (n, s)) w.is h)) [
       | inl before ↦ p.shown n s before
@@ -57,17 +57,17 @@ module _ (g : Grammar) (Used : ℕ → Type 0) (step : ℕ → Sym → Option �
   }
 
   pub partly_more : (i : ℕ) (old new : List (Node × Step)) (e : Node × Step) → IsPartly i old → slice_get old i ≡ Some e
-      → Finds g Used step t (Some e.0) (Leads g Used step t e.0) old new → IsPartly (i + 1) new
+      → Finds S (Some e.0) (Leads S e.0) old new → IsPartly (i + 1) new
   partly_more i old new e p at w = record {
     steps = steps_more i old new e p.steps at w;
-    begun = λ n h. kept g Used step t w n (p.begun n h);
+    begun = λ n h. kept S w n (p.begun n h);
     led = λ k low other there m leads. elim (slice_get_cases old w.more k other (subst (λ l. slice_get l k ≡ Some other) w.is there)) [
       | inl before ↦ elim (cases_lt k i) [
-        | inl earlier ↦ kept g Used step t w m (p.led k earlier other before m leads)
+        | inl earlier ↦ kept S w m (p.led k earlier other before m leads)
         | inr late ↦
             let here : k ≡ i = omega (arith, low, late) in
             let same : e ≡ other = let read = sym at ∙ ap (slice_get old) (sym here) ∙ before in cc in
-            w.found m (subst (λ (x : Node × Step). Leads g Used step t x.0 m) (sym same) leads)
+            w.found m (subst (λ (x : Node × Step). Leads S x.0 m) (sym same) leads)
       ]
       | inr after ↦ let within = slice_get_within old i e at in let past = after.0 in absurd (omega (arith, within, past, low))
     ];
@@ -75,14 +75,14 @@ module _ (g : Grammar) (Used : ℕ → Type 0) (step : ℕ → Sym → Option �
 
   module _ (node : Node) (i : ℕ) (es : List (Node × Step)) (p : IsPartly i es) where
     -- a node that was found
-    pub searched_known : HasNode es node → IsSearched g Used step t node es
+    pub searched_known : HasNode es node → IsSearched S node es
     searched_known there = record { steps = p.steps; has = λ h. there }
 
     -- all that the first nodes led to was gone through
-    pub searched_all : length es ≤ i → IsSearched g Used step t node es
+    pub searched_all : length es ≤ i → IsSearched S node es
     searched_all most = record { steps = p.steps; has = all node }
       where
-        all : (n : Node) → IsReached g Used step t n → HasNode es n
+        all : (n : Node) → IsReached S n → HasNode es n
         all n (seed h) = p.begun n h
         all n (led {a = m} h leads) =
             let (s, (k, within, is)) = all m h in

@@ -9,7 +9,7 @@ use Rattle.lr_states.specs.Viable.{AreStates, IsStateOf, IsViable, item_at}
 use Rattle.lr_states.proofs.Closed.{next_symbol}
 use Rattle.lr_states.proofs.Spines.{viable_prefix, viable_read}
 use Rattle.lr_conflicts.specs.Inner.Ways.{run}
-use Rattle.lr_conflicts.proofs.Runs.{none_some}
+use Rattle.lr_conflicts.proofs.Runs.{run_first}
 
 module _ (g : Grammar) (grammar : IsGrammar g) (Used : ℕ → Type 0) (x : Automaton) (are : AreStates g Used x.states) (gotos : AreGotos g Used x) where
   abbrev state_at : ℕ → List Item
@@ -34,12 +34,10 @@ module _ (g : Grammar) (grammar : IsGrammar g) (Used : ℕ → Type 0) (x : Auto
   led prefix [] q r at all e =
       let same : q ≡ r = cc in
       subst (IsAt (prefix ++ [])) same (subst (λ l. IsAt l q) (sym (append-nil prefix)) at)
-  led prefix (s ∷ symbols) q r at all e = go (λ m there. led (prefix ++ s ∷ []) symbols m r there (λ y h. all y (contains_later s y symbols h))) (step q s) refl e
-    where
-      go : ((m : ℕ) → IsAt (prefix ++ s ∷ []) m → run step m symbols ≡ Some r → IsAt ((prefix ++ s ∷ []) ++ symbols) r) → (o : Option ℕ) → step q s ≡ o
-          → option_and_then (λ m. run step m symbols) o ≡ Some r → IsAt (prefix ++ s ∷ symbols) r
-      go more None is e = none_some e
-      go more (Some m) is e = subst (λ l. IsAt l r) (append_assoc prefix (s ∷ []) symbols) (more m (one_led prefix s q m at (all s (contains_first s symbols)) is) e)
+  led prefix (s ∷ symbols) q r at all e =
+      let (m, is, rest) = run_first step q r s symbols e in
+      subst (λ l. IsAt l r) (append_assoc prefix (s ∷ []) symbols)
+      (led (prefix ++ s ∷ []) symbols m r (one_led prefix s q m at (all s (contains_first s symbols)) is) (λ y h. all y (contains_later s y symbols h)) rest)
 
   -- states of one prefix are the same
   state_same : (prefix : List Sym) (q r : ℕ) → IsAt prefix q → IsAt prefix r → q ≡ r

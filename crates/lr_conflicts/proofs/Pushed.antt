@@ -10,11 +10,11 @@ use Rattle.cfgrammar.specs.Numbered.{Numbered}
 use Rattle.cfgrammar.proofs.Taken.{contains_taken}
 use Rattle.lr_states.specs.Automaton.{Automaton}
 use Rattle.lr_states.specs.declared.Item.{Item}
-use Rattle.lr_conflicts.specs.Clashes.{IsIn, ShiftsBy, accepts, next, reduce, shift}
+use Rattle.lr_conflicts.specs.Clashes.{IsIn, ShiftsBy, reduce, shift}
 use Rattle.lr_conflicts.specs.Conflicts.{items_of, read_item}
 use Rattle.lr_conflicts.specs.Tables.{IsShiftedBy}
-use Rattle.lr_conflicts.specs.Tables as tables
 use Rattle.lr_conflicts.specs.Inner.Pushed.{AddsClashes, IsAgainst, IsInOne, IsReductionIn, IsShiftIn, clash_of}
+use Rattle.lr_conflicts.proofs.InConflicts.{shifted_by, shifts_by}
 use Rattle.lr_conflicts.specs.declared.Conflict.{Conflict}
 use Rattle.lr_conflicts.specs.declared.clashes.Clash.{Clash}
 use Rattle.lr_conflicts.specs.declared.clashes.Entry.{Entry}
@@ -116,19 +116,11 @@ module _ (g : Numbered) (conflict : Conflict) where
       adds
 
 module _ (g : Numbered) (x : Automaton) (conflict : Conflict) where
-  shifts_by : (item : Item) → Contains (items_of x conflict.state) item → IsShiftedBy g item conflict.token → ShiftsBy g x conflict item
-  shifts_by item among (tables.next at) = next among at
-  shifts_by item among (tables.accepts read end) = accepts (subst (Contains (items_of x conflict.state)) read among) end read
-
-  by_shifts : (item : Item) → ShiftsBy g x conflict item → Contains (items_of x conflict.state) item × IsShiftedBy g item conflict.token
-  by_shifts item (next among at) = (among, tables.next at)
-  by_shifts item (accepts among end read) = (subst (Contains (items_of x conflict.state)) (sym read) among, tables.accepts read end)
-
   pub shifts_all : IsTrue conflict.shifts → (old new : List Entry) → AddsClashes (IsShiftOf g conflict (items_of x conflict.state)) old new
       → AddsClashes (IsShiftIn g x conflict) old new
   shifts_all shifts old new adds = adds_as (IsShiftIn g x conflict)
-      (λ clash s. inr (record { shift = shifts; item = s.item; by = shifts_by s.item s.among s.by; against = s.against }))
-      (λ clash s. let both = by_shifts s.item s.by in inr (record { item = s.item; among = both.0; by = both.1; against = s.against })) adds
+      (λ clash s. inr (record { shift = shifts; item = s.item; by = shifts_by g x conflict s.item s.among s.by; against = s.against }))
+      (λ clash s. let both = shifted_by g x conflict s.item s.by in inr (record { item = s.item; among = both.0; by = both.1; against = s.against })) adds
 
   in_both : (clash : Clash) → IsIn g x conflict clash → IsShiftIn g x conflict clash ⊎ IsReductionIn g conflict clash
   in_both clash (shift shifts token kind among by) =

@@ -1,8 +1,8 @@
 -- What is found by the symbols after a rule, one after the other.
-use Rattle.std.proofs.Common.{◌≡◌, inl, inr, ℕ, zero, suc, ◌+◌, ◌-◌, ◌<◌, ◌≤◌, List, [], ◌∷◌, ◌++◌, Option, None, Some, slice_get, drop, get_or, length, map, take, take-append-drop, refl, sym, ap, subst, ◌∙◌, arith}
+use Rattle.std.proofs.Common.{◌≡◌, inl, inr, ℕ, ◌+◌, ◌-◌, ◌<◌, ◌≤◌, List, [], ◌∷◌, ◌++◌, Option, None, Some, slice_get, drop, get_or, length, map, take, take-append-drop, sym, ap, subst, ◌∙◌, arith}
 use Rattle.std.proofs.lemmas.Bool.{cases_lt}
 use Rattle.std.specs.Prelude.{option_map}
-use Rattle.std.proofs.lemmas.List.{drop-map, drop_more, length-drop, length-map, take_all, take_more}
+use Rattle.std.proofs.lemmas.List.{drop-map, drop_more, length-drop, length-map, take-take, take_all, take_more}
 use Rattle.std.proofs.lemmas.Option.{get_or_from_slice_get, slice_get-get_or, slice_get-map, slice_get_past, slice_get_within}
 use Rattle.cfgrammar.specs.Grammar.{Grammar, Sym}
 use Rattle.cfgindex.specs.declared.idxnewtype.Symbol.{Symbol}
@@ -13,15 +13,8 @@ use Rattle.derivation.proofs.UnitPaths.{empty_in_parts}
 use Rattle.lr_states.specs.Lookaheads.{HasUsed}
 use Rattle.lr_conflicts.specs.declared.examples.nodes.Node.{Node}
 use Rattle.lr_conflicts.specs.declared.examples.nodes.Step.{Step}
-use Rattle.lr_conflicts.specs.Inner.Ways.{ByNext, ByShown, Finds}
+use Rattle.lr_conflicts.specs.Inner.Ways.{ByNext, ByShown, Finds, Setting}
 use Rattle.lr_conflicts.proofs.Found.{finds_as, finds_none, finds_then}
-
--- the first symbols of the first ones
-take_within : (i j : ℕ) (list : List Sym) → i ≤ j → take i (take j list) ≡ take i list
-take_within zero j list less = refl
-take_within (suc i) zero list less = absurd (omega (arith, less))
-take_within (suc i) (suc j) [] less = refl
-take_within (suc i) (suc j) (x ∷ list) less = λ k. x ∷ take_within i j list (omega (arith, less)) k
 
 abbrev pub f : Symbol ℕ → Sym
 f = sym_of (λ s. s)
@@ -42,29 +35,29 @@ tail_at i xs d x within is =
     drop_more (map f xs) i (f x) (omega (arith, long, within)) ∙ ap (λ y. y ∷ drop (i + 1) (map f xs)) (get_or_from_slice_get (map f xs) i (f x) (f x) (symbol_at i xs d x within is))
     ∙ ap (λ l. f x ∷ l) (sym (tail_of (i + 1) xs))
 
-module _ (g : Grammar) (Used : ℕ → Type 0) (step : ℕ → Sym → Option ℕ) (t : ℕ) (q rule : ℕ) (list : List Sym) where
+module _ (S : Setting) (q rule : ℕ) (list : List Sym) where
   abbrev P : ℕ → List Sym → Type 0
-  P = HasUsed g Used
+  P = HasUsed S.grammar S.Used
 
   abbrev All : Option Node → (Node → Type 0) → List (Node × Step) → List (Node × Step) → Type 0
-  All = Finds g Used step t
+  All = Finds S
 
   -- by one of the first symbols
   pub record Below (i : ℕ) (n : Node) : Type 0 where
     pub index : ℕ
     pub below : index < i
     pub nullable : Derives P (take index list) []
-    pub by : ByNext g Used step t q rule n (slice_get list index)
+    pub by : ByNext S q rule (slice_get list index) n
 
   abbrev At : ℕ → Node → Type 0
-  At i n = ByNext g Used step t q rule n (slice_get list i)
+  At i = ByNext S q rule (slice_get list i)
 
   pub below_none : {from : Option Node} (es : List (Node × Step)) → All from (Below 0) es es
-  below_none es = finds_none g Used step t (Below 0) es (λ n h. let low = h.below in omega (arith, low))
+  below_none es = finds_none S (Below 0) es (λ n h. let low = h.below in omega (arith, low))
 
   pub below_more : {from : Option Node} (i : ℕ) → Derives P (take i list) [] → (old mid new : List (Node × Step)) → All from (Below i) old mid → All from (At i) mid new
       → All from (Below (i + 1)) old new
-  below_more i nullable old mid new w v = finds_then g Used step t (Below i) (At i) (Below (i + 1)) old mid new
+  below_more i nullable old mid new w v = finds_then S (Below i) (At i) (Below (i + 1)) old mid new
       (λ n h. elim (cases_lt h.index i) [
         | inl before ↦ inl (record { index = h.index; below = before; nullable = h.nullable; by = h.by })
         | inr past ↦
@@ -74,14 +67,14 @@ module _ (g : Grammar) (Used : ℕ → Type 0) (step : ℕ → Sym → Option �
       ])
       w v
 
-  none_by : (n : Node) → ByNext g Used step t q rule n None → ⊥
+  none_by : (n : Node) → ByNext S q rule None n → ⊥
   none_by n h = h
 
-  pub below_all : {from : Option Node} (i : ℕ) → length list ≤ i → (old new : List (Node × Step)) → All from (Below i) old new → All from (ByShown g Used step t q rule list) old new
-  below_all i most old new w = finds_as g Used step t (Below i) (ByShown g Used step t q rule list) old new
+  pub below_all : {from : Option Node} (i : ℕ) → length list ≤ i → (old new : List (Node × Step)) → All from (Below i) old new → All from (ByShown S q rule list) old new
+  below_all i most old new w = finds_as S (Below i) (ByShown S q rule list) old new
       (λ n h. elim (cases_lt h.index (length list)) [
         | inl within ↦ record { index = h.index; below = omega (arith, within, most); nullable = h.nullable; by = h.by }
-        | inr past ↦ absurd (none_by n (subst (ByNext g Used step t q rule n) (slice_get_past list h.index past) h.by))
+        | inr past ↦ absurd (none_by n (subst (λ o. ByNext S q rule o n) (slice_get_past list h.index past) h.by))
       ])
       w
 
@@ -105,10 +98,10 @@ module _ (g : Grammar) (Used : ℕ → Type 0) (step : ℕ → Sym → Option �
 
       not_past : (index : ℕ) → i < index → Derives P (take index list) [] → ⊥
       not_past index past d = none_after (drop (i + 1) (take index list))
-          (subst (λ l. Derives P l []) (sym (ap (λ l. l ++ drop (i + 1) (take index list)) (sym (take_within (i + 1) index list (omega (arith, past)))) ∙ take-append-drop (i + 1) (take index list))) d)
+          (subst (λ l. Derives P l []) (sym (ap (λ l. l ++ drop (i + 1) (take index list)) (sym (take-take (i + 1) index list (omega (arith, past)))) ∙ take-append-drop (i + 1) (take index list))) d)
 
-      pub below_stop : {from : Option Node} (old new : List (Node × Step)) → All from (Below (i + 1)) old new → All from (ByShown g Used step t q rule list) old new
-      below_stop old new w = finds_as g Used step t (Below (i + 1)) (ByShown g Used step t q rule list) old new
+      pub below_stop : {from : Option Node} (old new : List (Node × Step)) → All from (Below (i + 1)) old new → All from (ByShown S q rule list) old new
+      below_stop old new w = finds_as S (Below (i + 1)) (ByShown S q rule list) old new
           (λ n h. elim (cases_lt i h.index) [
             | inl past ↦ absurd (not_past h.index past h.nullable)
             | inr low ↦ record { index = h.index; below = omega (arith, low); nullable = h.nullable; by = h.by }

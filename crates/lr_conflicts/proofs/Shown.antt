@@ -11,24 +11,24 @@ use Rattle.lr_states.proofs.Spines.{more_read, split_at, within_at}
 use Rattle.lr_states.specs.Lookaheads.{HasUsed}
 use Rattle.lr_conflicts.specs.declared.examples.nodes.Step.{Step}
 use Rattle.lr_conflicts.specs.declared.examples.nodes.Step.TheVariants as steps
-use Rattle.lr_conflicts.specs.Inner.Ways.{EachMade, IsOpen, IsRead, back_of}
+use Rattle.lr_conflicts.specs.Inner.Ways.{EachMade, IsOpen, IsRead, Setting, back_of}
 use Rattle.lr_conflicts.proofs.Runs.{run_more}
 
-module _ (g : Grammar) (Used : ℕ → Type 0) (step : ℕ → Sym → Option ℕ) (t : ℕ) where
+module _ (S : Setting) where
   abbrev P : ℕ → List Sym → Type 0
-  P = HasUsed g Used
+  P = HasUsed S.grammar S.Used
 
   abbrev symbols : ℕ → List Sym
-  symbols p = (nth_production g p).symbols
+  symbols p = (nth_production S.grammar p).symbols
 
   abbrev Open : ℕ → ℕ → List Sym → List Sym → Type 0
-  Open = IsOpen g Used step t
+  Open = IsOpen S
 
   abbrev Read : ℕ → Item → List Sym → List Sym → Type 0
-  Read = IsRead g Used step t
+  Read = IsRead S
 
   -- what a step makes is also so
-  pub each_as : (s : Step) (P Q : List Sym → List Sym → Type 0) → ((prefix after : List Sym) → P prefix after → Q prefix after) → EachMade g Used step t s P → EachMade g Used step t s Q
+  pub each_as : (s : Step) (P Q : List Sym → List Sym → Type 0) → ((prefix after : List Sym) → P prefix after → Q prefix after) → EachMade S s P → EachMade S s Q
   each_as steps.First P Q to each = to [] [] each
   each_as (steps.Read n x) P Q to each = λ prefix after h. to (prefix ++ sym_of (λ s. s) x ∷ []) after (each prefix after h)
   each_as (steps.Open n front) P Q to each = λ prefix after h. to prefix (map (sym_of (λ s. s)) front.now ++ after) (each prefix after h)
@@ -38,7 +38,7 @@ module _ (g : Grammar) (Used : ℕ → Type 0) (step : ℕ → Sym → Option �
   begin_shown = record { derived = none; leads = refl }
 
   -- a used production of the rule, of which nothing is read
-  pub entered_shown : (q p rule : ℕ) (prefix after : List Sym) → Used p → (nth_production g p).rule ≡ rule → Open q rule prefix after → Read q (item_at p 0) prefix after
+  pub entered_shown : (q p rule : ℕ) (prefix after : List Sym) → S.Used p → (nth_production S.grammar p).rule ≡ rule → Open q rule prefix after → Read q (item_at p 0) prefix after
   entered_shown q p rule prefix after used own o = record {
     before = prefix;
     derived = subst (λ r. Derives P (Rule 0 ∷ []) (prefix ++ Rule r ∷ after)) (sym own) o.derived;
@@ -49,27 +49,27 @@ module _ (g : Grammar) (Used : ℕ → Type 0) (step : ℕ → Sym → Option �
   }
 
   -- one symbol more is read
-  pub read_shown : (q r : ℕ) (item : Item) (x : Sym) (prefix after : List Sym) → HasNext g item x → step q x ≡ Some r → Read q item prefix after
+  pub read_shown : (q r : ℕ) (item : Item) (x : Sym) (prefix after : List Sym) → HasNext S.grammar item x → S.step q x ≡ Some r → Read q item prefix after
       → Read r (item_at item.production (item.read + 1)) (prefix ++ x ∷ []) after
   read_shown q r item x prefix after at leads w = record {
     before = w.before;
     derived = w.derived;
     used = w.used;
     read = let within = within_at (symbols item.production) item.read x at in omega (arith, within);
-    is = ap (λ l. l ++ x ∷ []) w.is ∙ more_read g Used w.before x item.production item.read at;
-    leads = run_more step 0 prefix x q w.leads ∙ leads;
+    is = ap (λ l. l ++ x ∷ []) w.is ∙ more_read S.grammar S.Used w.before x item.production item.read at;
+    leads = run_more S.step 0 prefix x q w.leads ∙ leads;
   }
 
   -- the rule that is next in an item
-  pub next_shown : (q : ℕ) (item : Item) (rule : ℕ) (prefix after : List Sym) → HasNext g item (Rule rule) → Read q item prefix after
-      → Open q rule prefix (back_of g Used step t item ++ after)
+  pub next_shown : (q : ℕ) (item : Item) (rule : ℕ) (prefix after : List Sym) → HasNext S.grammar item (Rule rule) → Read q item prefix after
+      → Open q rule prefix (back_of S item ++ after)
   next_shown q item rule prefix after at w =
       let p = item.production in
       let read = take item.read (symbols p) in
       let back = drop (item.read + 1) (symbols p) in
       let split : symbols p ≡ read ++ Rule rule ∷ back = split_at (symbols p) item.read (Rule rule) at (within_at (symbols p) item.read (Rule rule) at) in
-      let opens : Derives P (Rule (nth_production g p).rule ∷ []) (symbols p) =
-      derives_production P (nth_production g p).rule (symbols p) (record { index = p; used = w.used; owner = refl; is = refl }) in
+      let opens : Derives P (Rule (nth_production S.grammar p).rule ∷ []) (symbols p) =
+      derives_production P (nth_production S.grammar p).rule (symbols p) (record { index = p; used = w.used; owner = refl; is = refl }) in
       let all : Derives P (Rule 0 ∷ []) (w.before ++ (symbols p ++ after)) = derives_trans P w.derived (derives_left P w.before (derives_right P after opens)) in
       let is : w.before ++ (symbols p ++ after) ≡ prefix ++ Rule rule ∷ (back ++ after) =
       ap (λ l. w.before ++ (l ++ after)) split ∙ ap (λ l. w.before ++ l) (append_assoc read (Rule rule ∷ back) after)
@@ -84,7 +84,7 @@ module _ (g : Grammar) (Used : ℕ → Type 0) (step : ℕ → Sym → Option �
   }
 
   -- a used production of the rule that comes first after another one
-  pub unfolded_shown : (q rule first p : ℕ) (prefix rest : List Sym) → Used p → (nth_production g p).rule ≡ first → Open q rule prefix (Rule first ∷ rest)
+  pub unfolded_shown : (q rule first p : ℕ) (prefix rest : List Sym) → S.Used p → (nth_production S.grammar p).rule ≡ first → Open q rule prefix (Rule first ∷ rest)
       → Open q rule prefix (symbols p ++ rest)
   unfolded_shown q rule first p prefix rest used own o =
       open_derives q rule prefix (Rule first ∷ []) (symbols p) rest

@@ -16,21 +16,21 @@ use Rattle.lr_conflicts.specs.declared.examples.Side.{Side}
 use Rattle.lr_conflicts.specs.declared.examples.nodes.ItemAt.{ItemAt}
 use Rattle.lr_conflicts.specs.declared.examples.nodes.Node.TheVariants as nodes
 use Rattle.lr_conflicts.specs.Examples.{BeginsAt, IsSide, IsStartApart, ends, rest_of, token}
-use Rattle.lr_conflicts.specs.Inner.Ways.{IsSideAt, IsSideWith}
+use Rattle.lr_conflicts.specs.Inner.Ways.{IsSideAt, IsSideWith, Setting}
 use Rattle.lr_conflicts.proofs.Derived.{start_alone}
 use Rattle.lr_conflicts.proofs.Runs.{none_some}
 
 -- with what isn't read of the item's production
-pub whole_shown : (g : Grammar) (Used : ℕ → Type 0) (step : ℕ → Sym → Option ℕ) (t : ℕ) (x : ItemAt) (unread : List Sym) (side : Side)
-    → unread ≡ drop x.item.read (nth_production g x.item.production).symbols → IsSideWith g Used step t (nodes.Item x) unread side → IsSideAt g Used step t x side
-whole_shown g Used step t x unread side left w =
+pub whole_shown : (S : Setting) (x : ItemAt) (unread : List Sym) (side : Side)
+    → unread ≡ drop x.item.read (nth_production S.grammar x.item.production).symbols → IsSideWith S (nodes.Item x) unread side → IsSideAt S x side
+whole_shown S x unread side left w =
     let read = w.shown.0 in
     let all = w.rest ∙ ap (λ l. l ++ w.after) left in
     record {
       leads = read.leads;
       is = record { before = read.before; after = w.after; derived = read.derived; used = read.used; prefix = read.is; rest = all };
-      follows = λ yes end. subst (BeginsAt g t)
-          (sym (all ∙ ap (λ l. l ++ w.after) (drop_all x.item.read (nth_production g x.item.production).symbols (omega (arith, end))))) (w.shown.1 yes);
+      follows = λ yes end. subst (BeginsAt S.grammar S.token)
+          (sym (all ∙ ap (λ l. l ++ w.after) (drop_all x.item.read (nth_production S.grammar x.item.production).symbols (omega (arith, end))))) (w.shown.1 yes);
     }
 
 module _ (g : Grammar) (Used : ℕ → Type 0) (item : Item) (side : Side) (w : IsSide g Used item side) where

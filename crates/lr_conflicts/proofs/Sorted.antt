@@ -7,6 +7,7 @@ use Rattle.std.specs.Ordering.{bool_cmp, eq_by_cmp, nat_cmp, ordering_then}
 use Rattle.std.specs.declared.cmp.Ordering.{Ordering}
 use Rattle.std.specs.declared.cmp.Ordering.TheVariants.{Less, Equal, Greater}
 use Rattle.std.proofs.lemmas.Cmp.{by_ranked, nat_cmp_total, on_total, ranked, then_total}
+use Rattle.std.proofs.lemmas.Map.Lookups.{exact_unsigned}
 use Rattle.std.proofs.lemmas.List.Elements.{All-contains, All-from_recursion}
 use Rattle.std.proofs.lemmas.List.Kept.{Contains-dedup, Contains-from_dedup, IsStrictlySortedBy-dedup}
 use Rattle.std.proofs.lemmas.List.Sorted.{Contains-permutation, IsPermutation-sym}
@@ -41,33 +42,16 @@ less_numbers x y o h = by_ranked (x < y) (x ≡ y) (y < x) (nat_cmp x y) (ranked
     (λ e gt. absurd (let no : ◌≡◌ {A = Ordering} Greater Less = subst (λ r. ordering_then r o ≡ Less) e h in cc))
 
 less_number : (x y : ℕ) → nat_cmp x y ≡ Less → x < y
-less_number x y h = by_ranked (x < y) (x ≡ y) (y < x) (nat_cmp x y) (ranked x y (nat_cmp x y) refl) (λ e lt. lt)
-    (λ e same. absurd (let no : ◌≡◌ {A = Ordering} Equal Less = sym e ∙ h in cc))
-    (λ e gt. absurd (let no : ◌≡◌ {A = Ordering} Greater Less = sym e ∙ h in cc))
+less_number x y h = ranked x y Less (sym h)
+
+deeper : {A B C D : Type 0} → A ⊎ (B × C) → (C → D) → A ⊎ (B × D)
+deeper h to = elim h [ inl early ↦ inl early | inr later ↦ inr (later.0, to later.1) ]
 
 before : (a b : Entry) → entry_cmp a b ≡ Less → IsBefore (clash_of a) (clash_of b)
-before a b h = elim (less_bits a.reduces b.reduces _ h) [
-  | inl apart ↦ inl apart
-  | inr (kind, h) ↦ inr (
-    kind,
-    elim (less_numbers a.production b.production _ h) [
-      | inl less ↦ inl less
-      | inr (production, h) ↦ inr (
-        production,
-        elim (less_numbers a.other b.other _ h) [
-          | inl less ↦ inl less
-          | inr (other, h) ↦ inr (
-            other,
-            elim (less_numbers a.read b.read _ h) [
-              | inl less ↦ inl less
-              | inr (read, h) ↦ inr (read, less_number a.token b.token h)
-            ],
-          )
-        ],
-      )
-    ],
-  )
-]
+before a b h = deeper (less_bits a.reduces b.reduces _ h)
+    (λ h. deeper (less_numbers a.production b.production _ h)
+    (λ h. deeper (less_numbers a.other b.other _ h)
+    (λ h. deeper (less_numbers a.read b.read _ h) (less_number a.token b.token))))
 
 equal_bits : (x y : Bool) (o : Ordering) → ordering_then (bool_cmp x y) o ≡ Equal → (x ≡ y) × (o ≡ Equal)
 equal_bits false false o h = (refl, h)
@@ -81,19 +65,13 @@ equal_numbers x y o h = by_ranked (x < y) (x ≡ y) (y < x) (nat_cmp x y) (ranke
     (λ e same. (same, subst (λ r. ordering_then r o ≡ Equal) e h))
     (λ e gt. absurd (let no : ◌≡◌ {A = Ordering} Greater Equal = subst (λ r. ordering_then r o ≡ Equal) e h in cc))
 
-equal_number : (x y : ℕ) → nat_cmp x y ≡ Equal → x ≡ y
-equal_number x y h = by_ranked (x < y) (x ≡ y) (y < x) (nat_cmp x y) (ranked x y (nat_cmp x y) refl)
-    (λ e lt. absurd (let no : ◌≡◌ {A = Ordering} Less Equal = sym e ∙ h in cc))
-    (λ e same. same)
-    (λ e gt. absurd (let no : ◌≡◌ {A = Ordering} Greater Equal = sym e ∙ h in cc))
-
 same : (a b : Entry) → entry_cmp a b ≡ Equal → a ≡ b
 same a b h =
     let (kind, i) = equal_bits a.reduces b.reduces _ h in
     let (production, j) = equal_numbers a.production b.production _ i in
     let (other, k) = equal_numbers a.other b.other _ j in
     let (read, l) = equal_numbers a.read b.read _ k in
-    let token = equal_number a.token b.token l in
+    let token = exact_unsigned a.token b.token l in
     λ m. record { reduces = kind m; production = production m; other = other m; read = read m; token = token m }
 
 sorted_clashes : (entries : List Entry) → IsStrictlySortedBy entry_cmp entries → AreSorted (map clash_of entries)

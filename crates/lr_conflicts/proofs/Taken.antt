@@ -5,11 +5,12 @@ use Rattle.std.proofs.lemmas.Bool.{cases_lt}
 use Rattle.std.proofs.lemmas.List.Elements.{Contains-append_left, Contains-push, Contains-push_cases}
 use Rattle.cfgrammar.specs.Associativity.{Associativity}
 use Rattle.cfgrammar.specs.Numbered.{Numbered}
+use Rattle.cfgrammar.specs.Precedence.{Precedence}
 use Rattle.cfgrammar.proofs.Contained.{contains_source}
 use Rattle.cfgrammar.proofs.Taken.{contains_taken}
 use Rattle.lr_states.specs.declared.Item.{Item}
-use Rattle.lr_conflicts.specs.Conflicts.{IsReduced, IsShifted, IsTakenAway, Settles, TakesShift}
-use Rattle.lr_conflicts.specs.Inner.Choices.{AreReductions, IsFirstTaker, IsKept, IsReductionIn, IsTaker, IsTurn, Loses, Says, Takes}
+use Rattle.lr_conflicts.specs.Conflicts.{IsReduced, IsShifted, IsTakenAway, TakesShift}
+use Rattle.lr_conflicts.specs.Inner.Choices.{AreReductions, IsFirstTaker, IsKept, IsReductionIn, IsTaker, IsTurn, Loses, Takes}
 use Rattle.lr_conflicts.specs.Inner.Listed.{AreReduced}
 use Rattle.lr_conflicts.specs.Precedences.{settled, token_precedence}
 use Rattle.lr_conflicts.specs.declared.listed.Turn.{Turn}
@@ -28,26 +29,17 @@ pub record AreKept (g : Numbered) (levels : List Associativity) (turn : Turn) (r
   pub ascending : IsStrictlyIncreasing productions
 
 module _ (g : Numbered) (levels : List Associativity) (items : List Item) where
+  -- of a production with this precedence it says one of these
+  abbrev SaysOne : ℕ → Settled → Settled → Option Precedence → Type 0
+  SaysOne t a b precedence = (settled levels (token_precedence g t) precedence ≡ Some a) ⊎ (settled levels (token_precedence g t) precedence ≡ Some b)
+
   -- what precedence says of a reduction it says of its production
-  module _ (t : ℕ) (r : Reduction) (is : IsReductionIn g levels items r) where
-    settles : (verdict : Settled) → Says g levels t r verdict → Settles g levels items t r.production verdict
-    settles verdict says = ap (settled levels (token_precedence g t)) (sym is.precedence) ∙ says
+  module _ (t : ℕ) (r : Reduction) (is : IsReductionIn g levels items r) (within : t < length g.tokens) where
+    takes_shift : Takes g levels t r → TakesShift g levels items t r.production
+    takes_shift h = record { reduces = (is.comes t within).0 h.0; says = subst (SaysOne t Reduce Neither) is.precedence h.1 }
 
-    says : (verdict : Settled) → Settles g levels items t r.production verdict → Says g levels t r verdict
-    says verdict settles = ap (settled levels (token_precedence g t)) is.precedence ∙ settles
-
-    settles_one : (a b : Settled) → Says g levels t r a ⊎ Says g levels t r b → Settles g levels items t r.production a ⊎ Settles g levels items t r.production b
-    settles_one a b h = elim h [ inl x ↦ inl (settles a x) | inr y ↦ inr (settles b y) ]
-
-    says_one : (a b : Settled) → Settles g levels items t r.production a ⊎ Settles g levels items t r.production b → Says g levels t r a ⊎ Says g levels t r b
-    says_one a b h = elim h [ inl x ↦ inl (says a x) | inr y ↦ inr (says b y) ]
-
-    module _ (within : t < length g.tokens) where
-      takes_shift : Takes g levels t r → TakesShift g levels items t r.production
-      takes_shift h = record { reduces = (is.comes t within).0 h.0; says = settles_one Reduce Neither h.1 }
-
-      takes_by : TakesShift g levels items t r.production → Takes g levels t r
-      takes_by h = ((is.comes t within).1 h.reduces, says_one Reduce Neither h.says)
+    takes_by : TakesShift g levels items t r.production → Takes g levels t r
+    takes_by h = ((is.comes t within).1 h.reduces, subst (SaysOne t Reduce Neither) (sym is.precedence) h.says)
 
   module _ (rs : List Reduction) (are : AreReductions g levels items rs) where
     module _ (t : ℕ) (within : t < length g.tokens) where
@@ -95,11 +87,11 @@ module _ (g : Numbered) (levels : List Associativity) (items : List Item) where
       lost h = record {
         shift = is.can.0 h.0.0;
         earlier = none_before turn.token r.production turn.taker (is.taker h.0.0) h.0.1;
-        says = settles_one turn.token r of Shift Neither h.1;
+        says = subst (SaysOne turn.token Shift Neither) of.precedence h.1;
       }
 
       taken : IsTakenAway g levels items turn.token r.production → Loses g levels turn r
-      taken h = let can = is.can.1 h.shift in ((can, before_none turn.token r.production turn.taker (is.taker can) h.earlier), says_one turn.token r of Shift Neither h.says)
+      taken h = let can = is.can.1 h.shift in ((can, before_none turn.token r.production turn.taker (is.taker can) h.earlier), subst (SaysOne turn.token Shift Neither) (sym of.precedence) h.says)
 
       kept_reduced : IsKept g levels turn r → IsReduced g levels items turn.token r.production
       kept_reduced h = record { reduces = (of.comes turn.token is.within).0 h.0; left = λ away. h.1 (taken away) }

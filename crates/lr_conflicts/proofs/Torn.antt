@@ -146,29 +146,18 @@ module _ (g : Numbered) (levels : List Associativity) (x : Automaton) where
     })
 
   module _ (q : ℕ) (conflicts : List Conflict) where
-    -- all tokens of a state
-    pub listed_row : (t : ℕ) → AreListed g levels x q t conflicts → length g.tokens ≤ t → AreListed g levels x (q + 1) 0 conflicts
-    listed_row t listed most = record {
+    -- all tokens of a state, where there is no conflict at the others
+    pub listed_row : (t : ℕ) → AreListed g levels x q t conflicts → ((b : ℕ) → t ≤ b → b < length g.tokens → IsEntered g levels x q → IsTorn g levels (items_of x q) b → ⊥)
+        → AreListed g levels x (q + 1) 0 conflicts
+    listed_row t listed none = record {
       each = listed.each;
       early = λ c h. elim (listed.early c h) [ inl less ↦ inl (omega (arith, less)) | inr same ↦ let equal = same.0 in inl (omega (arith, equal)) ];
       all = λ a b h entered within torn. elim h [
-        | inl less ↦ listed.all a b (elim (cases_eq a q) [
-          | inl same ↦ inr (same, omega (arith, within, most))
-          | inr apart ↦ inl (omega (arith, less, apart))
-        ]) entered within torn
-        | inr none ↦ let less = none.1 in absurd (omega (arith, less))
-      ];
-      sorted = listed.sorted;
-    }
-
-    -- a state with no conflict
-    pub listed_none_in : AreListed g levels x q 0 conflicts → (IsEntered g levels x q → (t : ℕ) → IsTorn g levels (items_of x q) t → ⊥) → AreListed g levels x (q + 1) 0 conflicts
-    listed_none_in listed none = record {
-      each = listed.each;
-      early = λ c h. elim (listed.early c h) [ inl less ↦ inl (omega (arith, less)) | inr same ↦ let less = same.1 in absurd (omega (arith, less)) ];
-      all = λ a b h entered within torn. elim h [
         | inl less ↦ elim (cases_eq a q) [
-          | inl same ↦ absurd (none (subst (IsEntered g levels x) same entered) b (subst (λ n. IsTorn g levels (items_of x n) b) same torn))
+          | inl same ↦ elim (cases_lt b t) [
+            | inl before ↦ listed.all a b (inr (same, before)) entered within torn
+            | inr past ↦ absurd (none b past within (subst (IsEntered g levels x) same entered) (subst (λ n. IsTorn g levels (items_of x n) b) same torn))
+          ]
           | inr apart ↦ listed.all a b (inl (omega (arith, less, apart))) entered within torn
         ]
         | inr never ↦ let less = never.1 in absurd (omega (arith, less))

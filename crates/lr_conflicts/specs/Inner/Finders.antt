@@ -12,7 +12,7 @@ use Rattle.lr_conflicts.specs.declared.examples.finder.Finder.{Finder}
 use Rattle.lr_conflicts.specs.declared.examples.nodes.ItemAt.{ItemAt}
 use Rattle.lr_conflicts.specs.declared.examples.roads.Road.TheVariants as roads
 use Rattle.lr_conflicts.specs.Inner.Tables.{AreReady, along, step_of}
-use Rattle.lr_conflicts.specs.Inner.Ways.{IsFound}
+use Rattle.lr_conflicts.specs.Inner.Ways.{IsFound, Setting}
 
 abbrev pub item_at_place : ℕ → Item → Bool → ItemAt
 item_at_place q item followed = record { place = q; item = item; followed = followed }
@@ -22,8 +22,11 @@ module _ (f : Finder) where
   IsFinderReady = AreReady (core f.grammar.now) f.firsts.now f.used.now
 
   -- by these steps from place to place
+  abbrev pub setting_by : (ℕ → Sym → Option ℕ) → Setting
+  setting_by step = record { grammar = core f.grammar.now; Used = IsUsed (core f.grammar.now); step = step; token = f.conflict.now.token }
+
   abbrev pub FindsAt : (ℕ → Sym → Option ℕ) → ItemAt → Option Side → Type 0
-  FindsAt step = IsFound (core f.grammar.now) (IsUsed (core f.grammar.now)) step f.conflict.now.token
+  FindsAt step = IsFound (setting_by step)
 
   -- in the conflict's state, with the token after the item's production
   abbrev pub FindsOnStates : Item → Option Side → Type 0

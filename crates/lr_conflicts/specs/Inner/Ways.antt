@@ -44,30 +44,39 @@ pub record IsFoundBefore (found : List (Node × Step)) (k : ℕ) (n : Node) : Ty
   pub step : Step
   pub is : slice_get found number ≡ Some (n, step)
 
--- By used productions, and `step` from place to place; `t` is the token that is to come next in the end.
-module _ (g : Grammar) (Used : ℕ → Type 0) (step : ℕ → Sym → Option ℕ) (t : ℕ) where
+-- What ways go by: used productions, and steps from place to place. The token is the one that is to come next in the end.
+pub record Setting : Type 1 where
+  pub grammar : Grammar
+  pub Used : ℕ → Type 0
+  pub step : ℕ → Sym → Option ℕ
+  pub token : ℕ
+
+module _ (S : Setting) where
   abbrev symbols : ℕ → List Sym
-  symbols p = (nth_production g p).symbols
+  symbols p = (nth_production S.grammar p).symbols
+
+  abbrev pub IsNullable : List Sym → Type 0
+  IsNullable list = Derives (HasUsed S.grammar S.Used) list []
 
   -- the start rule derives a list in which the rule comes after a prefix that leads to the place
   pub record IsOpen (q rule : ℕ) (prefix after : List Sym) : Type 0 where
-    pub derived : Derives (HasUsed g Used) (Rule 0 ∷ []) (prefix ++ Rule rule ∷ after)
-    pub leads : run step 0 prefix ≡ Some q
+    pub derived : Derives (HasUsed S.grammar S.Used) (Rule 0 ∷ []) (prefix ++ Rule rule ∷ after)
+    pub leads : run S.step 0 prefix ≡ Some q
 
   -- and with the item's production in the place of the rule, and some of it read
   pub record IsRead (q : ℕ) (item : Item) (prefix after : List Sym) : Type 0 where
     pub before : List Sym
-    pub derived : Derives (HasUsed g Used) (Rule 0 ∷ []) (before ++ Rule (nth_production g item.production).rule ∷ after)
-    pub used : Used item.production
+    pub derived : Derives (HasUsed S.grammar S.Used) (Rule 0 ∷ []) (before ++ Rule (nth_production S.grammar item.production).rule ∷ after)
+    pub used : S.Used item.production
     pub read : item.read ≤ length (symbols item.production)
     pub is : prefix ≡ before ++ take item.read (symbols item.production)
-    pub leads : run step 0 prefix ≡ Some q
+    pub leads : run S.step 0 prefix ≡ Some q
 
   -- A prefix and a rest show that a node is reached: of an item what comes before and after its production, where the token comes first if it is
   -- followed by it; else what comes after the rule and the first of the symbols after it.
   abbrev pub Shown : Node → List Sym → List Sym → Type 0
-  Shown (nodes.Item x) prefix after = IsRead x.place x.item prefix after × (IsTrue x.followed → BeginsAt g t after)
-  Shown (nodes.Opened x) prefix after = IsOpen x.place x.rule prefix (Rule x.first ∷ after) × (x.rule < g.rules) × (x.first < g.rules)
+  Shown (nodes.Item x) prefix after = IsRead x.place x.item prefix after × (IsTrue x.followed → BeginsAt S.grammar S.token after)
+  Shown (nodes.Opened x) prefix after = IsOpen x.place x.rule prefix (Rule x.first ∷ after) × (x.rule < S.grammar.rules) × (x.first < S.grammar.rules)
 
   -- some do
   pub record IsShown (n : Node) : Type 0 where
@@ -87,26 +96,26 @@ module _ (g : Grammar) (Used : ℕ → Type 0) (step : ℕ → Sym → Option �
 
   -- the rule is next, and the token comes after it, if it is followed by it
   abbrev pub IsNext : ℕ → ℕ → Bool → List Sym → List Sym → Type 0
-  IsNext q rule followed prefix after = IsOpen q rule prefix after × (IsTrue followed → BeginsAt g t after)
+  IsNext q rule followed prefix after = IsOpen q rule prefix after × (IsTrue followed → BeginsAt S.grammar S.token after)
 
   -- a used production of the rule, of which nothing is read
   pub record Enters (q rule : ℕ) (followed : Bool) (n : Node) : Type 0 where
     pub production : ℕ
-    pub used : Used production
-    pub owner : (nth_production g production).rule ≡ rule
+    pub used : S.Used production
+    pub owner : (nth_production S.grammar production).rule ≡ rule
     pub is : n ≡ item_node q (item_at production 0) followed
 
   -- by the symbol right after the rule: the token follows, or that symbol is a rule
-  abbrev pub ByNext : ℕ → ℕ → Node → Option Sym → Type 0
-  ByNext q rule n None = ⊥
-  ByNext q rule n (Some (Token u)) = (u ≡ t) × Enters q rule true n
-  ByNext q rule n (Some (Rule first)) = n ≡ opened_node q rule first
+  abbrev pub ByNext : ℕ → ℕ → Option Sym → Node → Type 0
+  ByNext q rule None n = ⊥
+  ByNext q rule (Some (Token u)) n = (u ≡ S.token) × Enters q rule true n
+  ByNext q rule (Some (Rule first)) n = n ≡ opened_node q rule first
 
   -- by one of the symbols after the rule, before which there are only nullable ones
   pub record ByShown (q rule : ℕ) (list : List Sym) (n : Node) : Type 0 where
     pub index : ℕ
-    pub nullable : Derives (HasUsed g Used) (take index list) []
-    pub by : ByNext q rule n (slice_get list index)
+    pub nullable : IsNullable (take index list)
+    pub by : ByNext q rule (slice_get list index) n
 
   -- what comes after the item's next symbol in its production
   abbrev pub back_of : Item → List Sym
@@ -115,26 +124,30 @@ module _ (g : Grammar) (Used : ℕ → Type 0) (step : ℕ → Sym → Option �
   -- by reading the item's next symbol
   pub record Reads (q : ℕ) (item : Item) (followed : Bool) (symbol : Sym) (n : Node) : Type 0 where
     pub place : ℕ
-    pub leads : step q symbol ≡ Some place
+    pub leads : S.step q symbol ≡ Some place
     pub is : n ≡ item_node place (item_at item.production (item.read + 1)) followed
 
   -- by the rule that is next in an item
   pub data Opens (q : ℕ) (item : Item) (followed : Bool) (rule : ℕ) (n : Node) : Type 0 where
     enters : Enters q rule false n → Opens q item followed rule n
     shows : ByShown q rule (back_of item) n → Opens q item followed rule n
-    ends : IsTrue followed → Derives (HasUsed g Used) (back_of item) [] → Enters q rule true n → Opens q item followed rule n
+    ends : IsTrue followed → IsNullable (back_of item) → Enters q rule true n → Opens q item followed rule n
+
+  -- by this production of the first rule after another one, if it is used
+  abbrev pub UnfoldsWith : ℕ → ℕ → ℕ → Node → Type 0
+  UnfoldsWith q rule p n = S.Used p × ByShown q rule (symbols p) n
 
   -- by a used production of the first rule after another one
   pub record Unfolds (q rule first : ℕ) (n : Node) : Type 0 where
     pub production : ℕ
-    pub used : Used production
-    pub owner : (nth_production g production).rule ≡ first
+    pub used : S.Used production
+    pub owner : (nth_production S.grammar production).rule ≡ first
     pub shows : ByShown q rule (symbols production) n
 
   -- by the item's next symbol
   pub data ByItem (q : ℕ) (item : Item) (followed : Bool) (n : Node) : Type 0 where
-    reads : (symbol : Sym) → HasNext g item symbol → Reads q item followed symbol n → ByItem q item followed n
-    opens : (rule : ℕ) → HasNext g item (Rule rule) → Opens q item followed rule n → ByItem q item followed n
+    reads : (symbol : Sym) → HasNext S.grammar item symbol → Reads q item followed symbol n → ByItem q item followed n
+    opens : (rule : ℕ) → HasNext S.grammar item (Rule rule) → Opens q item followed rule n → ByItem q item followed n
 
   -- the ways on from a node
   abbrev pub Leads : Node → Node → Type 0
@@ -144,7 +157,7 @@ module _ (g : Grammar) (Used : ℕ → Type 0) (step : ℕ → Sym → Option �
   -- where ways begin: productions of the start rule, after which the end token comes
   pub data Begins (n : Node) : Type 0 where
     any : Enters 0 0 false n → Begins n
-    last : t + 1 ≡ g.tokens → Enters 0 0 true n → Begins n
+    last : S.token + 1 ≡ S.grammar.tokens → Enters 0 0 true n → Begins n
 
   abbrev pub IsReached : Node → Type 0
   IsReached = Reachable Begins Leads
@@ -175,9 +188,9 @@ module _ (g : Grammar) (Used : ℕ → Type 0) (step : ℕ → Sym → Option �
 
   -- a side of the item, whose prefix leads to the place
   pub record IsSideAt (x : ItemAt) (side : Side) : Type 0 where
-    pub leads : run step 0 (prefix_of side) ≡ Some x.place
-    pub is : IsSide g Used x.item side
-    pub follows : IsTrue x.followed → x.item.read ≡ length (symbols x.item.production) → BeginsAt g t (rest_of side)
+    pub leads : run S.step 0 (prefix_of side) ≡ Some x.place
+    pub is : IsSide S.grammar S.Used x.item side
+    pub follows : IsTrue x.followed → x.item.read ≡ length (symbols x.item.production) → BeginsAt S.grammar S.token (rest_of side)
 
   -- such a side; none only if the item isn't reached
   abbrev pub IsFound : ItemAt → Option Side → Type 0

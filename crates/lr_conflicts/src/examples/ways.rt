@@ -7,12 +7,11 @@ ghost use Rattle.cfgrammar.specs.Grammar.{Rule};
 ghost use Rattle.cfgrammar.specs.NumberedSymbols.{sym_of};
 ghost use Rattle.cfgrammar.specs.Openings.{nth_production};
 ghost use Rattle.lr_states.specs.Viable.{HasNext};
-ghost use Rattle.lr_conflicts.specs.Inner.Searches.{AreKnown, AreWith, BeginsBy, EachMade, EachShown, EntersBy};
-ghost use Rattle.lr_conflicts.specs.Inner.Searches.{FindsAll, FindsItem, IsByNext, IsByShown, IsNextIn};
-ghost use Rattle.lr_conflicts.specs.Inner.Searches.{IsNullable, IsOpenIn, IsReadBy, IsReady, IsShown, IsSideWith};
-ghost use Rattle.lr_conflicts.specs.Inner.Searches.{LeadsBy, OpensBy, Shows, UnfoldsBy, UnfoldsWith};
-ghost use Rattle.lr_conflicts.specs.Inner.Searches.{grammar_of, used_of};
-ghost use Rattle.lr_conflicts.specs.Inner.Ways.{HasNode, parent_of};
+ghost use Rattle.lr_conflicts.specs.Inner.Searches.{IsReady, grammar_of, setting};
+ghost use Rattle.lr_conflicts.specs.Inner.Ways.{AreSteps, Begins, ByNext, ByShown, EachMade, EachShown, Enters, Finds};
+ghost use Rattle.lr_conflicts.specs.Inner.Ways.{HasNode, IsFound, IsNext, IsNullable, IsOpen, IsSearched, IsShown};
+ghost use Rattle.lr_conflicts.specs.Inner.Ways.{IsSideWith, Leads, Opens, Reads, Shown, Unfolds, UnfoldsWith};
+ghost use Rattle.lr_conflicts.specs.Inner.Ways.{parent_of};
 ghost use Rattle.lr_conflicts.specs.declared.examples.nodes.Node.TheVariants as nodes;
 
 use crate::examples::Side;
@@ -45,7 +44,7 @@ impl<'a> Ways<'a> {
     /// Out of memory.
     pub(crate) fn whole_side(&self, at: ItemAt) -> Result<Option<Side>, AllocError>
         requires ready { IsReady self.now }
-        ensures { IfOk result (FindsItem self.now at) }
+        ensures { IfOk result (IsFound (setting self.now) at) }
     {
         let node = Node::Item(at);
         let found = self.searched(node)?;
@@ -72,9 +71,9 @@ impl<'a> Ways<'a> {
         node: Node,
         unread: &[Symbol<u32>],
     ) -> Result<Side, AllocError>
-        requires known { AreKnown self.now found.now.entries }
+        requires known { AreSteps (setting self.now) found.now.entries }
         requires there { HasNode found.now.entries node }
-        ensures { IfOk result (IsSideWith self.now node (map (sym_of (λ s. s)) unread.now)) }
+        ensures { IfOk result (IsSideWith (setting self.now) node (map (sym_of (λ s. s)) unread.now)) }
     {
         let mut prefix = Vec::new(self.alloc);
         let mut rest = Vec::new(self.alloc);
@@ -100,7 +99,7 @@ impl<'a> Ways<'a> {
     /// Nodes that ways lead to, with this one if it is among them.
     fn searched(&self, node: Node) -> Result<Found<'a>, AllocError>
         requires ready { IsReady self.now }
-        ensures { IfOk result (λ found. AreWith self.now node found.entries) }
+        ensures { IfOk result (λ found. IsSearched (setting self.now) node found.entries) }
     {
         let mut found = IndexMap::new(self.alloc);
         self.begin(&mut found)?;
@@ -121,7 +120,8 @@ impl<'a> Ways<'a> {
     /// Finds the productions of the start rule.
     fn begin(&self, found: &mut Found<'a>) -> Result<(), AllocError>
         requires ready { IsReady self.now }
-        ensures { OnOk result (FindsAll self.now None (BeginsBy self.now) found.old.entries found.new.entries) }
+        ensures { OnOk result (Finds (setting self.now) None (Begins (setting self.now))
+            found.old.entries found.new.entries) }
     {
         self.enter(found, 0, 0, false, Step::First)?;
         if usize::from(self.grammar.eof_token_idx()) == self.token {
@@ -133,8 +133,8 @@ impl<'a> Ways<'a> {
     /// Finds what a node leads to.
     fn go_on(&self, found: &mut Found<'a>, node: Node) -> Result<(), AllocError>
         requires ready { IsReady self.now }
-        requires shown { IsShown self.now node }
-        ensures { OnOk result (FindsAll self.now (Some node) (LeadsBy self.now node)
+        requires shown { IsShown (setting self.now) node }
+        ensures { OnOk result (Finds (setting self.now) (Some node) (Leads (setting self.now) node)
             found.old.entries found.new.entries) }
     {
         match node {
@@ -146,9 +146,9 @@ impl<'a> Ways<'a> {
     /// Finds what an item leads to.
     fn go_on_item(&self, found: &mut Found<'a>, at: ItemAt) -> Result<(), AllocError>
         requires ready { IsReady self.now }
-        requires shown { IsShown self.now (nodes.Item at) }
-        ensures { OnOk result (FindsAll self.now (Some (nodes.Item at)) (LeadsBy self.now (nodes.Item at))
-            found.old.entries found.new.entries) }
+        requires shown { IsShown (setting self.now) (nodes.Item at) }
+        ensures { OnOk result (Finds (setting self.now) (Some (nodes.Item at))
+            (Leads (setting self.now) (nodes.Item at)) found.old.entries found.new.entries) }
     {
         let Some(symbol) = next_symbol(self.grammar, at.item) else {
             return Ok(());
@@ -163,10 +163,11 @@ impl<'a> Ways<'a> {
     /// Finds the item after its next symbol.
     fn read(&self, found: &mut Found<'a>, at: ItemAt, symbol: Symbol<u32>) -> Result<(), AllocError>
         requires ready { IsReady self.now }
-        requires shown { IsShown self.now (nodes.Item at) }
+        requires shown { IsShown (setting self.now) (nodes.Item at) }
         requires next { HasNext (grammar_of self.now) at.item (sym_of (λ s. s) symbol) }
-        ensures { OnOk result (FindsAll self.now (Some (nodes.Item at)) (IsReadBy self.now at.place at.item at.followed
-            (sym_of (λ s. s) symbol)) found.old.entries found.new.entries) }
+        ensures { OnOk result (Finds (setting self.now) (Some (nodes.Item at))
+            (Reads (setting self.now) at.place at.item at.followed (sym_of (λ s. s) symbol))
+            found.old.entries found.new.entries) }
     {
         self.grammar.invariant_holds();
         let Some(place) = self.road.step(at.place, symbol) else {
@@ -187,10 +188,10 @@ impl<'a> Ways<'a> {
     /// Finds what an item leads to by the rule that is next in it.
     fn open(&self, found: &mut Found<'a>, at: ItemAt, rule: usize) -> Result<(), AllocError>
         requires ready { IsReady self.now }
-        requires shown { IsShown self.now (nodes.Item at) }
+        requires shown { IsShown (setting self.now) (nodes.Item at) }
         requires next { HasNext (grammar_of self.now) at.item (Rule rule) }
-        ensures { OnOk result (FindsAll self.now (Some (nodes.Item at))
-            (OpensBy self.now at.place at.item at.followed rule) found.old.entries found.new.entries) }
+        ensures { OnOk result (Finds (setting self.now) (Some (nodes.Item at))
+            (Opens (setting self.now) at.place at.item at.followed rule) found.old.entries found.new.entries) }
     {
         let node = Node::Item(at);
         let back = self.back(at.item);
@@ -221,9 +222,11 @@ impl<'a> Ways<'a> {
     ) -> Result<(), AllocError>
         requires ready { IsReady self.now }
         requires within { rule < length self.now.grammar.now.rules }
-        requires opened { IsTrue nullable → EachShown self.now (nodes.Item at) (IsOpenIn self.now at.place rule) }
-        ensures { OnOk result (FindsAll self.now (Some (nodes.Item at)) (λ n. IsTrue at.followed × IsTrue nullable
-            × EntersBy self.now at.place rule true n) found.old.entries found.new.entries) }
+        requires opened { IsTrue nullable → EachShown (setting self.now) (nodes.Item at)
+            (IsOpen (setting self.now) at.place rule) }
+        ensures { OnOk result (Finds (setting self.now) (Some (nodes.Item at))
+            (λ n. IsTrue at.followed × IsTrue nullable × Enters (setting self.now) at.place rule true n)
+            found.old.entries found.new.entries) }
     {
         if at.followed && nullable {
             self.enter(found, at.place, rule, true, Step::Open(Node::Item(at), &[]))
@@ -235,9 +238,9 @@ impl<'a> Ways<'a> {
     /// Finds what a rule leads to by the productions of the rule that comes first after it.
     fn unfold(&self, found: &mut Found<'a>, at: OpenedAt) -> Result<(), AllocError>
         requires ready { IsReady self.now }
-        requires shown { IsShown self.now (nodes.Opened at) }
-        ensures { OnOk result (FindsAll self.now (Some (nodes.Opened at)) (UnfoldsBy self.now at.place at.rule at.first)
-            found.old.entries found.new.entries) }
+        requires shown { IsShown (setting self.now) (nodes.Opened at) }
+        ensures { OnOk result (Finds (setting self.now) (Some (nodes.Opened at))
+            (Unfolds (setting self.now) at.place at.rule at.first) found.old.entries found.new.entries) }
     {
         for production in productions_of(self.grammar, at.first) {
             self.unfold_by(found, at, usize::from(*production))?;
@@ -256,8 +259,8 @@ impl<'a> Ways<'a> {
         requires rule { at.rule < length self.now.grammar.now.rules }
         requires within { production < length self.now.grammar.now.productions }
         requires owner { (nth_production (grammar_of self.now) production).rule ≡ at.first }
-        ensures { OnOk result (FindsAll self.now (Some (nodes.Opened at))
-            (UnfoldsWith self.now at.place at.rule production) found.old.entries found.new.entries) }
+        ensures { OnOk result (Finds (setting self.now) (Some (nodes.Opened at))
+            (UnfoldsWith (setting self.now) at.place at.rule production) found.old.entries found.new.entries) }
     {
         if self.used.get(production).unwrap_or(false) {
             let symbols = symbols_of(self.grammar, production);
@@ -278,13 +281,13 @@ impl<'a> Ways<'a> {
     ) -> Result<bool, AllocError>
         requires ready { IsReady self.now }
         requires rule { rule < length self.now.grammar.now.rules }
-        requires opened { EachShown self.now from (λ prefix after. IsOpenIn self.now place rule prefix
+        requires opened { EachShown (setting self.now) from (λ prefix after. IsOpen (setting self.now) place rule prefix
             (map (sym_of (λ s. s)) symbols.now ++ after)) }
         requires within { All (IsSymbolWithin (λ s. s) self.now.grammar.now) symbols.now }
-        ensures found { OnOk result (FindsAll self.now (Some from) (IsByShown self.now place rule
+        ensures found { OnOk result (Finds (setting self.now) (Some from) (ByShown (setting self.now) place rule
             (map (sym_of (λ s. s)) symbols.now)) found.old.entries found.new.entries) }
         ensures nullable { IfOk result (λ nullable. IsTrue nullable
-            ↔ IsNullable self.now (map (sym_of (λ s. s)) symbols.now)) }
+            ↔ IsNullable (setting self.now) (map (sym_of (λ s. s)) symbols.now)) }
     {
         for index in 0..symbols.len() {
             self.show_first(found, from, place, rule, symbols, index)?;
@@ -308,11 +311,11 @@ impl<'a> Ways<'a> {
         requires ready { IsReady self.now }
         requires rule { rule < length self.now.grammar.now.rules }
         requires index { index < length symbols.now }
-        requires opened { EachShown self.now from (λ prefix after. IsOpenIn self.now place rule prefix
+        requires opened { EachShown (setting self.now) from (λ prefix after. IsOpen (setting self.now) place rule prefix
             (drop index (map (sym_of (λ s. s)) symbols.now) ++ after)) }
         requires within { All (IsSymbolWithin (λ s. s) self.now.grammar.now) symbols.now }
-        ensures { OnOk result (FindsAll self.now (Some from)
-            (IsByNext self.now place rule (slice_get (map (sym_of (λ s. s)) symbols.now) index))
+        ensures { OnOk result (Finds (setting self.now) (Some from)
+            (ByNext (setting self.now) place rule (slice_get (map (sym_of (λ s. s)) symbols.now) index))
             found.old.entries found.new.entries) }
     {
         match symbols[index] {
@@ -348,9 +351,9 @@ impl<'a> Ways<'a> {
     ) -> Result<(), AllocError>
         requires ready { IsReady self.now }
         requires within { rule < length self.now.grammar.now.rules }
-        requires next { EachMade self.now step (IsNextIn self.now place rule followed) }
-        ensures { OnOk result (FindsAll self.now (parent_of step.entry) (EntersBy self.now place rule followed)
-            found.old.entries found.new.entries) }
+        requires next { EachMade (setting self.now) step (IsNext (setting self.now) place rule followed) }
+        ensures { OnOk result (Finds (setting self.now) (parent_of step.entry)
+            (Enters (setting self.now) place rule followed) found.old.entries found.new.entries) }
     {
         for production in productions_of(self.grammar, rule) {
             let item = Item {
@@ -370,9 +373,11 @@ impl<'a> Ways<'a> {
     /// Adds an item if its production is used.
     fn add_used(&self, found: &mut Found<'a>, at: ItemAt, step: Step<'a>) -> Result<(), AllocError>
         requires ready { IsReady self.now }
-        requires shown { used_of self.now at.item.production → EachMade self.now step (Shows self.now (nodes.Item at)) }
-        ensures { OnOk result (FindsAll self.now (parent_of step.entry)
-            (λ n. used_of self.now at.item.production × (n ≡ nodes.Item at)) found.old.entries found.new.entries) }
+        requires shown { (setting self.now).Used at.item.production
+            → EachMade (setting self.now) step (Shown (setting self.now) (nodes.Item at)) }
+        ensures { OnOk result (Finds (setting self.now) (parent_of step.entry)
+            (λ n. (setting self.now).Used at.item.production × (n ≡ nodes.Item at))
+            found.old.entries found.new.entries) }
     {
         if self.used.get(at.item.production).unwrap_or(false) {
             self.add(found, Node::Item(at), step)?;
@@ -383,7 +388,7 @@ impl<'a> Ways<'a> {
     /// Whether the symbol is a nullable rule.
     fn is_nullable(&self, symbol: Symbol<u32>) -> bool
         requires ready { IsReady self.now }
-        ensures { IsTrue result ↔ IsNullable self.now (sym_of (λ s. s) symbol ∷ []) }
+        ensures { IsTrue result ↔ IsNullable (setting self.now) (sym_of (λ s. s) symbol ∷ []) }
     {
         match symbol {
             Symbol::Rule(rule) => self.firsts.is_epsilon_set(rule),
@@ -393,8 +398,8 @@ impl<'a> Ways<'a> {
 
     /// Adds a node with the step that leads to it, unless it was found before.
     fn add(&self, found: &mut Found<'a>, node: Node, step: Step<'a>) -> Result<(), AllocError>
-        requires shown { EachMade self.now step (Shows self.now node) }
-        ensures { OnOk result (FindsAll self.now (parent_of step.entry) (λ n. n ≡ node)
+        requires shown { EachMade (setting self.now) step (Shown (setting self.now) node) }
+        ensures { OnOk result (Finds (setting self.now) (parent_of step.entry) (λ n. n ≡ node)
             found.old.entries found.new.entries) }
     {
         if !found.contains_key(&node) {

@@ -2,7 +2,7 @@ use Rattle.std.proofs.Common.{◌+◌, Global, Vec, ap, arith, length, subst, sy
 use Rattle.lr_states.specs.Automaton.{Automaton}
 use Rattle.lr_conflicts.specs.Inner.Listed.{AreListed}
 use Rattle.lr_conflicts.specs.declared.Conflict.{Conflict}
-use Rattle.lr_conflicts.proofs.Torn.{listed_all, listed_none_in}
+use Rattle.lr_conflicts.proofs.Torn.{listed_all, listed_row}
 use Rattle.lr_conflicts.proofs.parser.Parser.conflicts.Goals as goal
 use Rattle.lr_conflicts.proofs.parser.Parser.conflicts.Goals.{then-is_reachable+in_ok-push_conflicts, else-is_reachable}
 
@@ -15,8 +15,8 @@ loop-number-preserved c =
       | then-is_reachable+in_ok-push_conflicts w ↦ subst (λ (v : Vec Conflict Global). AreListed x.grammar.now x.levels.now a (q + 1) 0 v.items) (sym w.conflicts-is)
           w.in_ok-push_conflicts.ensures
       | else-is_reachable w ↦ subst (λ (v : Vec Conflict Global). AreListed x.grammar.now x.levels.now a (q + 1) 0 v.items) (sym w.conflicts-is)
-          (listed_none_in x.grammar.now x.levels.now a q c.loop-number.conflicts.items c.loop-number.invariant
-          (λ entered t torn. true≢false (sym ((c.in_ok-entered.ensures q).1 entered) ∙ sym c.is_reachable.ensures ∙ w.if-is_reachable.false)))
+          (listed_row x.grammar.now x.levels.now a q c.loop-number.conflicts.items 0 c.loop-number.invariant
+          (λ t low within entered torn. true≢false (sym ((c.in_ok-entered.ensures q).1 entered) ∙ sym c.is_reachable.ensures ∙ w.if-is_reachable.false)))
     ]
 
 pub returns : goal.returns

@@ -2,8 +2,7 @@ use Rattle.std.proofs.Common.{◌≡◌, subst, sym, ◌∙◌}
 use Rattle.std.specs.Map.{lookup}
 use Rattle.indexmap.proofs.CallerLemmas.{insert_entry-new}
 use Rattle.lr_conflicts.specs.contracts.examples.nodes.NodePartialEq.TheImpl.{ghosts as compared}
-use Rattle.lr_conflicts.specs.Inner.Searches.{grammar_of, used_of}
-use Rattle.lr_conflicts.specs.Inner.Tables.{step_of}
+use Rattle.lr_conflicts.specs.Inner.Searches.{setting}
 use Rattle.lr_conflicts.specs.Inner.Ways.{HasNode}
 use Rattle.lr_conflicts.proofs.Found.{finds_known, finds_one}
 use Rattle.lr_conflicts.proofs.Compared.{is_absent, known_step}
@@ -11,14 +10,14 @@ use Rattle.lr_conflicts.proofs.examples.ways.Ways.add.Goals as goal
 
 pub returns-in_ok-insert : goal.returns-in_ok-insert
 returns-in_ok-insert c =
-    let w = c.args.self.now in
+    let w = setting c.args.self.now in
     let absent = is_absent (lookup (compared.eq c.args.node) c.args.found.now.entries) (sym c.contains_key.ensures ∙ c.if-not-contains_key.true) in
-    finds_one (grammar_of w) (used_of w) (step_of w.road) w.token c.args.node c.args.step c.args.found.now.entries c.insert.new.self.entries
+    finds_one w c.args.node c.args.step c.args.found.now.entries c.insert.new.self.entries
     (c.in_ok-insert.ensures.entries ∙ insert_entry-new compared.eq c.args.found.now c.args.node c.args.step absent) c.requires.shown
 
 pub returns-else-not-contains_key : goal.returns-else-not-contains_key
 returns-else-not-contains_key c =
-    let w = c.args.self.now in
+    let w = setting c.args.self.now in
     let known = known_step c.args.node c.args.found.now.entries (sym c.contains_key.ensures ∙ c.if-not-contains_key.false) in
-    finds_known (grammar_of w) (used_of w) (step_of w.road) w.token (λ n. n ≡ c.args.node) c.args.found.now.entries
+    finds_known w (λ n. n ≡ c.args.node) c.args.found.now.entries
     (λ n same. subst (HasNode c.args.found.now.entries) (sym same) known)

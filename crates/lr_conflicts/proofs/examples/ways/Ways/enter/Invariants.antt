@@ -1,11 +1,11 @@
 use Rattle.std.proofs.Common.{◌≡◌, take}
 use Rattle.lr_states.specs.Viable.{item_at}
-use Rattle.lr_conflicts.specs.Inner.Searches.{FindsAll, used_of}
-use Rattle.lr_conflicts.specs.Inner.Ways.{item_node, parent_of}
+use Rattle.lr_conflicts.specs.Inner.Searches.{setting}
+use Rattle.lr_conflicts.specs.Inner.Ways.{Finds, item_node, parent_of}
 use Rattle.lr_conflicts.proofs.Entering.{Among}
 use Rattle.lr_conflicts.proofs.examples.ways.Ways.enter.Given as goal
 
 -- the productions so far are found
 abbrev pub invariant-loop-production : goal.invariant-loop-production
-invariant-loop-production l = FindsAll l.self (parent_of l.step) (Among
-    (λ p n. used_of l.self p.0 × (n ≡ item_node l.place (item_at p.0 0) l.followed)) (take l.production-index l.production-items)) l.fn.found.entries l.found.entries
+invariant-loop-production l = Finds (setting l.self) (parent_of l.step) (Among
+    (λ p n. (setting l.self).Used p × (n ≡ item_node l.place (item_at p 0) l.followed)) (take l.production-index l.production-items)) l.fn.found.entries l.found.entries

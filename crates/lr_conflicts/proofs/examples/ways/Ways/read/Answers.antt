@@ -3,8 +3,7 @@ use Rattle.std.proofs.lemmas.List.{length-map}
 use Rattle.cfgrammar.specs.Numbered.{production_core}
 use Rattle.lr_states.proofs.Stepped.{read_fits}
 use Rattle.cfgrammar.specs.NumberedSymbols.{sym_of}
-use Rattle.lr_conflicts.specs.Inner.Searches.{grammar_of, used_of}
-use Rattle.lr_conflicts.specs.Inner.Tables.{step_of}
+use Rattle.lr_conflicts.specs.Inner.Searches.{setting}
 use Rattle.lr_conflicts.proofs.Shown.{read_shown}
 use Rattle.lr_conflicts.proofs.examples.ways.Ways.read.Goals as goal
 
@@ -17,11 +16,11 @@ overflow_add-item c =
 
 pub add-requires : goal.add-requires
 add-requires c =
-    let w = c.args.self.now in
+    let w = setting c.args.self.now in
     let at = c.args.at in
     record {
       shown = λ prefix after h. (
-        read_shown (grammar_of w) (used_of w) (step_of w.road) w.token at.place c.in-Some.place at.item (sym_of (λ s. s) c.args.symbol) prefix after c.requires.next
+        read_shown w at.place c.in-Some.place at.item (sym_of (λ s. s) c.args.symbol) prefix after c.requires.next
             (sym c.step.ensures ∙ c.in-Some.is) h.0,
         h.1,
       );

@@ -3,8 +3,8 @@ use Rattle.std.proofs.lemmas.Bool.{cases_lt}
 use Rattle.search.proofs.PathGroups.{contains_there}
 use Rattle.lr_conflicts.specs.declared.examples.nodes.Node.{Node}
 use Rattle.lr_conflicts.specs.declared.examples.nodes.Step.{Step}
-use Rattle.lr_conflicts.specs.Inner.Searches.{BeginsBy, FindsAll, grammar_of, used_of}
-use Rattle.lr_conflicts.specs.Inner.Tables.{step_of}
+use Rattle.lr_conflicts.specs.Inner.Searches.{setting}
+use Rattle.lr_conflicts.specs.Inner.Ways.{Begins, Finds}
 use Rattle.lr_conflicts.proofs.Compared.{known_step}
 use Rattle.lr_conflicts.proofs.Explored.{partly_first, partly_more, searched_all, searched_known}
 use Rattle.lr_conflicts.proofs.Walked.{known_shown}
@@ -13,41 +13,41 @@ use Rattle.lr_conflicts.proofs.examples.ways.Ways.searched.Goals.{else-loop-numb
 
 pub loop-number-init : goal.loop-number-init
 loop-number-init c =
-    let w = c.args.self.now in
-    partly_first (grammar_of w) (used_of w) (step_of w.road) w.token c.begin.new.found.entries
-    (subst (λ l. FindsAll w None (BeginsBy w) l c.begin.new.found.entries) c.new-found.ensures.empty c.in_ok-begin.ensures)
+    let w = setting c.args.self.now in
+    partly_first w c.begin.new.found.entries
+    (subst (λ l. Finds w None (Begins w) l c.begin.new.found.entries) c.new-found.ensures.empty c.in_ok-begin.ensures)
 
 pub go_on-requires-clause-shown : goal.go_on-requires-clause-shown
 go_on-requires-clause-shown c =
-    let w = c.args.self.now in
+    let w = setting c.args.self.now in
     let es = c.loop-number.found.entries in
     let i = c.loop-number.number in
     let entry : Node × Step = (c.in-Some.next.now, c.in-Some._step.now) in
-    known_shown (grammar_of w) (used_of w) (step_of w.road) w.token es c.loop-number.invariant.steps entry.0 (entry.1, contains_there es i entry (sym c.in-Some.ensures.entry))
+    known_shown w es c.loop-number.invariant.steps entry.0 (entry.1, contains_there es i entry (sym c.in-Some.ensures.entry))
 
 pub loop-number-preserved : goal.loop-number-preserved
 loop-number-preserved c =
-    let w = c.args.self.now in
+    let w = setting c.args.self.now in
     let es = c.loop-number.found.entries in
     let i = c.loop-number.number in
     let entry : Node × Step = (c.in-Some.next.now, c.in-Some._step.now) in
-    partly_more (grammar_of w) (used_of w) (step_of w.road) w.token i es c.go_on.new.found.entries entry c.loop-number.invariant (sym c.in-Some.ensures.entry) c.in_ok-go_on.ensures
+    partly_more w i es c.go_on.new.found.entries entry c.loop-number.invariant (sym c.in-Some.ensures.entry) c.in_ok-go_on.ensures
 
 pub returns : goal.returns
 returns c =
-    let w = c.args.self.now in
+    let w = setting c.args.self.now in
     let es = c.loop-number.found.entries in
     let i = c.loop-number.number in
     elim c.loop-number-test.branch [
-      | else-loop-number-test v ↦ searched_all (grammar_of w) (used_of w) (step_of w.road) w.token c.args.node i es c.loop-number.invariant
+      | else-loop-number-test v ↦ searched_all w c.args.node i es c.loop-number.invariant
           (omega (arith, c.len-count.ensures.len, c.len-count.ensures.small, v.loop-number-test.false))
       | then-loop-number-test+then-contains_key v ↦
-          searched_known (grammar_of w) (used_of w) (step_of w.road) w.token c.args.node i es c.loop-number.invariant
+          searched_known w c.args.node i es c.loop-number.invariant
           (known_step c.args.node es (sym v.contains_key.ensures ∙ v.if-contains_key.true))
       | then-loop-number-test+else-contains_key+in_default v ↦
           let most : length es ≤ i = elim (cases_lt i (length es)) [
             | inl within ↦ absurd (true≢false (sym (v.get_index.ensures.found.1 within) ∙ ap is_some v.in_default.is))
             | inr past ↦ past
           ] in
-          searched_all (grammar_of w) (used_of w) (step_of w.road) w.token c.args.node i es c.loop-number.invariant most
+          searched_all w c.args.node i es c.loop-number.invariant most
     ]

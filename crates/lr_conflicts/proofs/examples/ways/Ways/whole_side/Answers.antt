@@ -4,8 +4,7 @@ use Rattle.std.proofs.lemmas.List.{length-map}
 use Rattle.cfgrammar.specs.Numbered.{production_core}
 use Rattle.lr_conflicts.specs.declared.examples.nodes.Node.TheVariants as nodes
 use Rattle.lr_conflicts.specs.contracts.examples.nodes.NodePartialEq.TheImpl.{ghosts as compared}
-use Rattle.lr_conflicts.specs.Inner.Searches.{grammar_of, used_of}
-use Rattle.lr_conflicts.specs.Inner.Tables.{step_of}
+use Rattle.lr_conflicts.specs.Inner.Searches.{setting}
 use Rattle.lr_conflicts.proofs.Compared.{is_absent, known_step, none_known}
 use Rattle.lr_conflicts.proofs.Showing.{f}
 use Rattle.lr_conflicts.proofs.Sides.{whole_shown}
@@ -14,18 +13,18 @@ use Rattle.lr_conflicts.proofs.examples.ways.Ways.whole_side.Goals as goal
 
 pub unread-requires-clause-within : goal.unread-requires-clause-within
 unread-requires-clause-within c =
-    let w = c.args.self.now in
+    let w = setting c.args.self.now in
     let es = c.in_ok-found.found.entries in
     let known = known_step (nodes.Item c.args.at) es (sym c.contains_key.ensures ∙ c.if-not-contains_key.false) in
-    let shown = known_shown (grammar_of w) (used_of w) (step_of w.road) w.token es c.in_ok-found.ensures.steps (nodes.Item c.args.at) known in
-    subst (λ n. c.args.at.item.production < n) (length-map w.grammar.now.productions production_core) shown.shown.0.used.within
+    let shown = known_shown w es c.in_ok-found.ensures.steps (nodes.Item c.args.at) known in
+    subst (λ n. c.args.at.item.production < n) (length-map c.args.self.now.grammar.now.productions production_core) shown.shown.0.used.within
 
 pub unread-requires-clause-read : goal.unread-requires-clause-read
 unread-requires-clause-read c =
-    let w = c.args.self.now in
+    let w = setting c.args.self.now in
     let es = c.in_ok-found.found.entries in
     let known = known_step (nodes.Item c.args.at) es (sym c.contains_key.ensures ∙ c.if-not-contains_key.false) in
-    (known_shown (grammar_of w) (used_of w) (step_of w.road) w.token es c.in_ok-found.ensures.steps (nodes.Item c.args.at) known).shown.0.read
+    (known_shown w es c.in_ok-found.ensures.steps (nodes.Item c.args.at) known).shown.0.read
 
 pub side-requires-clause-there : goal.side-requires-clause-there
 side-requires-clause-there c = known_step (nodes.Item c.args.at) c.in_ok-found.found.entries (sym c.contains_key.ensures ∙ c.if-not-contains_key.false)
@@ -39,5 +38,5 @@ returns-then-not-contains_key c = λ reached.
 
 pub returns : goal.returns
 returns c =
-    let w = c.args.self.now in
-    whole_shown (grammar_of w) (used_of w) (step_of w.road) w.token c.args.at (map f c.unread.result.now) c.in_ok-side.field-0 c.unread.ensures c.in_ok-side.ensures
+    let w = setting c.args.self.now in
+    whole_shown w c.args.at (map f c.unread.result.now) c.in_ok-side.field-0 c.unread.ensures c.in_ok-side.ensures
