@@ -8,7 +8,7 @@ use Rattle.cfgrammar.specs.Grammar.{Sym, Rule, Token}
 use Rattle.lr_states.proofs.Spines.{slice_at}
 use Rattle.lr_conflicts.specs.Inner.Tables.{along, is_at, is_symbol}
 use Rattle.lr_conflicts.specs.Inner.Ways.{run}
-use Rattle.lr_conflicts.proofs.Runs.{none_some, run_first}
+use Rattle.lr_conflicts.proofs.Runs.{run_first}
 
 pub symbols_same : (a b : Sym) → is_symbol a b ≡ true → a ≡ b
 symbols_same (Rule a) (Rule b) h = ap Rule ((Decides-eqb a b).0 h)
@@ -22,14 +22,14 @@ symbol_itself (Token a) = (Decides-eqb a a).1 refl
 
 -- a step along a list goes over the symbol there
 step_by : (q r : ℕ) (x y : Sym) (b : Bool) → is_symbol y x ≡ b → cond b (Some (q + 1)) None ≡ Some r → (y ≡ x) × (q + 1 ≡ r)
-step_by q r x y false is e = none_some e
+step_by q r x y false is e = absurd (cc)
 step_by q r x y true is e = (symbols_same y x is, (cc))
 
 step_over : (list : List Sym) (q r : ℕ) (x : Sym) → along list q x ≡ Some r → (slice_get list q ≡ Some x) × (q + 1 ≡ r)
 step_over list q r x e = go (slice_get list q) refl e
   where
     go : (o : Option Sym) → slice_get list q ≡ o → cond (is_at o x) (Some (q + 1)) None ≡ Some r → (slice_get list q ≡ Some x) × (q + 1 ≡ r)
-    go None is e = none_some e
+    go None is e = absurd (cc)
     go (Some y) is e = let (same, next) = step_by q r x y (is_symbol y x) refl e in (is ∙ ap Some same, next)
 
 run_over : (list : List Sym) (q r : ℕ) (symbols : List Sym) → run (along list) q symbols ≡ Some r → take q list ++ symbols ≡ take r list

@@ -15,7 +15,6 @@ use Rattle.lr_conflicts.specs.declared.examples.nodes.Step.{Step}
 use Rattle.lr_conflicts.specs.declared.examples.nodes.Node.TheVariants.{Item, Opened}
 use Rattle.lr_conflicts.specs.Inner.Ways.{HasNode}
 use Rattle.lr_conflicts.specs.contracts.examples.nodes.NodePartialEq.TheImpl.{ghosts as compared}
-use Rattle.lr_conflicts.proofs.Runs.{none_some}
 
 items_Compare : (a b : ItemAt) → Decides (compared.eq (Item a) (Item b)) (a ≡ b)
 items_Compare a b = Decides-like _
@@ -47,10 +46,6 @@ known_step node es there = go (lookup (compared.eq node) es) refl there
     go None is some = absurd (true≢false (sym some))
     go (Some s) is some = (s, Contains-from_lookup nodes_same node s es is)
 
-pub is_absent : {A : Type 0} (o : Option A) → is_some o ≡ false → o ≡ None
-is_absent None none = refl
-is_absent (Some x) none = absurd (true≢false none)
-
 -- a node that is there is found
 pub none_known : (node : Node) (s : Step) (es : List (Node × Step)) → Contains es (node, s) → lookup (compared.eq node) es ≡ None → ⊥
 none_known node s [] there none = contains_none (node, s) there
@@ -69,7 +64,7 @@ before (e ∷ es) node = if compared.eq node e.0 then 0 else suc (before es node
 
 -- a node that is looked up comes after those
 pub at_before : (node : Node) (s : Step) (es : List (Node × Step)) → lookup (compared.eq node) es ≡ Some s → slice_get es (before es node) ≡ Some (node, s)
-at_before node s [] is = none_some is
+at_before node s [] is = absurd (cc)
 at_before node s (e ∷ es) is = go (compared.eq node e.0) refl is (at_before node s es)
   where
     go : (b : Bool) → compared.eq node e.0 ≡ b → (if b then Some e.1 else lookup (compared.eq node) es) ≡ Some s

@@ -1,5 +1,6 @@
 -- The symbols of lists that the start rule derives.
 use Rattle.std.proofs.Common.{◌≡◌, inl, inr, ℕ, List, [], ◌∷◌, ◌++◌, Some, Contains, drop, length, length-append, refl, sym, ap, subst, take, take-append-drop, ◌∙◌, arith}
+use Rattle.std.proofs.lemmas.List.{nil_from_length}
 use Rattle.std.proofs.lemmas.List.Elements.{Contains-append_cases, Contains-append_left, Contains-append_right}
 use Rattle.std.proofs.lemmas.Option.{slice_get-get_or}
 use Rattle.cfgrammar.specs.Grammar.{Grammar, IsGrammar, IsSymbolOf, Sym, Rule}
@@ -52,16 +53,12 @@ module _ (g : Grammar) (Used : ℕ → Type 0) where
               (subst (λ l. Contains l s) (take-append-drop item.read list) (Contains-append_left (take item.read list) (drop item.read list) s read))
         ]
 
-  empty_list : (list : List Sym) → length list ≡ 0 → list ≡ []
-  empty_list [] e = refl
-  empty_list (s ∷ list) e = absurd (omega (arith, e))
-
   -- nothing is beside the only symbol
   alone : (s : Sym) (before after : List Sym) (x : Sym) → s ∷ [] ≡ before ++ x ∷ after → (before ≡ []) × (after ≡ [])
   alone s before after x e =
       let long = ap length e in
       let parts = length-append before (x ∷ after) in
-      (empty_list before (omega (arith, long, parts)), empty_list after (omega (arith, long, parts)))
+      (nil_from_length before (omega (arith, long, parts)), nil_from_length after (omega (arith, long, parts)))
 
   -- if no production has the start rule, nothing is beside it
   pub start_alone : IsStartApart g → (before after : List Sym) → Derives P (Rule 0 ∷ []) (before ++ Rule 0 ∷ after) → after ≡ []

@@ -1,9 +1,9 @@
 -- Whatever a derivation shows is reached.
-use Rattle.std.proofs.Common.{◌≡◌, ℕ, zero, suc, ◌+◌, ◌<◌, ◌≤◌, Bool, true, false, IsTrue, List, [], ◌∷◌, ◌++◌, Option, Some, slice_get, drop, length, take, append_assoc, length-append, add-one, refl, sym, ap, subst, ◌∙◌, arith}
+use Rattle.std.proofs.Common.{◌≡◌, ℕ, zero, suc, ◌+◌, ◌<◌, ◌≤◌, Bool, true, false, IsTrue, List, [], ◌∷◌, ◌++◌, Some, slice_get, drop, length, take, append_assoc, length-append, add-one, refl, sym, ap, subst, ◌∙◌, arith}
 use Rattle.std.proofs.lemmas.List.{take_at, take_more, drop_at, length_push}
 use Rattle.std.proofs.lemmas.Option.{get_or_from_slice_get}
 use Rattle.search.specs.Reachable.{led, seed}
-use Rattle.cfgrammar.specs.Grammar.{Grammar, Sym, Rule, Token}
+use Rattle.cfgrammar.specs.Grammar.{Sym, Rule, Token}
 use Rattle.cfgrammar.specs.Derivation.{Derives}
 use Rattle.cfgrammar.specs.First.{Nullable}
 use Rattle.cfgrammar.specs.FirstSets.{Begins, IsClosed}
@@ -18,7 +18,7 @@ use Rattle.lr_states.proofs.Firsts.{SymbolBegins, begins_in, begins_none, begins
 use Rattle.lr_conflicts.specs.declared.examples.nodes.Node.{Node}
 use Rattle.lr_conflicts.specs.Inner.Ways.{ByNext, ByShown, IsReached, Setting, back_of, item_node, opened_node, run}
 use Rattle.lr_conflicts.specs.Inner.Ways as ways
-use Rattle.lr_conflicts.proofs.Runs.{run_one, run_split}
+use Rattle.lr_conflicts.proofs.Runs.{one_run, run_split}
 
 -- what comes after the symbol at the end of a list
 rest_at : (read rest : List Sym) (x : Sym) → drop (length read + 1) (read ++ x ∷ rest) ≡ rest
@@ -96,7 +96,7 @@ module _ (S : Setting) where
       subst (λ n. R (item_node q (item_at p n) followed)) (add-one i)
       (led (walk m p followed reached i (omega (arith, most)) w.middle w.first)
       (ways.reads x at
-      (record { place = q; leads = sym (run_one S.step (S.step w.middle x)) ∙ w.second; is = refl })))
+      (record { place = q; leads = one_run S.step w.middle q x w.second; is = refl })))
 
   -- the rule of a spine, and if the token may come next, with it
   pub record IsEntered (q rule : ℕ) (after : List Sym) : Type 0 where

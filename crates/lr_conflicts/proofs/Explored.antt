@@ -1,16 +1,14 @@
 -- What a search has found when it has gone on from the first nodes that it found.
-use Rattle.std.proofs.Common.{◌≡◌, inl, inr, ℕ, ◌+◌, ◌<◌, ◌≤◌, List, [], ◌++◌, Option, None, Some, Contains, length, slice_get, sym, ap, subst, ◌∙◌, arith}
+use Rattle.std.proofs.Common.{◌≡◌, inl, inr, ℕ, ◌+◌, ◌<◌, ◌≤◌, List, [], ◌++◌, None, Some, Contains, length, slice_get, sym, ap, subst, ◌∙◌, arith}
 use Rattle.std.proofs.lemmas.Bool.{cases_lt}
 use Rattle.std.proofs.lemmas.List.Elements.{Contains-append_cases}
 use Rattle.std.proofs.lemmas.Option.{slice_get-get_or, slice_get_within}
 use Rattle.search.specs.Reachable.{led, seed}
 use Rattle.search.proofs.PathGroups.{contains_there, slice_get_cases, slice_get_left}
-use Rattle.cfgrammar.specs.Grammar.{Grammar, Sym}
 use Rattle.lr_conflicts.specs.declared.examples.nodes.Node.{Node}
 use Rattle.lr_conflicts.specs.declared.examples.nodes.Step.{Step}
 use Rattle.lr_conflicts.specs.Inner.Ways.{AreSteps, Begins, Finds, HasNode, IsFoundBefore, IsReached, IsSearched, Leads, Setting}
 use Rattle.lr_conflicts.proofs.Found.{kept}
-use Rattle.lr_conflicts.proofs.Runs.{none_some}
 
 module _ (S : Setting) where
   -- what the first nodes lead to is there
@@ -24,7 +22,7 @@ module _ (S : Setting) where
   partly_first es w = record {
     steps = record {
       shown = λ n s h. w.shown n s (subst (λ l. Contains l (n, s)) w.is h);
-      parent = λ k n s at m is. none_some (sym (w.parent n s (subst (λ l. Contains l (n, s)) w.is (contains_there es k (n, s) at))) ∙ is);
+      parent = λ k n s at m is. absurd (cc (sym (w.parent n s (subst (λ l. Contains l (n, s)) w.is (contains_there es k (n, s) at))) ∙ is));
     };
     begun = w.found;
     led = λ k low. absurd (omega (arith, low));

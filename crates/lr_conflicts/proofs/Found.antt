@@ -1,8 +1,7 @@
 -- What is found, step by step.
-use Rattle.std.proofs.Common.{◌≡◌, ℕ, ◌⊎◌, inl, inr, List, [], ◌∷◌, ◌++◌, Option, Contains, append-nil, append_assoc, sym, ap, subst, ◌∙◌}
+use Rattle.std.proofs.Common.{◌≡◌, ◌⊎◌, inl, inr, List, [], ◌∷◌, ◌++◌, Option, Contains, append-nil, append_assoc, sym, ap, subst, ◌∙◌}
 use Rattle.std.proofs.lemmas.List.Elements.{Contains-append_cases, Contains-append_left, Contains-push}
 use Rattle.cfgrammar.proofs.Contained.{contains_cases, contains_none}
-use Rattle.cfgrammar.specs.Grammar.{Grammar, Sym}
 use Rattle.lr_conflicts.specs.declared.examples.nodes.Node.{Node}
 use Rattle.lr_conflicts.specs.declared.examples.nodes.Step.{Step}
 use Rattle.lr_conflicts.specs.Inner.Ways.{EachMade, Finds, HasNode, Setting, Shown, parent_of}

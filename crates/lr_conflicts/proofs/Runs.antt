@@ -1,24 +1,23 @@
 -- Where symbols lead from a place.
-use Rattle.std.proofs.Common.{◌≡◌, ℕ, List, [], ◌∷◌, ◌++◌, Option, None, Some, refl, ap, ◌∙◌, true≢false}
-use Rattle.std.specs.Prelude.{is_none}
+use Rattle.std.proofs.Common.{◌≡◌, ℕ, List, [], ◌∷◌, ◌++◌, Option, None, Some, refl, sym, ap, ◌∙◌}
 use Rattle.std.specs.Option.{option_and_then}
 use Rattle.cfgrammar.specs.Grammar.{Sym}
 use Rattle.lr_conflicts.specs.Inner.Ways.{run}
 
-pub none_some : {A B : Type 0} {x : B} → None ≡ Some x → A
-none_some e = absurd (true≢false (ap is_none e))
-
 module _ (step : ℕ → Sym → Option ℕ) where
-  pub run_one : (o : Option ℕ) → option_and_then (λ r. run step r []) o ≡ o
+  run_one : (o : Option ℕ) → option_and_then (λ r. run step r []) o ≡ o
   run_one None = refl
   run_one (Some r) = refl
+
+  pub one_run : (q r : ℕ) (x : Sym) → run step q (x ∷ []) ≡ Some r → step q x ≡ Some r
+  one_run q r x e = sym (run_one (step q x)) ∙ e
 
   -- the first symbol leads somewhere, and the others on from there
   pub run_first : (q r : ℕ) (x : Sym) (list : List Sym) → run step q (x ∷ list) ≡ Some r → (m : ℕ) × (step q x ≡ Some m) × (run step m list ≡ Some r)
   run_first q r x list e = go (step q x) refl e
     where
       go : (o : Option ℕ) → step q x ≡ o → option_and_then (λ m. run step m list) o ≡ Some r → (m : ℕ) × (step q x ≡ Some m) × (run step m list ≡ Some r)
-      go None is e = none_some e
+      go None is e = absurd (cc)
       go (Some m) is e = (m, is, e)
 
   -- one symbol more

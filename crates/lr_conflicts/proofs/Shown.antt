@@ -1,6 +1,6 @@
 -- What sides show: where nodes lead, what is derived there.
-use Rattle.std.proofs.Common.{◌≡◌, ℕ, ◌+◌, List, [], ◌∷◌, ◌++◌, Option, Some, append-nil, append_assoc, take-append-drop, drop, map, take, refl, sym, ap, subst, ◌∙◌, arith}
-use Rattle.cfgrammar.specs.Grammar.{Grammar, Sym, Rule}
+use Rattle.std.proofs.Common.{◌≡◌, ℕ, ◌+◌, List, [], ◌∷◌, ◌++◌, Some, append-nil, append_assoc, take-append-drop, drop, map, take, refl, sym, ap, subst, ◌∙◌, arith}
+use Rattle.cfgrammar.specs.Grammar.{Sym, Rule}
 use Rattle.cfgrammar.specs.Derivation.{Derives, none}
 use Rattle.cfgrammar.specs.NumberedSymbols.{sym_of}
 use Rattle.cfgrammar.specs.Openings.{nth_production}

@@ -18,7 +18,6 @@ use Rattle.lr_conflicts.specs.declared.examples.nodes.Node.TheVariants as nodes
 use Rattle.lr_conflicts.specs.Examples.{BeginsAt, IsSide, IsStartApart, ends, rest_of, token}
 use Rattle.lr_conflicts.specs.Inner.Ways.{IsSideAt, IsSideWith, Setting}
 use Rattle.lr_conflicts.proofs.Derived.{start_alone}
-use Rattle.lr_conflicts.proofs.Runs.{none_some}
 
 -- with what isn't read of the item's production
 pub whole_shown : (S : Setting) (x : ItemAt) (unread : List Sym) (side : Side)
@@ -58,7 +57,7 @@ start_rule g is = go (slice_get g.productions g.start_production) refl is.start_
   where
     go : (o : Option NumberedProduction) → slice_get g.productions g.start_production ≡ o → option_map (λ (p : NumberedProduction). p.rule) o ≡ Some 0
         → (nth_production (core g) g.start_production).rule ≡ 0
-    go None is e = none_some e
+    go None is e = absurd (cc)
     go (Some p) is e =
         let own : p.rule ≡ 0 = cc in
         let at : slice_get (map production_core g.productions) g.start_production ≡ Some (production_core p) =

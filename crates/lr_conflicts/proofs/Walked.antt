@@ -1,12 +1,12 @@
 -- What the steps of a way make, walked back from its last node.
-use Rattle.std.proofs.Common.{Bor, ◌≡◌, ℕ, zero, suc, ◌<◌, List, [], ◌∷◌, ◌++◌, Option, Some, Contains, append-nil, append_assoc, map, reverse, slice_get, refl, sym, ap, subst, ◌∙◌, arith}
+use Rattle.std.proofs.Common.{Bor, ◌≡◌, ℕ, zero, suc, ◌<◌, List, [], ◌∷◌, ◌++◌, Some, Contains, append-nil, append_assoc, map, reverse, slice_get, refl, sym, ap, subst, ◌∙◌, arith}
 use Rattle.std.specs.Map.{lookup}
 use Rattle.std.proofs.lemmas.List.{map-append, map_push, reverse-append}
 use Rattle.std.proofs.lemmas.Map.Views.{Contains-from_lookup}
 use Rattle.indexmap.proofs.ReorderLemmas.{map-reverse}
 use Rattle.search.proofs.PathGroups.{contains_at, contains_there}
 use Rattle.cfgindex.specs.declared.idxnewtype.Symbol.{Symbol}
-use Rattle.cfgrammar.specs.Grammar.{Grammar, Sym}
+use Rattle.cfgrammar.specs.Grammar.{Sym}
 use Rattle.lr_conflicts.specs.declared.examples.Side.{Side}
 use Rattle.lr_conflicts.specs.declared.examples.nodes.Node.{Node}
 use Rattle.lr_conflicts.specs.declared.examples.nodes.Step.{Step}

@@ -1,5 +1,4 @@
 -- What a search for ways goes by.
-use Rattle.std.specs.Prelude.{ℕ}
 use Rattle.cfgrammar.specs.Grammar.{Grammar}
 use Rattle.cfgrammar.specs.Numbered.{core}
 use Rattle.lr_states.specs.Viable.{IsUsed}

@@ -6,14 +6,13 @@ use Rattle.lr_conflicts.specs.declared.examples.nodes.Node.TheVariants as nodes
 use Rattle.lr_conflicts.specs.Inner.Searches.{setting}
 use Rattle.lr_conflicts.specs.Inner.Ways.{Leads, Opens, Reads, opens, reads}
 use Rattle.lr_conflicts.proofs.Found.{finds_none, finds_then}
-use Rattle.lr_conflicts.proofs.Runs.{none_some}
 use Rattle.lr_conflicts.proofs.examples.ways.Ways.go_on_item.Goals as goal
 
 pub returns-in_default : goal.returns-in_default
 returns-in_default c =
     let w = setting c.args.self.now in
     finds_none w (Leads w (nodes.Item c.args.at)) _
-    (λ n h. elim h [ reads symbol next r ↦ none_some (c.in_default.ensures.is ∙ next) | opens rule next o ↦ none_some (c.in_default.ensures.is ∙ next) ])
+    (λ n h. elim h [ reads symbol next r ↦ absurd (cc (c.in_default.ensures.is ∙ next)) | opens rule next o ↦ absurd (cc (c.in_default.ensures.is ∙ next)) ])
 
 pub returns-in-Rule : goal.returns-in-Rule
 returns-in-Rule c =

@@ -2,10 +2,11 @@ use Rattle.std.proofs.Common.{◌<◌, map, subst, sym, ◌∙◌}
 use Rattle.std.specs.Map.{lookup}
 use Rattle.std.proofs.lemmas.List.{length-map}
 use Rattle.cfgrammar.specs.Numbered.{production_core}
+use Rattle.lemmas.proofs.Options.{None-from_is_some}
 use Rattle.lr_conflicts.specs.declared.examples.nodes.Node.TheVariants as nodes
 use Rattle.lr_conflicts.specs.contracts.examples.nodes.NodePartialEq.TheImpl.{ghosts as compared}
 use Rattle.lr_conflicts.specs.Inner.Searches.{setting}
-use Rattle.lr_conflicts.proofs.Compared.{is_absent, known_step, none_known}
+use Rattle.lr_conflicts.proofs.Compared.{known_step, none_known}
 use Rattle.lr_conflicts.proofs.Showing.{f}
 use Rattle.lr_conflicts.proofs.Sides.{whole_shown}
 use Rattle.lr_conflicts.proofs.Walked.{known_shown}
@@ -34,7 +35,7 @@ returns-then-not-contains_key c = λ reached.
     let node = nodes.Item c.args.at in
     let es = c.in_ok-found.found.entries in
     let there = c.in_ok-found.ensures.has reached in
-    none_known node there.0 es there.1 (is_absent (lookup (compared.eq node) es) (sym c.contains_key.ensures ∙ c.if-not-contains_key.true))
+    none_known node there.0 es there.1 (None-from_is_some (lookup (compared.eq node) es) (sym c.contains_key.ensures ∙ c.if-not-contains_key.true))
 
 pub returns : goal.returns
 returns c =
