@@ -1,18 +1,16 @@
--- An annotation and a result are one line each.
-use Rattle.std.proofs.Common.{◌≡◌, ℕ, ◌==◌, Bool, true, false, List, [], ◌∷◌, ◌++◌, Option, None, Some, codes, append-nil, append_assoc, get_or, eq-eqb, refl, sym, ◌∙◌, arith}
-use Rattle.std.specs.List.{Contains, flat_map}
+-- An annotation is one line.
+use Rattle.std.proofs.Common.{◌≡◌, ℕ, ◌==◌, true, false, List, [], ◌∷◌, ◌++◌, Option, None, Some, codes, append-nil, append_assoc, get_or, eq-eqb, refl, sym, ◌∙◌, arith}
+use Rattle.std.specs.List.{flat_map}
 use Rattle.std.specs.Char.{encode_utf8}
 use Rattle.std.specs.Fmt.{decimal}
 use Rattle.std.specs.Str.{chars}
 use Rattle.std.proofs.lemmas.List.{get_or_default}
 use Rattle.std.proofs.lemmas.Str.{inside_one}
-use Rattle.serde_json.specs.Written.{compact_text}
 use Rattle.cfgbase.specs.declared.span.Span.{Span}
 use Rattle.cfglines.specs.Lines.{line_number, column}
 use Rattle.cfgjson.specs.Annotations.{IsLine, annotation, command, escaped, escaped_in_property, message_text, note_text, place_properties, position_properties, properties, property_text}
 use Rattle.cfgjson.specs.Objects.{ShownDiagnostic, is_boundary}
-use Rattle.cfgjson.specs.Sarif.{sarif_result}
-use Rattle.cfgjson.proofs.LineTexts.{OneLine, both, decimal_line, either, fixed, value_line}
+use Rattle.cfgjson.proofs.LineTexts.{OneLine, both, decimal_line, either, fixed}
 
 character_line : (c : ℕ) → (c == 10) ≡ false → OneLine (encode_utf8 c)
 character_line c other = record {
@@ -35,12 +33,6 @@ each_line : (shown : ℕ → List ℕ) → ((c : ℕ) → OneLine (shown c)) →
 each_line shown one [] = fixed _ refl
 each_line shown one (c ∷ all) = both (shown c) (flat_map shown all) (one c) (each_line shown one all)
 
-message_line : (text : List ℕ) → OneLine (message_text text)
-message_line text = each_line escaped escaped_line (chars text)
-
-property_line : (text : List ℕ) → OneLine (property_text text)
-property_line text = each_line escaped_in_property escaped_in_property_line (chars text)
-
 position_line : (line_property column_property text : List ℕ) (b : ℕ) → OneLine line_property → OneLine column_property
     → OneLine (position_properties line_property column_property text b)
 position_line line_property column_property text b first second = either (is_boundary text b) _ _
@@ -55,16 +47,12 @@ place_line text (span ∷ spans) = both _ _
     (position_line (codes ",endLine=") (codes ",endColumn=") text span.end (fixed _ refl) (fixed _ refl))
 
 properties_line : (name text : List ℕ) (shown : ShownDiagnostic) → OneLine (properties name text shown)
-properties_line name text shown = both (codes "file=") _ (fixed _ refl) (both (property_text name) _ (property_line name)
-    (both (place_properties text shown.spans) _ (place_line text shown.spans) (both (codes ",title=") _ (fixed _ refl) (property_line shown.kind))))
+properties_line name text shown = both (codes "file=") _ (fixed _ refl) (both (property_text name) _ (each_line _ escaped_in_property_line (chars name))
+    (both (place_properties text shown.spans) _ (place_line text shown.spans) (both (codes ",title=") _ (fixed _ refl) (each_line _ escaped_in_property_line (chars shown.kind)))))
 
 note_line : (hint : Option (List ℕ)) → OneLine (note_text hint)
 note_line None = fixed _ refl
-note_line (Some hint) = both (codes ": ") _ (fixed _ refl) (message_line hint)
-
-command_line : (is_error : Bool) → OneLine (command is_error)
-command_line true = fixed _ refl
-command_line false = fixed _ refl
+note_line (Some hint) = both (codes ": ") _ (fixed _ refl) (each_line _ escaped_line (chars hint))
 
 -- an annotation without the LF at its end
 abbrev annotation_text : List ℕ → List ℕ → ShownDiagnostic → List ℕ
@@ -76,10 +64,7 @@ unfolding annotation
 annotation_is_line name text shown = record {
   line = annotation_text name text shown;
   is = grind (arith, append_assoc);
-  one = (both (codes "::") _ (fixed _ refl) (both (command shown.is_error) _ (command_line shown.is_error)
+  one = (both (codes "::") _ (fixed _ refl) (both (command shown.is_error) _ (either shown.is_error _ _ (fixed _ refl) (λ _. fixed _ refl))
       (both (codes " ") _ (fixed _ refl) (both (properties name text shown) _ (properties_line name text shown)
-      (both (codes "::") _ (fixed _ refl) (both (message_text shown.text) _ (message_line shown.text) (note_line shown.hint))))))).none;
+      (both (codes "::") _ (fixed _ refl) (both (message_text shown.text) _ (each_line _ escaped_line (chars shown.text)) (note_line shown.hint))))))).none;
 }
-
-pub result_has_no_newline : (name text : List ℕ) (shown : ShownDiagnostic) → Contains (compact_text (sarif_result name text shown)) 10 → ⊥
-result_has_no_newline name text shown = (value_line (sarif_result name text shown)).none

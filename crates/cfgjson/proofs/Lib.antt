@@ -3,4 +3,3 @@ pub mod LineTexts
 pub mod Members
 pub mod Places
 pub mod Results
-pub mod Uris

@@ -83,27 +83,24 @@ comma_line true = fixed _ refl
 comma_line false = fixed _ refl
 
 mutual
-  text_line : (value : Data) → OneLine (compact_text value)
-  text_line null = fixed _ refl
-  text_line (boolean true) = fixed _ refl
-  text_line (boolean false) = fixed _ refl
-  text_line (number n) = number_line n
-  text_line (string text) = quoted_line text
-  text_line (array items) = both (91 ∷ []) _ (fixed _ refl) (items_line false items)
-  text_line (object members) = both (123 ∷ []) _ (fixed _ refl) (members_line false members)
+  -- no text of a value has an LF
+  pub value_line : (value : Data) → OneLine (compact_text value)
+  value_line null = fixed _ refl
+  value_line (boolean true) = fixed _ refl
+  value_line (boolean false) = fixed _ refl
+  value_line (number n) = number_line n
+  value_line (string text) = quoted_line text
+  value_line (array items) = both (91 ∷ []) _ (fixed _ refl) (items_line false items)
+  value_line (object members) = both (123 ∷ []) _ (fixed _ refl) (members_line false members)
 
   items_line : (later : Bool) (items : Items) → OneLine (items_text later items)
   items_line later no_items = fixed _ refl
-  items_line later (item value items) = both (comma_if later) _ (comma_line later) (both (compact_text value) _ (text_line value) (items_line true items))
+  items_line later (item value items) = both (comma_if later) _ (comma_line later) (both (compact_text value) _ (value_line value) (items_line true items))
 
   members_line : (later : Bool) (members : Members) → OneLine (members_text later members)
   members_line later no_members = fixed _ refl
   members_line later (member key value members) = both (comma_if later) _ (comma_line later) (both (quoted key) _ (quoted_line key)
-      (both (58 ∷ []) _ (fixed _ refl) (both (compact_text value) _ (text_line value) (members_line true members))))
-
--- no text of a value has an LF
-pub value_line : (value : Data) → OneLine (compact_text value)
-value_line value = text_line value
+      (both (58 ∷ []) _ (fixed _ refl) (both (compact_text value) _ (value_line value) (members_line true members))))
 
 -- what a value's text is, that it reads back, and that it is one line
 pub are_json_lines : {E : Type 0} (r : Result (String Global) E) (value shown : Data) → value ≡ shown → has_float shown ≡ false → depth shown ≤ 127
@@ -116,7 +113,7 @@ are_json_lines (Ok text) value shown is whole shallow texts reads =
     record {
       text = same;
       reads_back = reads (subst (λ (d : Data). depth d ≤ 127) (sym is) shallow) ∙ ap Some is;
-      one_line = λ h. (text_line shown).none (subst (λ (t : List ℕ). Contains t 10) same h);
+      one_line = λ h. (value_line shown).none (subst (λ (t : List ℕ). Contains t 10) same h);
     }
 
 -- the next line follows the first ones

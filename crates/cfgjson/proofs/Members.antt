@@ -2,23 +2,21 @@
 use Rattle.std.proofs.Common.{◌≡◌, ℕ, Bool, true, false, List, map, Option, None, Some, OnOk, Result, Ok, Err, codes, refl}
 use Rattle.serde_json.specs.Data.{Data, Members, array, member, no_members, object, put, string}
 use Rattle.serde_json.specs.View.{items_of}
-use Rattle.cfgbase.specs.declared.span.Span.{Span}
 use Rattle.cfgjson.specs.Objects.{ShownDiagnostic, diagnostic_object, place_of, text_at}
 use Rattle.cfgjson.specs.Sarif.{location}
 use Rattle.cfgjson.specs.Inner.{put_diagnostic, put_file, put_hint, put_region, put_symbols, severity}
 
-in_order : (name text kind said : List ℕ) (is_error : Bool) (hint : Option (List ℕ)) (has : Bool) (spans : List Span)
-    → let shown : ShownDiagnostic = record { is_error = is_error; kind = kind; text = said; hint = hint; spans = spans; has_symbols = has } in
-    object (put_diagnostic name text shown no_members) ≡ diagnostic_object name text shown
-unfolding diagnostic_object
-in_order name text kind said is_error None false spans = refl
-in_order name text kind said is_error None true spans = refl
-in_order name text kind said is_error (Some words) false spans = refl
-in_order name text kind said is_error (Some words) true spans = refl
-
 -- the object of all members of an error or a warning
 pub diagnostic_made : (name text : List ℕ) (shown : ShownDiagnostic) → object (put_diagnostic name text shown no_members) ≡ diagnostic_object name text shown
-diagnostic_made name text shown = in_order name text shown.kind shown.text shown.is_error shown.hint shown.has_symbols shown.spans
+unfolding diagnostic_object
+diagnostic_made name text shown = go shown.hint shown.has_symbols
+  where
+    go : (hint : Option (List ℕ)) (has : Bool) → let shown : ShownDiagnostic = record shown { hint = hint; has_symbols = has } in
+        object (put_diagnostic name text shown no_members) ≡ diagnostic_object name text shown
+    go None false = refl
+    go None true = refl
+    go (Some words) false = refl
+    go (Some words) true = refl
 
 -- the object of a file, with the region of a span if it has one
 pub location_made : (uri : List ℕ) (region : Option Data)

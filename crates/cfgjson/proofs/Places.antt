@@ -10,19 +10,15 @@ use Rattle.serde_json.specs.View.{items_of}
 use Rattle.serde_json.specs.Written.{has_float, items_have_float, members_have_float}
 use Rattle.cfgjson.specs.Objects.{ShownDiagnostic, count, is_boundary, position_of, place_of, diagnostic_object, text_at, with_hint, with_symbols}
 
-pub boundary : (text : List ℕ) (b : ℕ) → IsCharBoundary text b → is_boundary text b ≡ true
-boundary text b at = let past = get_or_past text b 0 in grind (arith, nat_tests)
-
-pub no_boundary : (text : List ℕ) (b : ℕ) → (IsCharBoundary text b → ⊥) → is_boundary text b ≡ false
-no_boundary text b none = let past = get_or_past text b 0 in grind (arith, nat_tests)
-
 pub position-boundary : (text : List ℕ) (b : ℕ) → IsCharBoundary text b → position_of text b ≡ (count (line_number text b), count (column text b))
 unfolding position_of
-position-boundary text b at = rw (boundary text b at) refl
+position-boundary text b at =
+    let is : is_boundary text b ≡ true = grind (arith, nat_tests, get_or_past text b 0) in rw is refl
 
 pub position-none : (text : List ℕ) (b : ℕ) → (IsCharBoundary text b → ⊥) → position_of text b ≡ (null, null)
 unfolding position_of
-position-none text b none = rw (no_boundary text b none) refl
+position-none text b none =
+    let is : is_boundary text b ≡ false = grind (arith, nat_tests, get_or_past text b 0) in rw is refl
 
 -- a number or null
 record IsFlat (value : Data) : Type 0 where
@@ -52,37 +48,30 @@ places_flat text (span ∷ spans) =
     let others = places_flat text spans in
     (omega (arith, one.0, others.0), rw (one.1, others.1) refl)
 
-hint_depth : (hint : Option (List ℕ)) (rest : Members) → members_depth (with_hint hint rest) ≡ members_depth rest
-hint_depth None rest = refl
-hint_depth (Some hint) rest = omega arith
+hint_flat : (hint : Option (List ℕ)) (rest : Members)
+    → (members_depth (with_hint hint rest) ≡ members_depth rest) × (members_have_float (with_hint hint rest) ≡ members_have_float rest)
+hint_flat None rest = (refl, refl)
+hint_flat (Some hint) rest = (omega arith, refl)
 
-hint_whole : (hint : Option (List ℕ)) (rest : Members) → members_have_float (with_hint hint rest) ≡ members_have_float rest
-hint_whole None rest = refl
-hint_whole (Some hint) rest = refl
-
-symbols_flat : (symbols : List (List ℕ))
+names_flat : (symbols : List (List ℕ))
     → (items_depth (items_of (map string symbols)) ≡ 0) × (items_have_float (items_of (map string symbols)) ≡ false)
-symbols_flat [] = (refl, refl)
-symbols_flat (symbol ∷ symbols) =
-    let others = symbols_flat symbols in (rw (others.0) refl, rw (others.1) refl)
+names_flat [] = (refl, refl)
+names_flat (symbol ∷ symbols) =
+    let others = names_flat symbols in (rw (others.0) refl, rw (others.1) refl)
 
-symbols_depth : (has : Bool) (symbols : List (List ℕ)) (rest : Members)
-    → members_depth (with_symbols has symbols rest) ≤ 1 + members_depth rest
-symbols_depth false symbols rest = omega arith
-symbols_depth true symbols rest = rw ((symbols_flat symbols).0) (omega arith)
-
-symbols_whole : (has : Bool) (symbols : List (List ℕ)) (rest : Members)
-    → members_have_float (with_symbols has symbols rest) ≡ members_have_float rest
-symbols_whole false symbols rest = refl
-symbols_whole true symbols rest = rw ((symbols_flat symbols).1) refl
+symbols_flat : (has : Bool) (symbols : List (List ℕ)) (rest : Members)
+    → (members_depth (with_symbols has symbols rest) ≤ 1 + members_depth rest) × (members_have_float (with_symbols has symbols rest) ≡ members_have_float rest)
+symbols_flat false symbols rest = (omega arith, refl)
+symbols_flat true symbols rest =
+    let names = names_flat symbols in (rw (names.0) (omega arith), rw (names.1) refl)
 
 pub object_shallow : (name text : List ℕ) (shown : ShownDiagnostic) → depth (diagnostic_object name text shown) ≤ 127
 unfolding diagnostic_object
 object_shallow name text shown =
-    let symbols = symbols_depth shown.has_symbols (map (text_at text) shown.spans) (member (codes "text") (string shown.text) no_members) in
-    rw (hint_depth shown.hint) (omega (arith, (places_flat text shown.spans).0, symbols))
+    let symbols = symbols_flat shown.has_symbols (map (text_at text) shown.spans) (member (codes "text") (string shown.text) no_members) in
+    rw ((hint_flat shown.hint _).0) (omega (arith, (places_flat text shown.spans).0, symbols.0))
 
 pub object_whole : (name text : List ℕ) (shown : ShownDiagnostic) → has_float (diagnostic_object name text shown) ≡ false
 unfolding diagnostic_object
 object_whole name text shown =
-    rw (hint_whole shown.hint, (places_flat text shown.spans).1, symbols_whole shown.has_symbols (map (text_at text) shown.spans)) refl
+    rw ((hint_flat shown.hint _).1, (places_flat text shown.spans).1, (symbols_flat shown.has_symbols (map (text_at text) shown.spans) _).1) refl

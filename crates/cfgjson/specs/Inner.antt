@@ -36,13 +36,6 @@ put_place text span members =
     (put_position (codes "end_line") (codes "end_column") (position_of text span.end)
     (put_position (codes "line") (codes "column") (position_of text span.start) members)))
 
--- members with those that each object has
-abbrev pub put_own : List ℕ → List ℕ → ShownDiagnostic → Members → Members
-put_own name text shown members =
-    put (codes "places") (array (items_of (map (place_of text) shown.spans)))
-    (put (codes "text") (string shown.text) (put (codes "kind") (string shown.kind)
-    (put (codes "severity") (string (severity shown.is_error)) (put (codes "file") (string name) members))))
-
 -- members with a note, if there is one, and with symbols, if there are any
 abbrev pub put_hint : Option (List ℕ) → Members → Members
 put_hint hint members = option_map_or (λ words. put (codes "hint") (string words) members) hint members
@@ -51,10 +44,13 @@ abbrev pub put_symbols : Bool → List (List ℕ) → Members → Members
 put_symbols has_symbols symbols members =
     if has_symbols then put (codes "symbols") (array (items_of (map string symbols))) members else members
 
--- members with all of these
+-- members with those of an error or a warning
 abbrev pub put_diagnostic : List ℕ → List ℕ → ShownDiagnostic → Members → Members
 put_diagnostic name text shown members =
-    put_symbols shown.has_symbols (map (text_at text) shown.spans) (put_hint shown.hint (put_own name text shown members))
+    put_symbols shown.has_symbols (map (text_at text) shown.spans) (put_hint shown.hint
+    (put (codes "places") (array (items_of (map (place_of text) shown.spans)))
+    (put (codes "text") (string shown.text) (put (codes "kind") (string shown.kind)
+    (put (codes "severity") (string (severity shown.is_error)) (put (codes "file") (string name) members))))))
 
 -- members with the lines and the columns of a region
 abbrev pub put_ends : ℕ × ℕ → ℕ × ℕ → Members → Members

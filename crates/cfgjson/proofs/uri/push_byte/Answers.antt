@@ -1,7 +1,12 @@
-use Rattle.std.proofs.Common.{rules, ◌<◌, true, sym, ◌∙◌}
+use Rattle.std.proofs.Common.{rules, ◌≡◌, ℕ, ◌<◌, ◌/◌, ◌%◌, true, false, [], ◌∷◌, refl, sym, ◌∙◌}
+use Rattle.std.specs.Fmt.{digit_glyph}
 use Rattle.std.proofs.lemmas.Fmt.{hex_byte}
-use Rattle.cfgjson.proofs.Uris.{byte_escaped}
+use Rattle.cfgjson.specs.Sarif.{is_kept, uri_byte}
 use Rattle.cfgjson.proofs.uri.push_byte.Goals as goal
+
+byte_escaped : (byte : ℕ) → is_kept byte ≡ false → uri_byte byte ≡ 37 ∷ digit_glyph true (byte / 16) ∷ digit_glyph true (byte % 16) ∷ []
+unfolding uri_byte
+byte_escaped byte other = rw other refl
 
 pub returns-else-is_kept : goal.returns-else-is_kept
 returns-else-is_kept c =
