@@ -4,7 +4,6 @@ ghost use Rattle.std.specs.Prelude.{◌≡◌, IfOk, codes, map};
 ghost use Rattle.std.specs.List.{count_by};
 ghost use Rattle.std.specs.Option.{option_map_or};
 ghost use Rattle.std.specs.Str.{bytes_eq};
-ghost use Rattle.cfglint_shell.specs.declared.usage.ValueOption.TheVariants as value_option;
 ghost use Rattle.cfglint_shell.specs.Inner.{options_view, requested_view, step_view, usage_error_view};
 ghost use Rattle.cfglint_shell.specs.Requests.{at_end, has_summary, is_option, name_of, no_options, requested};
 ghost use Rattle.cfglint_shell.specs.Requests.{requested_files};
@@ -214,11 +213,41 @@ impl<'a> Options<'a> {
         ensures { step_view (options_view self.new) result ≡ with_value (options_view self.old) option value.now }
     {
         match option {
-            ValueOption::Kind => self.take_kind(value),
-            ValueOption::DefaultKind => self.take_default_kind(value),
-            ValueOption::Format => self.take_format(value),
-            ValueOption::Columns => self.take_columns(value),
-            ValueOption::Color => self.take_color(value),
+            ValueOption::Kind => {
+                let Some(kind) = KindRequest::of_word(value) else {
+                    return Step::Stops(Stop::Wrong(UsageError::UnknownKind(value)));
+                };
+                self.lint.kind = Some(kind);
+                Step::Goes(Expected::Argument)
+            }
+            ValueOption::DefaultKind => {
+                let Some(KindRequest::Named(kind)) = KindRequest::of_word(value) else {
+                    return Step::Stops(Stop::Wrong(UsageError::UnknownDefaultKind(value)));
+                };
+                self.lint.default_kind = Some(kind);
+                Step::Goes(Expected::Argument)
+            }
+            ValueOption::Format => {
+                let Some(format) = Format::of_word(value) else {
+                    return Step::Stops(Stop::Wrong(UsageError::UnknownFormat(value)));
+                };
+                self.lint.format = format;
+                Step::Goes(Expected::Argument)
+            }
+            ValueOption::Columns => {
+                let Some(unit) = unit_of_word(value) else {
+                    return Step::Stops(Stop::Wrong(UsageError::UnknownUnit(value)));
+                };
+                self.lint.columns = unit;
+                Step::Goes(Expected::Argument)
+            }
+            ValueOption::Color => {
+                let Some(choice) = ColorChoice::of_word(value) else {
+                    return Step::Stops(Stop::Wrong(UsageError::UnknownColor(value)));
+                };
+                self.lint.colors = choice.colors(self.lint.colors);
+                Step::Goes(Expected::Argument)
+            }
             ValueOption::Allow => self.take_level(value, Level::Allow),
             ValueOption::Warn => self.take_level(value, Level::Warn),
             ValueOption::Deny => self.take_level(value, Level::Deny),
@@ -227,66 +256,6 @@ impl<'a> Options<'a> {
                 Step::Goes(Expected::Argument)
             }
         }
-    }
-
-    /// Takes the kind that files are read as.
-    fn take_kind(&mut self, value: &'a str) -> Step<'a>
-        ensures { step_view (options_view self.new) result
-            ≡ with_value (options_view self.old) value_option.Kind value.now }
-    {
-        let Some(kind) = KindRequest::of_word(value) else {
-            return Step::Stops(Stop::Wrong(UsageError::UnknownKind(value)));
-        };
-        self.lint.kind = Some(kind);
-        Step::Goes(Expected::Argument)
-    }
-
-    /// Takes the kind of files that name none themselves.
-    fn take_default_kind(&mut self, value: &'a str) -> Step<'a>
-        ensures { step_view (options_view self.new) result
-            ≡ with_value (options_view self.old) value_option.DefaultKind value.now }
-    {
-        let Some(KindRequest::Named(kind)) = KindRequest::of_word(value) else {
-            return Step::Stops(Stop::Wrong(UsageError::UnknownDefaultKind(value)));
-        };
-        self.lint.default_kind = Some(kind);
-        Step::Goes(Expected::Argument)
-    }
-
-    /// Takes the format of what is reported.
-    fn take_format(&mut self, value: &'a str) -> Step<'a>
-        ensures { step_view (options_view self.new) result
-            ≡ with_value (options_view self.old) value_option.Format value.now }
-    {
-        let Some(format) = Format::of_word(value) else {
-            return Step::Stops(Stop::Wrong(UsageError::UnknownFormat(value)));
-        };
-        self.lint.format = format;
-        Step::Goes(Expected::Argument)
-    }
-
-    /// Takes what columns count.
-    fn take_columns(&mut self, value: &'a str) -> Step<'a>
-        ensures { step_view (options_view self.new) result
-            ≡ with_value (options_view self.old) value_option.Columns value.now }
-    {
-        let Some(unit) = unit_of_word(value) else {
-            return Step::Stops(Stop::Wrong(UsageError::UnknownUnit(value)));
-        };
-        self.lint.columns = unit;
-        Step::Goes(Expected::Argument)
-    }
-
-    /// Takes when severities are coloured.
-    fn take_color(&mut self, value: &'a str) -> Step<'a>
-        ensures { step_view (options_view self.new) result
-            ≡ with_value (options_view self.old) value_option.Color value.now }
-    {
-        let Some(choice) = ColorChoice::of_word(value) else {
-            return Step::Stops(Stop::Wrong(UsageError::UnknownColor(value)));
-        };
-        self.lint.colors = choice.colors(self.lint.colors);
-        Step::Goes(Expected::Argument)
     }
 
     /// Takes a kind of finding, or all kinds, to which it gives this level.

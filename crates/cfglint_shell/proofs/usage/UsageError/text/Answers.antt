@@ -6,36 +6,23 @@ use Rattle.cfglint_shell.proofs.usage.UsageError.text.Goals as goal
 
 pub returns-in-UnknownOption : goal.returns-in-UnknownOption
 returns-in-UnknownOption c =
-    let said = ap (λ (error : UsageError). usage_error_text (usage_error_view error) ++ usage) c.in-UnknownOption.is in
-    rw said (subst (λ name. IfOk c.unknown.result (λ text. string_bytes text ≡ unknown_text (codes "option") c.in-UnknownOption.option.now name option_names ++ usage))
+    rw c.in-UnknownOption.is (subst (λ name. IfOk c.unknown.result (λ text. string_bytes text ≡ unknown_text (codes "option") c.in-UnknownOption.option.now name option_names ++ usage))
     c.option_part.ensures c.unknown.ensures)
 
 pub returns-in-UnknownKind : goal.returns-in-UnknownKind
-returns-in-UnknownKind c =
-    let said = ap (λ (error : UsageError). usage_error_text (usage_error_view error) ++ usage) c.in-UnknownKind.is in
-    rw said c.unknown-in-UnknownKind.ensures
+returns-in-UnknownKind c = rw c.in-UnknownKind.is c.unknown-in-UnknownKind.ensures
 
 pub returns-in-UnknownDefaultKind : goal.returns-in-UnknownDefaultKind
-returns-in-UnknownDefaultKind c =
-    let said = ap (λ (error : UsageError). usage_error_text (usage_error_view error) ++ usage) c.in-UnknownDefaultKind.is in
-    rw said c.unknown-in-UnknownDefaultKind.ensures
+returns-in-UnknownDefaultKind c = rw c.in-UnknownDefaultKind.is c.unknown-in-UnknownDefaultKind.ensures
 
 pub returns-in-UnknownFormat : goal.returns-in-UnknownFormat
-returns-in-UnknownFormat c =
-    let said = ap (λ (error : UsageError). usage_error_text (usage_error_view error) ++ usage) c.in-UnknownFormat.is in
-    rw said c.unknown-in-UnknownFormat.ensures
+returns-in-UnknownFormat c = rw c.in-UnknownFormat.is c.unknown-in-UnknownFormat.ensures
 
 pub returns-in-UnknownUnit : goal.returns-in-UnknownUnit
-returns-in-UnknownUnit c =
-    let said = ap (λ (error : UsageError). usage_error_text (usage_error_view error) ++ usage) c.in-UnknownUnit.is in
-    rw said c.unknown-in-UnknownUnit.ensures
+returns-in-UnknownUnit c = rw c.in-UnknownUnit.is c.unknown-in-UnknownUnit.ensures
 
 pub returns-in-UnknownColor : goal.returns-in-UnknownColor
-returns-in-UnknownColor c =
-    let said = ap (λ (error : UsageError). usage_error_text (usage_error_view error) ++ usage) c.in-UnknownColor.is in
-    rw said c.unknown-in-UnknownColor.ensures
+returns-in-UnknownColor c = rw c.in-UnknownColor.is c.unknown-in-UnknownColor.ensures
 
 pub returns-in-UnknownFinding : goal.returns-in-UnknownFinding
-returns-in-UnknownFinding c =
-    let said = ap (λ (error : UsageError). usage_error_text (usage_error_view error) ++ usage) c.in-UnknownFinding.is in
-    rw said c.unknown-in-UnknownFinding.ensures
+returns-in-UnknownFinding c = rw c.in-UnknownFinding.is c.unknown-in-UnknownFinding.ensures
