@@ -1,12 +1,12 @@
 //! Unreachable rules and tokens.
 
-ghost use Rattle.std.specs.Prelude.{◌≡◌, ◌<◌, ◌+◌, ◌↔◌, ℕ, Some, Contains, length, map, option_map, slice_get};
+ghost use Rattle.std.specs.Prelude.{◌≡◌, ◌<◌, ◌+◌, ◌↔◌, ℕ, Some, length, map, option_map, slice_get};
 ghost use Rattle.std.specs.Prelude.{IfOk, IfSome, OnOk};
 ghost use Rattle.std.specs.List.{IsDistinct};
 ghost use Rattle.std.specs.Str.{bytes_eq};
 ghost use Rattle.cfgerrors.specs.Warnings.{warning_at};
 ghost use Rattle.search.specs.Reachable.{FoundBy, Reaches};
-ghost use Rattle.cfgast.specs.Inner.Nodes.{nodes, node_of, RefersAt, IsNodeOf, Knows};
+ghost use Rattle.cfgast.specs.Inner.Nodes.{nodes, RefersAt, IsNodeOf, Knows};
 ghost use Rattle.cfgast.specs.Unused.{RuleName, TokenName, name_of, entry_token, Expected, IsStart, AreWarnings};
 ghost use Rattle.cfgast.specs.Unused.{AreUnused, Name, possible_warnings};
 ghost use Rattle.cfgitems.specs.SyntaxView.{symbol_view, span_entry};
@@ -63,7 +63,7 @@ impl GrammarAST {
 
     // How many nodes there are. No two rules or tokens share a name.
     fn node_count(&self) -> usize
-        ensures count { result ≡ length (nodes (syntax self.now)) }
+        ensures count { result ≡ nodes (syntax self.now) }
         ensures rules { IsDistinct bytes_eq (map (λ rule. rule.0) (syntax self.now).rules) }
         ensures tokens { IsDistinct bytes_eq (syntax self.now).tokens }
     {
@@ -72,7 +72,7 @@ impl GrammarAST {
 
     // The warning that this node would have: the rules are nodes, and after them the tokens.
     fn kind_and_span(&self, node: usize) -> Option<(YaccGrammarWarningKind, Span)>
-        requires { node < length (nodes (syntax self.now)) }
+        requires { node < nodes (syntax self.now) }
         ensures { option_map (λ found. warning_at found.0 found.1) result
             ≡ option_map (λ named. named.1) (slice_get (possible_warnings (syntax self.now)) node) }
     {
@@ -87,16 +87,14 @@ impl GrammarAST {
     fn known(&self, alloc: Global) -> Result<Search, AllocError>
         ensures { IfOk result (Knows (syntax self.now)) }
     {
-        let mut search = Search::through(alloc, self.node_count())?;
-        reach_one(&mut search, self.start_node())?;
-        search.go_on(self)?;
+        let mut search = Search::from_root(alloc, self, self.node_count(), self.start_node())?;
         self.reach_expected(&mut search)?;
         Ok(search)
     }
 
     // Reaches what is expected to be unused.
     fn reach_expected(&self, search: &mut Search) -> Result<(), AllocError>
-        requires { length search.old.reachable ≡ length (nodes (syntax self.now)) }
+        requires { length search.old.reachable ≡ nodes (syntax self.now) }
         ensures { OnOk result (Reaches
             (λ node. (name : Name) × Expected (syntax self.now) name × IsNodeOf (syntax self.now) name node)
             search.old search.new) }
@@ -114,59 +112,46 @@ impl GrammarAST {
         search: &mut Search,
         table: &IndexMap<String, Span>,
     ) -> Result<(), AllocError>
-        requires { length search.old.reachable ≡ length (nodes (syntax self.now)) }
+        requires { length search.old.reachable ≡ nodes (syntax self.now) }
         ensures { OnOk result (Reaches (FoundBy (IsNodeOf (syntax self.now))
             (map entry_token (map span_entry table.now.entries))) search.old search.new) }
     {
         for index in 0..table.len() {
             if let Some((name, _)) = table.get_index(index) {
-                reach_one(search, self.token_node(name))?;
+                search.reach_found(self.token_node(name))?;
             }
         }
         Ok(())
     }
 
     // Reaches what the productions hold.
-    fn reach_all_referred(
-        &self,
-        search: &mut Search,
-        productions: &[usize],
-    ) -> Result<(), AllocError>
-        requires { length search.old.reachable ≡ length (nodes (syntax self.now)) }
+    fn reach_referred(&self, search: &mut Search, productions: &[usize]) -> Result<(), AllocError>
+        requires { length search.old.reachable ≡ nodes (syntax self.now) }
         ensures { OnOk result (Reaches (FoundBy (RefersAt (syntax self.now)) productions.now) search.old search.new) }
     {
-        for production in productions {
-            self.reach_referred(search, *production)?;
+        for index in productions {
+            if let Some(production) = self.syntax.prods.get(*index) {
+                self.reach_symbols(search, &production.symbols)?;
+            }
         }
         Ok(())
     }
 
-    // Reaches what a production holds.
-    fn reach_referred(&self, search: &mut Search, production: usize) -> Result<(), AllocError>
-        requires { length search.old.reachable ≡ length (nodes (syntax self.now)) }
-        ensures { OnOk result (Reaches (RefersAt (syntax self.now) production) search.old search.new) }
-    {
-        match self.syntax.prods.get(production) {
-            Some(production) => self.reach_symbols(search, &production.symbols),
-            None => Ok(()),
-        }
-    }
-
     // Reaches the symbols.
     fn reach_symbols(&self, search: &mut Search, symbols: &[Symbol]) -> Result<(), AllocError>
-        requires { length search.old.reachable ≡ length (nodes (syntax self.now)) }
+        requires { length search.old.reachable ≡ nodes (syntax self.now) }
         ensures { OnOk result (Reaches (FoundBy (IsNodeOf (syntax self.now))
             (map name_of (map symbol_view symbols.now))) search.old search.new) }
     {
         for symbol in symbols {
-            reach_one(search, self.symbol_node(symbol))?;
+            search.reach_found(self.symbol_node(symbol))?;
         }
         Ok(())
     }
 
     // The node of the start rule, if there is one.
     fn start_node(&self) -> Option<usize>
-        ensures within { IfSome result (λ node. node < length (nodes (syntax self.now))) }
+        ensures within { IfSome result (λ node. node < nodes (syntax self.now)) }
         ensures node { (node : ℕ) → (result ≡ Some node)
             ↔ ((name : Name) × IsStart (syntax self.now) name × IsNodeOf (syntax self.now) name node) }
     {
@@ -176,8 +161,9 @@ impl GrammarAST {
 
     // The node of the symbol, if the tree has its name.
     fn symbol_node(&self, symbol: &Symbol) -> Option<usize>
-        ensures within { IfSome result (λ node. node < length (nodes (syntax self.now))) }
-        ensures node { result ≡ node_of (syntax self.now) (name_of (symbol_view symbol.now)) }
+        ensures within { IfSome result (λ node. node < nodes (syntax self.now)) }
+        ensures node { (node : ℕ) → (result ≡ Some node)
+            ↔ IsNodeOf (syntax self.now) (name_of (symbol_view symbol.now)) node }
     {
         match symbol {
             Symbol::Rule(name, _) => self.rule_node(name),
@@ -187,16 +173,16 @@ impl GrammarAST {
 
     // The node of the rule of this name, if there is one.
     fn rule_node(&self, name: &str) -> Option<usize>
-        ensures within { IfSome result (λ node. node < length (nodes (syntax self.now))) }
-        ensures node { result ≡ node_of (syntax self.now) (RuleName name.now) }
+        ensures within { IfSome result (λ node. node < nodes (syntax self.now)) }
+        ensures node { (node : ℕ) → (result ≡ Some node) ↔ IsNodeOf (syntax self.now) (RuleName name.now) node }
     {
         self.syntax.rules.get_index_of(name)
     }
 
     // The node of the token of this name, if there is one.
     fn token_node(&self, name: &str) -> Option<usize>
-        ensures within { IfSome result (λ node. node < length (nodes (syntax self.now))) }
-        ensures node { result ≡ node_of (syntax self.now) (TokenName name.now) }
+        ensures within { IfSome result (λ node. node < nodes (syntax self.now)) }
+        ensures node { (node : ℕ) → (result ≡ Some node) ↔ IsNodeOf (syntax self.now) (TokenName name.now) node }
     {
         let _tokens = self.syntax.tokens.len();
         let index = self.syntax.tokens.get_index_of(name)?;
@@ -206,29 +192,19 @@ impl GrammarAST {
 
 // Rules lead to what their productions hold, and tokens to nothing.
 impl Edges<Bits> for GrammarAST {
-    ghost use Rattle.std.specs.Prelude.{length};
-    ghost use Rattle.cfgast.specs.Inner.Nodes.{nodes, IsEdge};
+    ghost use Rattle.search.specs.Nodes.{IsEdge};
+    ghost use Rattle.cfgast.specs.Inner.Nodes.{nodes, IsNodeOf};
+    ghost use Rattle.cfgast.specs.Unused.{Leads};
     ghost use Rattle.cfgast.specs.TreeView.{syntax};
 
-    ghost nodes = { λ tree. length (nodes (syntax tree)) };
+    ghost nodes = { λ tree. nodes (syntax tree) };
 
-    ghost leads = { λ tree. IsEdge (syntax tree) };
+    ghost leads = { λ tree. IsEdge (IsNodeOf (syntax tree)) (Leads (syntax tree)) };
 
     fn reach_from(&self, node: usize, search: &mut Search) -> Result<(), AllocError> {
         match self.syntax.rules.get_index(node) {
-            Some((_, rule)) => self.reach_all_referred(search, &rule.pidxs),
+            Some((_, rule)) => self.reach_referred(search, &rule.pidxs),
             None => Ok(()),
         }
-    }
-}
-
-// Reaches the node, if there is one.
-fn reach_one(search: &mut Search, node: Option<usize>) -> Result<(), AllocError>
-    requires { IfSome node (λ n. n < length search.old.reachable) }
-    ensures { OnOk result (Reaches (λ n. node ≡ Some n) search.old search.new) }
-{
-    match node {
-        Some(node) => search.reach(node),
-        None => Ok(()),
     }
 }

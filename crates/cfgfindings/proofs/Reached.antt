@@ -1,9 +1,11 @@
 -- The symbols of a grammar as the nodes of a search, and what the searches by all productions and by usable ones say of useless symbols.
-use Rattle.std.proofs.Common.{◌≡◌, ◌↔◌, ℕ, ◌<◌, Bool, true, false, List, All, Contains, IsTrue, get_or, inl, inr, length, not, refl, sym, subst, ap, ◌∙◌, arith, true≢false}
+use Rattle.std.proofs.Common.{◌≡◌, ◌↔◌, ℕ, ◌<◌, ◌≤◌, Bool, true, false, List, All, Contains, IsTrue, Some, get_or, inl, inr, length, not, refl, sym, subst, ap, ◌∙◌, arith, true≢false}
 use Rattle.std.proofs.lemmas.Bool.{cases_Bool, not-true}
 use Rattle.std.proofs.lemmas.List.{get_or_default}
 use Rattle.std.proofs.lemmas.List.Elements.{All-contains}
+use Rattle.std.proofs.lemmas.Option.{same_Some}
 use Rattle.search.specs.Reachable.{FoundBy, IsReachableIn, Reachable, Reaches, SearchState, led, seed}
+use Rattle.search.proofs.Nodes.{knows as knows_nodes}
 use Rattle.search.proofs.Reaching.{reaches_as, reaches_known}
 use Rattle.cfgrammar.specs.Grammar.{HasProduction, IsGrammar, IsSymbolOf, Production, Rule, Sym, Token}
 use Rattle.cfgrammar.specs.Accessors.{IsSymbolWithin}
@@ -14,21 +16,16 @@ use Rattle.cfgrammar.specs.Symbol.{Symbol}
 use Rattle.cfgrammar.specs.Symbol.TheVariants as symbols
 use Rattle.cfgrammar.specs.Uses.{IsUsable}
 use Rattle.cfgfindings.specs.Useless.{IsReachable, IsUseless}
-use Rattle.cfgfindings.specs.Inner.Reached.{AreReached, RefersAt, IsEdge, IsFollowed, IsFollowedAt, IsNodeOf, Knows, node_of}
+use Rattle.cfgfindings.specs.Inner.Reached.{AreReached, RefersAt, IsFollowed, IsFollowedEdge, IsFollowedAt, IsNodeOf, Knows, node_of}
 use Rattle.cfgfindings.specs.Inner.Unproductive.{UnproductiveOrNot}
 use Rattle.cfgfindings.proofs.Unusable.{UsesByRules}
 
 module _ (g : Numbered) where
-  -- the symbol of a node
-  rule_there : (symbol : Sym) (r : ℕ) → node_of g symbol ≡ r → r < length g.rules → symbol ≡ Rule r
-  rule_there (Rule q) r at within = ap Rule at
-  rule_there (Token t) r at within = absurd (omega (arith, at, within))
-
-  symbol_there : (a b : Sym) → IsSymbolOf (core g) a → IsSymbolOf (core g) b → node_of g a ≡ node_of g b → a ≡ b
-  symbol_there (Rule r) (Rule q) is other same = ap Rule same
-  symbol_there (Rule r) (Token t) is other same = absurd (omega (arith, is, same))
-  symbol_there (Token t) (Rule r) is other same = absurd (omega (arith, other, same))
-  symbol_there (Token t) (Token u) is other same = let index : t ≡ u = omega (arith, same) in ap Token index
+  same_symbol : (a b : Sym) (node : ℕ) → IsNodeOf g a node → IsNodeOf g b node → a ≡ b
+  same_symbol (Rule r) (Rule q) node (is, at) (other, there) = ap Rule (at ∙ sym there)
+  same_symbol (Rule r) (Token t) node (is, at) (other, there) = absurd (omega (arith, is, at, there))
+  same_symbol (Token t) (Rule r) node (is, at) (other, there) = absurd (omega (arith, other, at, there))
+  same_symbol (Token t) (Token u) node (is, at) (other, there) = let index : t ≡ u = omega (arith, at, there) in ap Token index
 
   -- a production that is followed is one of the grammar
   has_followed : (only_usable : Bool) (r : ℕ) (symbols : List Sym) → IsFollowed g only_usable r symbols → HasProduction (core g) r symbols
@@ -55,37 +52,22 @@ module _ (g : Numbered) (is : IsGrammar (core g)) where
     none_useless symbol useless = useless.unusably (reached_usably useless.reachable)
 
   module _ (only_usable : Bool) where
-    reachable_within : {symbol : Sym} → IsReachable (IsFollowed g only_usable) symbol → IsSymbolOf (core g) symbol
-    reachable_within (seed first) = subst (IsSymbolOf (core g)) (sym first) is.start
-    reachable_within (led {a = Rule r} {b = symbol} reachable (symbols, followed, held)) =
-        symbol_within r symbols symbol (has_followed g only_usable r symbols followed) held
-    reachable_within (led {a = Token t} reachable leads) = absurd leads
+    leader : (a b : Sym) → Leads (IsFollowed g only_usable) a b → (node : ℕ) × IsNodeOf g a node
+    leader (Rule r) b (symbols, followed, held) = (r, (owner_within r symbols (has_followed g only_usable r symbols followed), refl))
+    leader (Token t) b leads = absurd leads
 
-    -- what is reachable among nodes from the start rule's are the nodes of reachable symbols
-    module _ (Seed : ℕ → Type 0) (seeds : (n : ℕ) → (Seed n ↔ (n ≡ 0))) where
-      symbol_reached : {n : ℕ} → Reachable Seed (IsEdge g only_usable) n → (symbol : Sym) × IsReachable (IsFollowed g only_usable) symbol × (node_of g symbol ≡ n)
-      symbol_reached (seed {a = n} first) = (Rule 0, seed refl, sym ((seeds n).0 first))
-      symbol_reached (led {a = n} reached edge) =
-          let (from, reachable, at) = symbol_reached reached in
-          let rule = rule_there g from n at edge.within in
-          (edge.to, led (subst (IsReachable (IsFollowed g only_usable)) rule reachable) edge.leads, edge.is)
-
-      node_reached : {symbol : Sym} → IsReachable (IsFollowed g only_usable) symbol → Reachable Seed (IsEdge g only_usable) (node_of g symbol)
-      node_reached (seed {a = symbol} first) = seed ((seeds _).1 (ap (node_of g) first))
-      node_reached (led {a = Rule r} {b = symbol} reachable (symbols, followed, held)) = led (node_reached reachable) (record {
-        within = owner_within r symbols (has_followed g only_usable r symbols followed);
-        to = symbol;
-        leads = (symbols, followed, held);
-        is = refl;
-      })
-      node_reached (led {a = Token t} reachable leads) = absurd leads
-
-      pub knows : (x : SearchState) → ((n : ℕ) → (IsReachableIn x n ↔ Reachable Seed (IsEdge g only_usable) n)) → Knows g only_usable x
-      knows x found symbol there = (
-        (λ h. let (other, reachable, at) = symbol_reached ((found (node_of g symbol)).0 h) in
-            subst (IsReachable (IsFollowed g only_usable)) (symbol_there g other symbol (reachable_within reachable) there at) reachable),
-        (λ h. (found (node_of g symbol)).1 (node_reached h)),
-      )
+    -- what a search from the start rule's node has reached
+    pub knows : (start : ℕ) → start ≡ 0 → (x : SearchState) → ((n : ℕ) → (IsReachableIn x n ↔ Reachable (λ n. Some start ≡ Some n) (IsFollowedEdge g only_usable) n))
+        → Knows g only_usable x
+    knows start first x found symbol within =
+        knows_nodes (IsNodeOf g) (Leads (IsFollowed g only_usable)) (λ symbol. symbol ≡ Rule 0) (same_symbol g) leader (λ n. Some start ≡ Some n) roots x found
+        symbol (node_of g symbol) (within, refl)
+      where
+        roots : (n : ℕ) → (Some start ≡ Some n) ↔ ((symbol : Sym) × (symbol ≡ Rule 0) × IsNodeOf g symbol n)
+        roots n = (
+          (λ at. (Rule 0, refl, (is.start, sym first ∙ same_Some _ _ at))),
+          (λ h. ap Some (first ∙ sym (ap (node_of g) h.1) ∙ h.2.1)),
+        )
 
 module _ (g : Numbered) (only_usable : Bool) where
   -- a production that is followed has its symbols' nodes, and another none
@@ -101,25 +83,27 @@ module _ (g : Numbered) (only_usable : Bool) where
 
   -- the productions of a rule have the nodes that its node leads to
   pub edges_of_rule : (rule : ℕ) → rule < length g.rules → (positions : List ℕ) → ArePositionsOf (core g) rule positions → (old new : SearchState)
-      → Reaches (FoundBy (RefersAt g only_usable) positions) old new → Reaches (IsEdge g only_usable rule) old new
+      → Reaches (FoundBy (RefersAt g only_usable) positions) old new → Reaches (IsFollowedEdge g only_usable rule) old new
   edges_of_rule rule within positions are old new w = reaches_as _ _ old new to from w
     where
-      to : (n : ℕ) → FoundBy (RefersAt g only_usable) positions n → IsEdge g only_usable rule n
+      to : (n : ℕ) → FoundBy (RefersAt g only_usable) positions n → IsFollowedEdge g only_usable rule n
       to n h =
           let p = h.thing in
           let there = All-contains (λ p. p < length (core g).productions) positions p are.within h.among in
           let owner : (nth_production (core g) p).rule ≡ rule = (are.listed p there).0 h.among in
           let symbols = (nth_production (core g) p).symbols in
           record {
-            within = within;
+            from = Rule rule;
+            there = (within, refl);
             to = h.finds.holds.thing;
             leads = (symbols, subst (λ r. IsFollowed g only_usable r symbols) owner h.finds.followed, h.finds.holds.among);
             is = h.finds.holds.finds;
           }
 
-      from : (n : ℕ) → IsEdge g only_usable rule n → FoundBy (RefersAt g only_usable) positions n
+      from : (n : ℕ) → IsFollowedEdge g only_usable rule n → FoundBy (RefersAt g only_usable) positions n
       from n h =
-          let (symbols, followed, held) = h.leads in
+          let (symbols, followed, held) =
+          subst (λ from. Leads (IsFollowed g only_usable) from h.to) (same_symbol g h.from (Rule rule) rule h.there (within, refl)) h.leads in
           let (p, there, at) = has_followed g only_usable rule symbols followed in
           let production : nth_production (core g) p ≡ record { rule = rule; symbols = symbols } = get_or_default (core g).productions p _ _ there ∙ at in
           record {
@@ -130,6 +114,14 @@ module _ (g : Numbered) (only_usable : Bool) where
               holds = record { thing = h.to; among = subst (λ (x : Production). Contains x.symbols h.to) (sym production) held; finds = h.is };
             };
           }
+
+  -- a token leads to nothing
+  pub leads_nowhere : (node : ℕ) → length g.rules ≤ node → (x : SearchState) → Reaches (IsFollowedEdge g only_usable node) x x
+  leads_nowhere node past x = reaches_known _ x (λ n h. absurd (nothing h.from h.there h.to h.leads))
+    where
+      nothing : (from : Sym) → IsNodeOf g from node → (to : Sym) → Leads (IsFollowed g only_usable) from to → ⊥
+      nothing (Rule r) (within, at) to leads = omega (arith, within, at, past)
+      nothing (Token t) at to leads = leads
 
 -- what both searches say of a symbol's node
 module _ (g : Numbered) (by_any by_usable : SearchState) (are : AreReached g by_any by_usable) (symbol : Sym) (is : IsSymbolOf (core g) symbol)
@@ -163,5 +155,6 @@ symbol_of g (symbols.Rule rule) within = within
 symbol_of g (symbols.Token token) within = within
 
 -- what is reached is the node of the symbol
-pub reaches_node : (g : Numbered) (symbol : Sym) (node : ℕ) → node ≡ node_of g symbol → (old new : SearchState) → Reaches (λ n. n ≡ node) old new → Reaches (IsNodeOf g symbol) old new
-reaches_node g symbol node is old new w = reaches_as _ _ old new (λ n at. sym (at ∙ is)) (λ n at. sym (is ∙ at)) w
+pub reaches_node : (g : Numbered) (symbol : Sym) → IsSymbolOf (core g) symbol → (node : ℕ) → node ≡ node_of g symbol → (old new : SearchState)
+    → Reaches (λ n. n ≡ node) old new → Reaches (IsNodeOf g symbol) old new
+reaches_node g symbol within node is old new w = reaches_as _ _ old new (λ n at. (within, sym (at ∙ is))) (λ n at. sym (is ∙ at.1)) w

@@ -1,5 +1,5 @@
 -- Symbols by their names, and whether the start rule reaches them.
-use Rattle.std.proofs.Common.{◌≡◌, ◌↔◌, ◌+◌, ◌<◌, ℕ, Bool, true, false, IsSome, IsTrue, List, Option, None, Some, get_or, length, option_map, position, slice_get, refl, sym, subst, ap, ◌∙◌, true≢false}
+use Rattle.std.proofs.Common.{◌≡◌, ◌↔◌, ◌+◌, ◌<◌, ℕ, Bool, true, false, IsSome, IsTrue, List, Option, None, Some, get_or, length, option_map, position, slice_get, refl, sym, subst, ap, ◌∙◌}
 use Rattle.std.specs.Option.{option_map_or}
 use Rattle.std.specs.Str.{bytes_eq}
 use Rattle.std.proofs.lemmas.List.Quantifiers.{position-Some}

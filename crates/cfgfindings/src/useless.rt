@@ -186,10 +186,8 @@ pub(crate) fn searched(
         only_usable,
     };
     let nodes = usize::from(grammar.rules_len()) + usize::from(grammar.tokens_len());
-    let mut search = Search::through(alloc, nodes)?;
-    search.reach(usize::from(grammar.start_rule_idx()))?;
-    search.go_on(&followed)?;
-    Ok(search)
+    let start = usize::from(grammar.start_rule_idx());
+    Search::from_root(alloc, &followed, nodes, Some(start))
 }
 
 /// The productions of a grammar that a search follows: all of them, or only those that are usable.
@@ -225,11 +223,11 @@ impl<'a> Followed<'a> {
 
 // A rule leads to the symbols of its productions, and a token to nothing.
 impl<'a> Edges<Bits> for Followed<'a> {
-    ghost use Rattle.cfgfindings.specs.Inner.Reached.{IsEdge, nodes};
+    ghost use Rattle.cfgfindings.specs.Inner.Reached.{IsFollowedEdge, nodes};
 
     ghost nodes = { λ x. nodes x.unproductive.now };
 
-    ghost leads = { λ x. IsEdge x.unproductive.now x.only_usable };
+    ghost leads = { λ x. IsFollowedEdge x.unproductive.now x.only_usable };
 
     fn reach_from(&self, node: usize, search: &mut Search) -> Result<(), AllocError> {
         let grammar = self.unproductive.grammar();

@@ -2,6 +2,7 @@ pub mod Bits
 pub mod Each
 pub mod Keys
 pub mod Members
+pub mod Nodes
 pub mod Outcomes
 pub mod PathGroups
 pub mod Pushing

@@ -1,5 +1,5 @@
 -- What a node leads to is reached in an empty search, and taken from it node by node.
-use Rattle.std.proofs.Common.{◌≡◌, ◌↔◌, ◌⊎◌, inl, inr, ℕ, suc, ◌+◌, ◌<◌, ◌≤◌, Bool, true, false, List, [], ◌∷◌, ◌++◌, Contains, IsTrue, get_or, length, map, replicate, slice_set, arith, refl, sym, ap, ◌∙◌, subst, true≢false, length-append, length-set, get_or-set_same}
+use Rattle.std.proofs.Common.{◌≡◌, ◌↔◌, ◌⊎◌, inl, inr, ℕ, suc, ◌+◌, ◌<◌, ◌≤◌, Bool, true, false, List, [], ◌∷◌, ◌++◌, Contains, get_or, length, map, replicate, slice_set, arith, refl, sym, ap, ◌∙◌, subst, true≢false, length-set, get_or-set_same}
 use Rattle.std.proofs.lemmas.List.{append-nil, append_assoc, length_push, map-append}
 use Rattle.std.proofs.lemmas.List.Elements.{Contains-append_left, Contains-push, Contains-push_cases}
 use Rattle.std.proofs.lemmas.List.Sums.{count_by-le-length}

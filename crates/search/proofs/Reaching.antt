@@ -9,6 +9,11 @@ use Rattle.search.specs.Reachable.{SearchState, IsReachableIn, Reachable, Reache
 use Rattle.search.proofs.Bits.{bit_put, bits_on-fewer, bits_on-set}
 use Rattle.lemmas.proofs.Adding.{adds_as, adds_then}
 
+-- what is reachable from some is reachable from more
+pub reachable_as : {A : Type 0} {Seed Seed' : A → Type 0} {Leads : A → A → Type 0} → ((a : A) → Seed a → Seed' a) → {a : A} → Reachable Seed Leads a → Reachable Seed' Leads a
+reachable_as more (seed {a = a} h) = seed (more a h)
+reachable_as more (led r h) = led (reachable_as more r) h
+
 -- what is found was reached before
 pub reaches_known : (Found : ℕ → Type 0) (x : SearchState) → ((n : ℕ) → Found n → IsReachableIn x n) → Reaches Found x x
 reaches_known Found x known = record {

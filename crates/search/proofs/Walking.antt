@@ -34,21 +34,20 @@ module _ (Leads : ℕ → ℕ → Type 0) where
   settled_onward known closed a b (seed e) h = subst (IsSettled known) (sym e) h
   settled_onward known closed a b (led {a = d} r leads) h = closed d b (settled_onward known closed a d r h) leads
 
+pub known_as : {Leads : ℕ → ℕ → Type 0} {nodes : ℕ} {known known' : List Known} {path path' : List ℕ} {groups groups' : List Group} {pending pending' : List Pending}
+    {count count' : ℕ} → known' ≡ known → path' ≡ path → groups' ≡ groups → pending' ≡ pending → count' ≡ count
+    → AreKnown Leads nodes known path groups pending count [] → AreKnown Leads nodes known' path' groups' pending' count' []
+known_as {Leads = Leads} {nodes = nodes} a b c d e = subst (λ T. T) (sym (λ i. AreKnown Leads nodes (a i) (b i) (c i) (d i) (e i) []))
+
 module _ (Leads : ℕ → ℕ → Type 0) (nodes : ℕ) (known : List Known) (path : List ℕ) (groups : List Group) (pending : List Pending) (count : ℕ) where
   -- an edge in hand is followed
   module _ (e : Pending) (s : AreKnown Leads nodes known path groups pending count (e ∷ [])) where
     -- it leads to a settled node
     pub passed : IsSettled known e.to → AreKnown Leads nodes known path groups pending count []
     passed h = record {
-      entries = s.entries;
+      numbered = s.numbered;
       on_path = s.on_path;
       within = s.within;
-      below = s.below;
-      some = s.some;
-      closed = s.closed;
-      same = s.same;
-      different = s.different;
-      order = s.order;
       rising = s.rising;
       inside = s.inside;
       first = s.first;
@@ -72,15 +71,9 @@ module _ (Leads : ℕ → ℕ → Type 0) (nodes : ℕ) (known : List Known) (pa
 
         pub rejoined : AreKnown Leads nodes known path now pending count []
         rejoined = record {
-          entries = s.entries;
+          numbered = s.numbered;
           on_path = s.on_path;
           within = s.within;
-          below = s.below;
-          some = s.some;
-          closed = s.closed;
-          same = s.same;
-          different = s.different;
-          order = s.order;
           rising = rising;
           inside = λ g c. s.inside g ((kept g).0 c).0;
           first = λ more. let f = s.first more in (f.0, (kept f.0).1 (f.1, omega (arith, f.2)), f.2);
@@ -120,7 +113,7 @@ module _ (Leads : ℕ → ℕ → Type 0) (nodes : ℕ) (known : List Known) (pa
         added = map (pending_from (length path)) targets
 
         own : known_of entered_known e.to ≡ Open (length path)
-        own = get_or-set_same known e.to (Open (length path)) New (subst (λ n. e.to < n) (sym s.entries) within)
+        own = get_or-set_same known e.to (Open (length path)) New (subst (λ n. e.to < n) (sym s.numbered.entries) within)
 
         kept : (r : ℕ) (k : Known) → (k ≡ New → ⊥) → known_of known r ≡ k → known_of entered_known r ≡ k
         kept r k not is = get_or-set_other known e.to r (Open (length path)) New (λ same. not (sym is ∙ ap (known_of known) same ∙ new)) ∙ is
@@ -237,13 +230,21 @@ module _ (Leads : ℕ → ℕ → Type 0) (nodes : ℕ) (known : List Known) (pa
         fewer : count_by is_new entered_known + 1 ≡ count_by is_new known
         fewer = omega (
           arith,
-          sum_by-set (λ (k : Known). cond (is_new k) 1 0) known e.to (Open (length path)) New (subst (λ n. e.to < n) (sym s.entries) within),
+          sum_by-set (λ (k : Known). cond (is_new k) 1 0) known e.to (Open (length path)) New (subst (λ n. e.to < n) (sym s.numbered.entries) within),
           ap (λ (k : Known). cond {A = ℕ} (is_new k) 1 0) new,
         )
 
         pub entered : AreKnown Leads nodes entered_known longer more_groups (pending ++ added) count []
         entered = record {
-          entries = length-set known e.to (Open (length path)) ∙ s.entries;
+          numbered = record {
+            entries = length-set known e.to (Open (length path)) ∙ s.numbered.entries;
+            below = λ r c is. s.numbered.below r c (settled_before r c is);
+            some = λ c lt. let n = s.numbered.some c lt in (n.0, kept_settled n.0 c n.1);
+            closed = λ a b h leads. let k = s.numbered.closed a b (h.0, settled_before a h.0 h.1) leads in (k.0, kept_settled b k.0 k.1);
+            same = λ a b c is_a is_b. s.numbered.same a b c (settled_before a c is_a) (settled_before b c is_b);
+            different = λ a b c d is_a is_b. s.numbered.different a b c d (settled_before a c is_a) (settled_before b d is_b);
+            order = λ a b c d is_a leads is_b. s.numbered.order a b c d (settled_before a c is_a) leads (settled_before b d is_b);
+          };
           on_path = longer_path;
           within = λ i lt. elim (cases_lt i (length path)) [
             | inl old ↦ subst (λ r. r < nodes) (sym (at_old i old)) (s.within i old)
@@ -251,12 +252,6 @@ module _ (Leads : ℕ → ℕ → Type 0) (nodes : ℕ) (known : List Known) (pa
                 let at : length path ≡ i = omega (arith, past, lt, longer_by) in
                 subst (λ n. slice_index longer n < nodes) at (subst (λ r. r < nodes) (sym at_own) within)
           ];
-          below = λ r c is. s.below r c (settled_before r c is);
-          some = λ c lt. let n = s.some c lt in (n.0, kept_settled n.0 c n.1);
-          closed = λ a b h leads. let k = s.closed a b (h.0, settled_before a h.0 h.1) leads in (k.0, kept_settled b k.0 k.1);
-          same = λ a b c is_a is_b. s.same a b c (settled_before a c is_a) (settled_before b c is_b);
-          different = λ a b c d is_a is_b. s.different a b c d (settled_before a c is_a) (settled_before b d is_b);
-          order = λ a b c d is_a leads is_b. s.order a b c d (settled_before a c is_a) leads (settled_before b d is_b);
           rising = rising_push groups group s.rising s.inside;
           inside = λ g c. let b = up_to_path g c in (omega (arith, b.0, longer_by), omega (arith, b.1, length-append pending added));
           first = λ more. elim (cases_lt 0 (length path)) [
@@ -274,22 +269,6 @@ module _ (Leads : ℕ → ℕ → Type 0) (nodes : ℕ) (known : List Known) (pa
             let product : (nodes + 2) * (count_by is_new entered_known + 1) ≡ (nodes + 2) * count_by is_new known = ap (λ n. (nodes + 2) * n) fewer in
             omega (arith, product, few, length-append pending added, length-map targets (pending_from (length path)), length_push groups group)
 
-        pub entered_as : (known' : List Known) (path' : List ℕ) (groups' : List Group) (pending' : List Pending) (count' : ℕ) → known' ≡ entered_known → path' ≡ longer
-            → groups' ≡ more_groups → pending' ≡ pending ++ added → count' ≡ count → AreKnown Leads nodes known' path' groups' pending' count' []
-        entered_as known' path' groups' pending' count' same_known same_path same_groups same_pending same_count =
-            subst (λ l. AreKnown Leads nodes l path' groups' pending' count' []) (sym same_known)
-            (subst (λ l. AreKnown Leads nodes entered_known l groups' pending' count' []) (sym same_path)
-            (subst (λ l. AreKnown Leads nodes entered_known longer l pending' count' []) (sym same_groups)
-            (subst (λ l. AreKnown Leads nodes entered_known longer more_groups l count' []) (sym same_pending)
-            (subst (λ n. AreKnown Leads nodes entered_known longer more_groups (pending ++ added) n []) (sym same_count) entered))))
-
-        pub less_as : (known' : List Known) (groups' : List Group) (pending' : List Pending) → known' ≡ entered_known → groups' ≡ more_groups
-            → pending' ≡ pending ++ added → left_to_look nodes known' groups' pending' ≤ left_to_look nodes known groups pending
-        less_as known' groups' pending' same_known same_groups same_pending =
-            subst (λ l. left_to_look nodes l groups' pending' ≤ left_to_look nodes known groups pending) (sym same_known)
-            (subst (λ l. left_to_look nodes entered_known l pending' ≤ left_to_look nodes known groups pending) (sym same_groups)
-            (subst (λ l. left_to_look nodes entered_known more_groups l ≤ left_to_look nodes known groups pending) (sym same_pending) less_after))
-
   module _ (s : AreKnown Leads nodes known path groups pending count []) (group : Group) (last : IsLast groups group) where
     here : Contains groups group
     here = subst (λ l. Contains l group) (sym last.is) (Contains-push last.rest group)
@@ -298,7 +277,7 @@ module _ (Leads : ℕ → ℕ → Type 0) (nodes : ℕ) (known : List Known) (pa
     inside_path = (s.inside group here).0
 
     pub room : count < length known
-    room = let bounded = s.bounded in let entries = s.entries in omega (arith, bounded, entries, some_group groups group last)
+    room = let bounded = s.bounded in let entries = s.numbered.entries in omega (arith, bounded, entries, some_group groups group last)
 
     -- a pending edge of the last group is taken
     module _ (rest : List Pending) (e : Pending) (is : pending ≡ rest ++ e ∷ []) (more : group.pending ≤ length rest) where
@@ -315,15 +294,9 @@ module _ (Leads : ℕ → ℕ → Type 0) (nodes : ℕ) (known : List Known) (pa
 
       pub taken_one : AreKnown Leads nodes known path groups rest count (e ∷ [])
       taken_one = record {
-        entries = s.entries;
+        numbered = s.numbered;
         on_path = s.on_path;
         within = s.within;
-        below = s.below;
-        some = s.some;
-        closed = s.closed;
-        same = s.same;
-        different = s.different;
-        order = s.order;
         rising = s.rising;
         inside = λ g c. let b = up_to_last groups last.rest group last.is s.rising g c in ((s.inside g c).0, omega (arith, b.1, more));
         first = s.first;
@@ -424,11 +397,11 @@ module _ (Leads : ℕ → ℕ → Type 0) (nodes : ℕ) (known : List Known) (pa
       same : (a b other : ℕ) → known_of now a ≡ Settled other → known_of now b ≡ Settled other → ReachableFrom Leads a b
       same a b other is_a is_b = elim (was_settled a other is_a) [
         | inl old_a ↦ elim (was_settled b other is_b) [
-          | inl old_b ↦ s.same a b other old_a old_b
-          | inr new_b ↦ absurd (let b = s.below a other old_a in omega (arith, b, new_b.same))
+          | inl old_b ↦ s.numbered.same a b other old_a old_b
+          | inr new_b ↦ absurd (let b = s.numbered.below a other old_a in omega (arith, b, new_b.same))
         ]
         | inr new_a ↦ elim (was_settled b other is_b) [
-          | inl old_b ↦ absurd (let b' = s.below b other old_b in omega (arith, b', new_a.same))
+          | inl old_b ↦ absurd (let b' = s.numbered.below b other old_b in omega (arith, b', new_a.same))
           | inr new_b ↦ joint a b other new_a new_b
         ]
       ]
@@ -436,14 +409,14 @@ module _ (Leads : ℕ → ℕ → Type 0) (nodes : ℕ) (known : List Known) (pa
       -- no settled node leads to a node of the last group
       not_back : (a b c d : ℕ) → known_of known a ≡ Settled c → WasLast b d → ReachableFrom Leads a b → ⊥
       not_back a b c d old w r =
-          let k = settled_onward Leads known s.closed a b r (c, old) in
+          let k = settled_onward Leads known s.numbered.closed a b r (c, old) in
           let v : Open w.index ≡ Settled k.0 = sym w.is_open ∙ k.1 in
           absurd (cc)
 
       different : (a b c d : ℕ) → known_of now a ≡ Settled c → known_of now b ≡ Settled d → ReachableFrom Leads a b → ReachableFrom Leads b a → c ≡ d
       different a b c d is_a is_b there back = elim (was_settled a c is_a) [
         | inl old_a ↦ elim (was_settled b d is_b) [
-          | inl old_b ↦ s.different a b c d old_a old_b there back
+          | inl old_b ↦ s.numbered.different a b c d old_a old_b there back
           | inr new_b ↦ absurd (not_back a b c d old_a new_b there)
         ]
         | inr new_a ↦ elim (was_settled b d is_b) [
@@ -456,8 +429,8 @@ module _ (Leads : ℕ → ℕ → Type 0) (nodes : ℕ) (known : List Known) (pa
       order : (a b c d : ℕ) → known_of now a ≡ Settled c → Leads a b → known_of now b ≡ Settled d → d ≤ c
       order a b c d is_a leads is_b = elim (was_settled b d is_b) [
         | inl old_b ↦ elim (was_settled a c is_a) [
-          | inl old_a ↦ s.order a b c d old_a leads old_b
-          | inr new_a ↦ let b' = s.below b d old_b in omega (arith, b', new_a.same)
+          | inl old_a ↦ s.numbered.order a b c d old_a leads old_b
+          | inr new_a ↦ let b' = s.numbered.below b d old_b in omega (arith, b', new_a.same)
         ]
         | inr new_b ↦ elim (was_settled a c is_a) [
           | inl old_a ↦ absurd (not_back a b c d old_a new_b (reachable_by Leads a b leads))
@@ -488,7 +461,30 @@ module _ (Leads : ℕ → ℕ → Type 0) (nodes : ℕ) (known : List Known) (pa
 
       pub settled_last : AreKnown Leads nodes now before last.rest pending (count + 1) []
       settled_last = record {
-        entries = entries ∙ s.entries;
+        numbered = record {
+          entries = entries ∙ s.numbered.entries;
+          below = λ r c here. elim (was_settled r c here) [
+            | inl old ↦ let b = s.numbered.below r c old in omega (arith, b)
+            | inr w ↦ let same = w.same in omega (arith, same)
+          ];
+          some = λ c lt. elim (cases_lt c count) [
+            | inl less ↦ let n = s.numbered.some c less in (n.0, still_settled n.0 c n.1)
+            | inr past ↦
+                let this : count ≡ c = omega (arith, lt, past) in (
+                  slice_index path start,
+                  subst (λ n. known_of now (slice_index path start) ≡ Settled n) this
+                      (now_settled (slice_index path start) start (s.on_path.opened start inside_path) (omega arith)),
+                )
+          ];
+          closed = λ a b h leads. elim (was_settled a h.0 h.1) [
+            | inl old ↦ let k = s.numbered.closed a b (h.0, old) leads in (k.0, still_settled b k.0 k.1)
+            | inr w ↦ let p = s.on_path.positions a w.index w.is_open in
+                complete w.index b w.from p.0 (subst (λ n. Leads n b) (sym p.1) leads)
+          ];
+          same = same;
+          different = different;
+          order = order;
+        };
         on_path = record {
           positions = λ r i here. let w = was_open r i here in (omega (arith, w.1, before_length), at i w.1 ∙ (s.on_path.positions r i w.0).1);
           opened = λ i lt. let lower : i < start = omega (arith, lt, before_length) in
@@ -496,27 +492,6 @@ module _ (Leads : ℕ → ℕ → Type 0) (nodes : ℕ) (known : List Known) (pa
         };
         within = λ i lt. let lower : i < start = omega (arith, lt, before_length) in
             subst (λ r. r < nodes) (sym (at i lower)) (s.within i (omega (arith, lower, inside_path)));
-        below = λ r c here. elim (was_settled r c here) [
-          | inl old ↦ let b = s.below r c old in omega (arith, b)
-          | inr w ↦ let same = w.same in omega (arith, same)
-        ];
-        some = λ c lt. elim (cases_lt c count) [
-          | inl less ↦ let n = s.some c less in (n.0, still_settled n.0 c n.1)
-          | inr past ↦
-              let this : count ≡ c = omega (arith, lt, past) in (
-                slice_index path start,
-                subst (λ n. known_of now (slice_index path start) ≡ Settled n) this
-                    (now_settled (slice_index path start) start (s.on_path.opened start inside_path) (omega arith)),
-              )
-        ];
-        closed = λ a b h leads. elim (was_settled a h.0 h.1) [
-          | inl old ↦ let k = s.closed a b (h.0, old) leads in (k.0, still_settled b k.0 k.1)
-          | inr w ↦ let p = s.on_path.positions a w.index w.is_open in
-              complete w.index b w.from p.0 (subst (λ n. Leads n b) (sym p.1) leads)
-        ];
-        same = same;
-        different = different;
-        order = order;
         bounded = one_more;
         rising = rising_prefix groups last.rest (group ∷ []) last.is s.rising;
         inside = λ g c.
@@ -559,24 +534,10 @@ module _ (Leads : ℕ → ℕ → Type 0) (nodes : ℕ) (known : List Known) (pa
             };
       }
 
-      pub settled_as : (path' : List ℕ) (groups' : List Group) (pending' : List Pending) (count' : ℕ) → path' ≡ before → groups' ≡ last.rest → pending' ≡ pending
-          → count' ≡ count + 1 → AreKnown Leads nodes now path' groups' pending' count' []
-      settled_as path' groups' pending' count' same_path same_groups same_pending one =
-          subst (λ l. AreKnown Leads nodes now l groups' pending' count' []) (sym same_path)
-          (subst (λ l. AreKnown Leads nodes now before l pending' count' []) (sym same_groups)
-          (subst (λ l. AreKnown Leads nodes now before last.rest l count' []) (sym same_pending)
-          (subst (λ n. AreKnown Leads nodes now before last.rest pending n []) (sym one) settled_last)))
-
       pub settled_less : left_to_look nodes now last.rest pending < left_to_look nodes known groups pending
       settled_less =
           let product : (nodes + 2) * count_by is_new now ≡ (nodes + 2) * count_by is_new known = ap (λ n. (nodes + 2) * n) same_count in
           omega (arith, product, ap length last.is ∙ length_push last.rest group)
-
-      pub settled_less_as : (groups' : List Group) (pending' : List Pending) → groups' ≡ last.rest → pending' ≡ pending
-          → left_to_look nodes now groups' pending' < left_to_look nodes known groups pending
-      settled_less_as groups' pending' same_groups same_pending =
-          subst (λ l. left_to_look nodes now l pending' < left_to_look nodes known groups pending) (sym same_groups)
-          (subst (λ l. left_to_look nodes now last.rest l < left_to_look nodes known groups pending) (sym same_pending) settled_less)
 
 -- each node of the path from the start on was settled, and no other node
 pub settled_path : (old now : List Known) (path : List ℕ) (start end number : ℕ) → IsPath old path → length path ≤ end
@@ -601,15 +562,17 @@ settled_path old now path start end number on_path whole done rest r = go (known
 -- nothing is known
 pub nothing_known : (Leads : ℕ → ℕ → Type 0) (nodes : ℕ) → AreKnown Leads nodes (replicate nodes New) [] [] [] 0 []
 nothing_known Leads nodes = record {
-  entries = length-replicate nodes New;
+  numbered = record {
+    entries = length-replicate nodes New;
+    below = λ r c h. absurd (not_settled r c h);
+    some = λ c lt. absurd (omega (arith, lt));
+    closed = λ a b h leads. absurd (not_settled a h.0 h.1);
+    same = λ a b c is_a is_b. absurd (not_settled a c is_a);
+    different = λ a b c d is_a is_b there back. absurd (not_settled a c is_a);
+    order = λ a b c d is_a leads is_b. absurd (not_settled a c is_a);
+  };
   on_path = record { positions = λ r i h. let v : New ≡ Open i = sym (none r) ∙ h in absurd (cc); opened = λ i lt. absurd (omega (arith, lt)) };
   within = λ i lt. absurd (omega (arith, lt));
-  below = λ r c h. absurd (not_settled r c h);
-  some = λ c lt. absurd (omega (arith, lt));
-  closed = λ a b h leads. absurd (not_settled a h.0 h.1);
-  same = λ a b c is_a is_b. absurd (not_settled a c is_a);
-  different = λ a b c d is_a is_b there back. absurd (not_settled a c is_a);
-  order = λ a b c d is_a leads is_b. absurd (not_settled a c is_a);
   rising = λ i j g h at_i at_j less. let lt = slice_get_within [] i g at_i in absurd (omega (arith, lt));
   inside = λ g c. absurd (contains_none g c);
   first = λ more. absurd (omega (arith, more));
@@ -624,15 +587,6 @@ nothing_known Leads nodes = record {
 
     not_settled : (r c : ℕ) → known_of (replicate nodes New) r ≡ Settled c → ⊥
     not_settled r c h = let v : New ≡ Settled c = sym (none r) ∙ h in absurd (cc)
-
-pub nothing_known_as : (Leads : ℕ → ℕ → Type 0) (nodes : ℕ) (known : List Known) (path : List ℕ) (groups : List Group) (pending : List Pending) (count : ℕ)
-    → known ≡ replicate nodes New → path ≡ [] → groups ≡ [] → pending ≡ [] → count ≡ 0 → AreKnown Leads nodes known path groups pending count []
-nothing_known_as Leads nodes known path groups pending count is no_path no_groups none_pending none =
-    subst (λ l. AreKnown Leads nodes l path groups pending count []) (sym is)
-    (subst (λ l. AreKnown Leads nodes (replicate nodes New) l groups pending count []) (sym no_path)
-    (subst (λ l. AreKnown Leads nodes (replicate nodes New) [] l pending count []) (sym no_groups)
-    (subst (λ l. AreKnown Leads nodes (replicate nodes New) [] [] l count []) (sym none_pending)
-    (subst (λ n. AreKnown Leads nodes (replicate nodes New) [] [] [] n []) (sym none) (nothing_known Leads nodes)))))
 
 -- a node that was entered is not new later
 pub stays_entered : (old now : List Known) (node : ℕ) → NoneNew old now → is_new (known_of old node) ≡ false → is_new (known_of now node) ≡ false
@@ -652,15 +606,9 @@ module _ (Leads : ℕ → ℕ → Type 0) (nodes : ℕ) (known : List Known) (pa
   -- so any edge may be in hand
   pub hands : (e : Pending) → AreKnown Leads nodes known path groups pending count (e ∷ [])
   hands e = record {
-    entries = s.entries;
+    numbered = s.numbered;
     on_path = s.on_path;
     within = s.within;
-    below = s.below;
-    some = s.some;
-    closed = s.closed;
-    same = s.same;
-    different = s.different;
-    order = s.order;
     rising = s.rising;
     inside = s.inside;
     first = s.first;
@@ -679,17 +627,17 @@ module _ (Leads : ℕ → ℕ → Type 0) (nodes : ℕ) (known : List Known) (pa
         go New e = let v : true ≡ false = sym (ap is_new e) ∙ entered n lt in absurd (cc)
         go (Open i) e = absurd (no_path i (s.on_path.positions n i e).0)
         go (Settled c) e = e
-            ∙ ap Settled (sym (ap (λ l. slice_index l n) are ∙ get_or-map number_of known n New 0 (subst (λ m. n < m) (sym s.entries) lt) ∙ ap number_of e))
+            ∙ ap Settled (sym (ap (λ l. slice_index l n) are ∙ get_or-map number_of known n New 0 (subst (λ m. n < m) (sym s.numbered.entries) lt) ∙ ap number_of e))
 
     pub numbered : length numbers ≡ nodes
-    numbered = ap length are ∙ length-map known number_of ∙ s.entries
+    numbered = ap length are ∙ length-map known number_of ∙ s.numbered.entries
 
     pub numbers_below : (n : ℕ) → n < length numbers → slice_index numbers n < count
-    numbers_below n lt = s.below n (slice_index numbers n) (number n (subst (λ m. n < m) numbered lt))
+    numbers_below n lt = s.numbered.below n (slice_index numbers n) (number n (subst (λ m. n < m) numbered lt))
 
     inside : (n c : ℕ) → known_of known n ≡ Settled c → n < nodes
     inside n c h = elim (cases_lt n (length known)) [
-      | inl lt ↦ subst (λ m. n < m) s.entries lt
+      | inl lt ↦ subst (λ m. n < m) s.numbered.entries lt
       | inr past ↦ let v : New ≡ Settled c = sym (get_or_past known n New past) ∙ h in absurd (cc)
     ]
 
@@ -700,20 +648,20 @@ module _ (Leads : ℕ → ℕ → Type 0) (nodes : ℕ) (known : List Known) (pa
         → ((c : ℕ) → AreMembers numbers (length numbers) c (get_or members c [])) → AreComponents Leads nodes numbers members
     all_settled members long each = record {
       entries = numbered;
-      within = λ n lt. subst (λ m. slice_index numbers n < m) (sym long) (s.below n (slice_index numbers n) (number n lt));
+      within = λ n lt. subst (λ m. slice_index numbers n < m) (sym long) (s.numbered.below n (slice_index numbers n) (number n lt));
       each = λ c. subst (λ m. AreMembers numbers m c (get_or members c [])) numbered (each c);
       some = λ c lt.
-          let n = s.some c (subst (λ m. c < m) long lt) in
+          let n = s.numbered.some c (subst (λ m. c < m) long lt) in
           let within = inside n.0 c n.1 in
           (n.0, ((each c).all n.0).1 (subst (λ m. n.0 < m) (sym numbered) within, same_number n.0 (slice_index numbers n.0) c (number n.0 within) n.1));
       same = λ a b lt_a lt_b. (
         (λ h.
             let other : known_of known b ≡ Settled (slice_index numbers a) = number b lt_b ∙ ap Settled (sym h) in
-            (s.same a b (slice_index numbers a) (number a lt_a) other, s.same b a (slice_index numbers a) other (number a lt_a))),
-        (λ h. s.different a b (slice_index numbers a) (slice_index numbers b) (number a lt_a) (number b lt_b) h.0 h.1),
+            (s.numbered.same a b (slice_index numbers a) (number a lt_a) other, s.numbered.same b a (slice_index numbers a) other (number a lt_a))),
+        (λ h. s.numbered.different a b (slice_index numbers a) (slice_index numbers b) (number a lt_a) (number b lt_b) h.0 h.1),
       );
       order = λ a b lt leads.
-          let on = s.closed a b (slice_index numbers a, number a lt) leads in
+          let on = s.numbered.closed a b (slice_index numbers a, number a lt) leads in
           let within = inside b on.0 on.1 in
-          (within, s.order a b (slice_index numbers a) (slice_index numbers b) (number a lt) leads (number b within));
+          (within, s.numbered.order a b (slice_index numbers a) (slice_index numbers b) (number a lt) leads (number b within));
     }

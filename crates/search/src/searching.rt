@@ -1,7 +1,7 @@
 //! A search along edges.
 
 ghost use Rattle.std.specs.Prelude.{◌≡◌, ◌↔◌, ℕ, ◌<◌, ◌++◌, ◌∷◌, [], Contains, false, length, slice_index_or};
-ghost use Rattle.std.specs.Prelude.{IfOk, MatchOption, OnOk, slice_set};
+ghost use Rattle.std.specs.Prelude.{IfOk, IfSome, MatchOption, OnOk, Some, slice_set};
 ghost use Rattle.search.specs.Reachable.{IsReachableIn, Reachable, Reaches, unsearched};
 
 use crate::edges::Edges;
@@ -38,6 +38,29 @@ impl Search<Bits> {
             reachable: Bits::from_elem(alloc, false, nodes)?,
             waiting: Vec::new(alloc),
         })
+    }
+
+    /// A search from a root to its end: what it has reached is the root, if there is one, and whatever that leads to.
+    ///
+    /// # Errors
+    ///
+    /// `AllocError` if an allocation fails.
+    pub fn from_root<E: Edges<Bits>>(
+        alloc: Global,
+        edges: &E,
+        nodes: usize,
+        root: Option<usize>,
+    ) -> Result<Self, AllocError>
+        requires nodes { nodes ≡ E.nodes edges.now }
+        requires root { IfSome root (λ n. n < nodes) }
+        ensures nodes { IfOk result (λ x. length x.reachable ≡ nodes) }
+        ensures reachable { IfOk result (λ x. (n : ℕ) → IsReachableIn x n
+            ↔ Reachable (λ n. root ≡ Some n) (E.leads edges.now) n) }
+    {
+        let mut search = Search::through(alloc, nodes)?;
+        search.reach_found(root)?;
+        search.go_on(edges)?;
+        Ok(search)
     }
 
     /// A queued node, which is then neither queued nor reached.
@@ -89,6 +112,21 @@ impl<M: Marks> Search<M> {
             self.waiting.push(node)?;
         }
         Ok(())
+    }
+
+    /// Reaches the node, if one was found.
+    ///
+    /// # Errors
+    ///
+    /// `AllocError` if an allocation fails.
+    pub fn reach_found(&mut self, node: Option<usize>) -> Result<(), AllocError>
+        requires { IfSome node (λ n. n < length self.old.reachable) }
+        ensures { OnOk result (Reaches (λ n. node ≡ Some n) self.old self.new) }
+    {
+        match node {
+            Some(node) => self.reach(node),
+            None => Ok(()),
+        }
     }
 
     /// A queued node, which is then no longer queued.

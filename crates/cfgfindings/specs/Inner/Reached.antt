@@ -1,5 +1,6 @@
 -- The symbols of a grammar as the nodes of a search, and what searches find.
-use Rattle.std.specs.Prelude.{◌≡◌, ◌↔◌, ℕ, ◌+◌, ◌<◌, Bool, true, false, List, length}
+use Rattle.std.specs.Prelude.{◌≡◌, ◌↔◌, ℕ, ◌+◌, Bool, true, false, List, length}
+use Rattle.search.specs.Nodes.{IsEdge}
 use Rattle.search.specs.Reachable.{FoundBy, IsReachableIn, SearchState}
 use Rattle.cfgrammar.specs.Grammar.{HasProduction, IsSymbolOf, Sym, Rule, Token}
 use Rattle.cfgrammar.specs.Numbered.{Numbered, core}
@@ -18,7 +19,7 @@ node_of g (Rule r) = r
 node_of g (Token t) = length g.rules + t
 
 abbrev pub IsNodeOf : Numbered → Sym → ℕ → Type 0
-IsNodeOf g symbol node = node_of g symbol ≡ node
+IsNodeOf g symbol node = IsSymbolOf (core g) symbol × (node_of g symbol ≡ node)
 
 -- the productions that a search follows: all of them, or only those that are usable
 abbrev pub IsFollowed : Numbered → Bool → ℕ → List Sym → Type 0
@@ -34,12 +35,9 @@ pub record RefersAt (g : Numbered) (only_usable : Bool) (p node : ℕ) : Type 0 
   pub followed : IsFollowedAt g only_usable p
   pub holds : FoundBy (IsNodeOf g) (nth_production (core g) p).symbols node
 
--- a rule's node leads to those of the symbols that the rule leads to
-pub record IsEdge (g : Numbered) (only_usable : Bool) (node other : ℕ) : Type 0 where
-  pub within : node < length g.rules
-  pub to : Sym
-  pub leads : Leads (IsFollowed g only_usable) (Rule node) to
-  pub is : node_of g to ≡ other
+-- what the search leads from and to
+abbrev pub IsFollowedEdge : Numbered → Bool → ℕ → ℕ → Type 0
+IsFollowedEdge g only_usable = IsEdge (IsNodeOf g) (Leads (IsFollowed g only_usable))
 
 -- the search has reached exactly the nodes of reachable symbols
 abbrev pub Knows : Numbered → Bool → SearchState → Type 0

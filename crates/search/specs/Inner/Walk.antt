@@ -79,13 +79,9 @@ pub record IsPending (Leads : ℕ → ℕ → Type 0) (nodes : ℕ) (path : List
   pub within : pending.to < nodes
   pub of : (g : Group) → Contains groups g → (g.pending ≤ index) ↔ (g.start ≤ pending.from)
 
--- What is known is true: settled nodes are in the components with the numbers that they have, of which there are so many, and nodes of the
--- path lead to those of the same group and of later ones.
-pub record AreKnown (Leads : ℕ → ℕ → Type 0) (nodes : ℕ) (known : List Known) (path : List ℕ) (groups : List Group) (pending : List Pending) (count : ℕ)
-    (hand : List Pending) : Type 0 where
+-- settled nodes are in the components with the numbers that they have, of which there are so many
+pub record AreNumbered (Leads : ℕ → ℕ → Type 0) (nodes : ℕ) (known : List Known) (count : ℕ) : Type 0 where
   pub entries : length known ≡ nodes
-  pub on_path : IsPath known path
-  pub within : (index : ℕ) → index < length path → slice_index path index < nodes
   pub below : (node number : ℕ) → known_of known node ≡ Settled number → number < count
   pub some : (number : ℕ) → number < count → (node : ℕ) × (known_of known node ≡ Settled number)
   pub closed : (a b : ℕ) → IsSettled known a → Leads a b → IsSettled known b
@@ -93,6 +89,13 @@ pub record AreKnown (Leads : ℕ → ℕ → Type 0) (nodes : ℕ) (known : List
   pub different : (a b number other : ℕ) → known_of known a ≡ Settled number → known_of known b ≡ Settled other → ReachableFrom Leads a b
       → ReachableFrom Leads b a → number ≡ other
   pub order : (a b number other : ℕ) → known_of known a ≡ Settled number → Leads a b → known_of known b ≡ Settled other → other ≤ number
+
+-- what is known is true: settled nodes are in their components, and nodes of the path lead to those of the same group and of later ones
+pub record AreKnown (Leads : ℕ → ℕ → Type 0) (nodes : ℕ) (known : List Known) (path : List ℕ) (groups : List Group) (pending : List Pending) (count : ℕ)
+    (hand : List Pending) : Type 0 where
+  pub numbered : AreNumbered Leads nodes known count
+  pub on_path : IsPath known path
+  pub within : (index : ℕ) → index < length path → slice_index path index < nodes
   pub rising : AreRising groups
   pub inside : (g : Group) → Contains groups g → (g.start < length path) × (g.pending ≤ length pending)
   pub first : 0 < length path → (g : Group) × Contains groups g × (g.start ≡ 0)

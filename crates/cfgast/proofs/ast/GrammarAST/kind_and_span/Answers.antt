@@ -12,7 +12,8 @@ pub returns-in-Some : goal.returns-in-Some
 unfolding syntax syntax_view
 returns-in-Some c =
     let entries = c.args.self.now.syntax.rules.entries in
-    rule_there (syntax c.args.self.now) c.args.node _ (slice_get-map rule_entry entries c.args.node ∙ ap (option_map rule_entry) (sym c.in-Some.ensures.entry))
+    ap (option_map (λ named. named.1)) (sym (rule_there (syntax c.args.self.now) c.args.node _
+    (slice_get-map rule_entry entries c.args.node ∙ ap (option_map rule_entry) (sym c.in-Some.ensures.entry))))
 
 pub returns-in_err-span : goal.returns-in_err-span
 unfolding syntax syntax_view

@@ -7,8 +7,12 @@ use Rattle.cfgrammar.specs.Openings.{ArePositionsOf}
 use Rattle.cfgrammar.specs.PIdx.{PIdx}
 use Rattle.cfgrammar.proofs.ListedPositions.{listed_positions}
 use Rattle.cfgfindings.specs.Inner.Reached.{RefersAt}
-use Rattle.cfgfindings.proofs.Reached.{edges_of_rule}
+use Rattle.cfgfindings.proofs.Reached.{edges_of_rule, leads_nowhere}
 use Rattle.cfgfindings.proofs.useless.FollowedEdgesBits.reach_from.Goals as goal
+
+pub returns-then-node-from : goal.returns-then-node-from
+returns-then-node-from c = leads_nowhere c.args.self.now.unproductive.now c.args.self.now.only_usable c.args.node
+    (omega (arith, c.if-node-from.true, c.from.ensures, c.rules_len.ensures, ap (λ (n : Numbered). length n.rules) c.grammar-grammar.ensures)) c.args.search.now
 
 pub loop-production-init : goal.loop-production-init
 loop-production-init c = each_none _ _

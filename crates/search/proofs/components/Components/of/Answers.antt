@@ -1,14 +1,14 @@
 use Rattle.std.proofs.Common.{◌≡◌, ◌<◌, ℕ, false, [], get_or, slice_index, arith, subst, sym, below_more, length}
 use Rattle.search.specs.Components.{AreMembers}
 use Rattle.search.specs.Inner.Walk.{IsWalk, is_new, known_of}
-use Rattle.search.proofs.Walking.{all_settled, nothing_known_as, numbers_below, stays_entered}
+use Rattle.search.proofs.Walking.{all_settled, known_as, nothing_known, numbers_below, stays_entered}
 use Rattle.search.proofs.components.Components.of.Goals as goal
 
 pub loop-node-init : goal.loop-node-init
 loop-node-init g c =
     let made = c.in_ok-walk.ensures in record {
       walk = record {
-        are = nothing_known_as (g.E.Edges.leads c.args.edges.now) c.args.nodes _ _ _ _ _ made.known made.path made.groups made.pending made.count;
+        are = known_as made.known made.path made.groups made.pending made.count (nothing_known (g.E.Edges.leads c.args.edges.now) c.args.nodes);
         targets = made.targets;
       };
       groups = made.groups;

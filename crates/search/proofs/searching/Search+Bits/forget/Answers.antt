@@ -1,4 +1,4 @@
-use Rattle.std.proofs.Common.{◌<◌, Contains, length, ap, sym, subst}
+use Rattle.std.proofs.Common.{◌<◌, Contains, length, sym, subst}
 use Rattle.std.proofs.lemmas.List.Elements.{Contains-push}
 use Rattle.search.specs.Reachable.{SearchState}
 use Rattle.search.proofs.searching.Search+Bits.forget.Goals as goal

@@ -1,6 +1,7 @@
-use Rattle.std.proofs.Common.{◌≤◌, length, arith, ap, ◌∙◌}
+use Rattle.std.proofs.Common.{◌<◌, ◌≤◌, length, arith, ap, refl, sym, subst, ◌∙◌}
 use Rattle.std.proofs.lemmas.List.{length_push}
-use Rattle.search.proofs.Walking.{inside_path, room, settled_as, settled_less_as, taken_leads, taken_one, taken_within}
+use Rattle.search.specs.Inner.Walk.{left_to_look, left_to_walk}
+use Rattle.search.proofs.Walking.{inside_path, known_as, room, settled_last, settled_less, taken_leads, taken_one, taken_within}
 use Rattle.search.proofs.walk.Walk.go_on.Goals as goal
 
 pub settle-requires-clause-start : goal.settle-requires-clause-start
@@ -12,23 +13,23 @@ settle-requires-clause-count g c = room _ _ _ _ _ _ _ c.requires.walk.are c.args
 pub returns-then-len-group-clause-walk : goal.returns-then-len-group-clause-walk
 returns-then-len-group-clause-walk g c =
     let x = c.args.self.now in
-    let y = c.settle.new.self in
     let done : length x.pending.items ≤ c.args.group.pending = omega (arith, c.if-len-group.true, c.len.ensures, x.pending.ok.0) in
     record {
-      are = settled_as _ _ x.known.items x.path.items x.groups.items x.pending.items x.count c.requires.walk.are c.args.group c.requires.group done
-          y.known.items c.settle.ensures.entries c.settle.ensures.known y.path.items y.groups.items y.pending.items y.count
-          c.settle.ensures.path (c.settle.ensures.groups c.requires.group.rest c.args.group c.requires.group.is) c.settle.ensures.pending c.settle.ensures.count;
+      are = known_as refl c.settle.ensures.path (c.settle.ensures.groups c.requires.group.rest c.args.group c.requires.group.is) c.settle.ensures.pending
+          c.settle.ensures.count (settled_last _ _ x.known.items x.path.items x.groups.items x.pending.items x.count c.requires.walk.are c.args.group c.requires.group
+          done c.settle.new.self.known.items c.settle.ensures.entries c.settle.ensures.known);
       targets = c.settle.ensures.targets ∙ c.requires.walk.targets;
     }
 
 pub returns-then-len-group-clause-less : goal.returns-then-len-group-clause-less
 returns-then-len-group-clause-less g c =
     let x = c.args.self.now in
-    let y = c.settle.new.self in
     let done : length x.pending.items ≤ c.args.group.pending = omega (arith, c.if-len-group.true, c.len.ensures, x.pending.ok.0) in
-    settled_less_as _ _ x.known.items x.path.items x.groups.items x.pending.items x.count c.requires.walk.are c.args.group c.requires.group done
-    y.known.items c.settle.ensures.entries c.settle.ensures.known y.groups.items y.pending.items
-    (c.settle.ensures.groups c.requires.group.rest c.args.group c.requires.group.is) c.settle.ensures.pending
+    let nodes = g.E.Edges.nodes c.args.edges.now in
+    let groups = c.settle.ensures.groups c.requires.group.rest c.args.group c.requires.group.is in
+    subst (λ n. n < left_to_walk nodes x) (sym (λ i. left_to_look nodes c.settle.new.self.known.items (groups i) (c.settle.ensures.pending i)))
+    (settled_less _ _ x.known.items x.path.items x.groups.items x.pending.items x.count c.requires.walk.are c.args.group c.requires.group done
+    c.settle.new.self.known.items c.settle.ensures.entries c.settle.ensures.known)
 
 pub follow-requires-clause-to : goal.follow-requires-clause-to
 follow-requires-clause-to g c =

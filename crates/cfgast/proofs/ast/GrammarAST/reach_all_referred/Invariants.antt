@@ -1,8 +1,0 @@
-use Rattle.std.proofs.Common.{take}
-use Rattle.search.specs.Reachable.{FoundBy, Reaches}
-use Rattle.cfgast.specs.Inner.Nodes.{RefersAt}
-use Rattle.cfgast.specs.TreeView.{syntax}
-use Rattle.cfgast.proofs.ast.GrammarAST.reach_all_referred.Given as goal
-
-abbrev pub invariant-loop-production : goal.invariant-loop-production
-invariant-loop-production l = Reaches (FoundBy (RefersAt (syntax l.self)) (take l.production-index l.productions)) l.fn.search l.search
