@@ -15,7 +15,7 @@ use Rattle.cfgrammar.specs.Openings.{ArePositionsOf, nth_production}
 use Rattle.cfgrammar.specs.Symbol.{Symbol}
 use Rattle.cfgrammar.specs.Symbol.TheVariants as symbols
 use Rattle.cfgrammar.specs.Uses.{IsUsable}
-use Rattle.cfgfindings.specs.Useless.{IsReachable, IsUseless}
+use Rattle.cfgfindings.specs.Useless.{IsReachable, IsUseless, Leads}
 use Rattle.cfgfindings.specs.Inner.Reached.{AreReached, RefersAt, IsFollowed, IsFollowedEdge, IsFollowedAt, IsNodeOf, Knows, node_of}
 use Rattle.cfgfindings.specs.Inner.Unproductive.{UnproductiveOrNot}
 use Rattle.cfgfindings.proofs.Unusable.{UsesByRules}

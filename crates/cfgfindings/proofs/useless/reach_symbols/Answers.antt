@@ -24,7 +24,7 @@ loop-symbol-preserved c =
     let n = c.loop-symbol.symbol-index in
     let symbol : Symbol ℕ = get_or all n (symbols.Rule (record { 0 = 0 })) in
     each_more (λ symbol. IsNodeOf g (sym_of (λ s. s) symbol)) all n symbol _ _ _ c.loop-symbol-test.true (get_or_default all n _ symbol c.loop-symbol-test.true) c.loop-symbol.invariant
-    (reaches_node g (sym_of (λ s. s) symbol) (symbol_of g symbol (c.requires.within n c.loop-symbol-test.true)) c.node_of.result c.node_of.ensures.value _ _ c.in_ok-reach.ensures)
+    (reaches_node g (sym_of (λ s. s) symbol) (symbol_of g symbol (c.requires.within n _ c.loop-symbol-test.true)) c.node_of.result c.node_of.ensures.value _ _ c.in_ok-reach.ensures)
 
 pub returns : goal.returns
 returns c = found_mapped (sym_of (λ s. s)) _ c.args.symbols.now _ _
