@@ -1,6 +1,6 @@
 -- Identifiers in texts of any bytes begin with a byte of names, construct by construct.
-use Rattle.std.proofs.Common.{◌≡◌, ℕ, Bool, true, false, List, [], ◌∷◌, length, Option, Some, None, Result, Ok, Err, All, sym, ap, subst, ◌∙◌}
-use Rattle.std.specs.Prelude.{IfSome, codes}
+use Rattle.std.proofs.Common.{◌≡◌, ℕ, Bool, true, List, [], ◌∷◌, length, Option, Some, None, Result, Ok, Err, All, sym, ap, subst, ◌∙◌}
+use Rattle.std.specs.Prelude.{IfSome}
 use Rattle.std.proofs.lemmas.List.Elements.{All-append, All-head, All-tail, All-weaker}
 use Rattle.lemmas.proofs.Options.{All-filter_map}
 use Rattle.constructs.specs.Pieces.{starts}
@@ -9,24 +9,21 @@ use Rattle.constructs.specs.Construct.{Construct, repeat, gives}
 use Rattle.constructs.specs.Turns.{Turn}
 use Rattle.constructs.proofs.Yields.{TurnPasses, turns_pass}
 use Rattle.bison_words.specs.declared.class.Class.{Class}
-use Rattle.bison_words.specs.declared.class.Class.TheVariants.{NameByte, Hexadecimal, Octal}
+use Rattle.bison_words.specs.declared.class.Class.TheVariants.{NameByte}
 use Rattle.bison_words.specs.declared.directive.Directive.{Directive}
 use Rattle.bison_words.specs.declared.nesting.Depth.{Depth}
 use Rattle.bison_words.specs.declared.nesting.Nesting.{Nesting}
 use Rattle.bison_words.specs.declared.words.WordFaultKind.{WordFaultKind}
-use Rattle.bison_words.specs.declared.words.WordFaultKind.TheVariants.{IncompleteLiteral, IncompleteString}
 use Rattle.bison_words.specs.Bytes.{holds}
 use Rattle.bison_words.specs.Runs.{IsSome}
-use Rattle.bison_words.specs.Words.{Item, WordRead, Lexeme, String, Translatable, Predicate, word_in}
+use Rattle.bison_words.specs.Words.{Item, WordRead, word_in}
 use Rattle.bison_words.specs.Blanks.{line_number, comment, blank_turn, blank}
 use Rattle.bison_words.specs.Names.{identifier, number_word, number_end, hexadecimal, number, mark, odd}
-use Rattle.bison_words.specs.Digits.{number_of}
-use Rattle.bison_words.specs.Quotes.{numbered_value, numbered, illegal_escape, escape, quoted_part, quoted, quotes_end, literal_word, literal, string_word, string, translatable, if_closed}
+use Rattle.bison_words.specs.Quotes.{numbered_value, numbered, illegal_escape, escape, quoted_part, quoted, quotes_end, literal_word, literal, string_word, string, translatable}
 use Rattle.bison_words.specs.Brackets.{tag_piece, inner_name, tag_end, tag, name_close, name_end, name}
 use Rattle.bison_words.specs.Nested.{Found, Passage, after_piece, outermost, onward, step_outcome, IsStep, step, IsNested}
 use Rattle.bison_words.specs.NestedHere.{emits_all, closing}
-use Rattle.bison_words.specs.Code.{splice, splice_turn, splices, line_part, comment_part, escaped_part, quotes_part, less_piece, percent_piece, code_comment, slash_piece, code_quotes, code_piece, code_lexeme, code_end, braces, code, predicate, prologue_piece, prologue_end, prologue}
-use Rattle.bison_words.specs.Directives.{directive_named}
+use Rattle.bison_words.specs.Code.{splice, splice_turn, splices, line_part, comment_part, escaped_part, quotes_part, less_piece, percent_piece, code_comment, slash_piece, code_quotes, code_piece, code_end, braces, code, predicate, prologue_piece, prologue_end, prologue}
 use Rattle.bison_words.specs.Here.{Turn as Pieces, passes, unended}
 use Rattle.bison_words.specs.TextWords.{equals, directive_end, directive_word, directive_name, directive, percent, bracketed, word, word_turn, words, epilogue, mark_then, sections, text_words}
 use Rattle.bison_reader.specs.Sorts.{words_in}
@@ -53,16 +50,9 @@ line_number_kept : KeptAll line_number
 unfolding line_number
 line_number_kept Q q = (λ _ _ _ _ _ _. q, λ _ _. q)
 
-comment_kept : (len : ℕ) (start : List ℕ) → KeptAll (comment len start)
-unfolding comment unended
-comment_kept len start Q q = (λ _ _ _ _. q, λ _. (tt, (tt, λ _ _ _ _. q)))
-
 blank_kept : (len : ℕ) → KeptAll (blank len)
-unfolding blank blank_turn repeat
-blank_kept len Q q = (
-  λ start. (λ _ _ _ _. tt, (line_number_kept _ tt, (λ _ _ _ _. tt, (comment_kept len start _ tt, tt)))),
-  λ _. q,
-)
+unfolding blank blank_turn comment unended repeat
+blank_kept len Q q = (λ start. (λ _ _ _ _. tt, (line_number_kept _ tt, search depth 9)), λ _. q)
 
 -- Nested brackets
 
@@ -104,34 +94,13 @@ module _ (piece : Pieces Nesting) (kept : Kept piece (λ _. Unit {0})) where
 
 -- Parts of code, and of tags
 
-splice_kept : Kept splice (λ _. Unit {0})
-unfolding splice
-splice_kept = (λ _ _ _ _. (tt, (tt, tt)), tt)
-
 splices_kept : KeptAll splices
-unfolding splices splice_turn repeat
-splices_kept Q q = ((λ _ _. splice_kept, λ _ _. tt), λ _. q)
-
-line_part_kept : Kept line_part (λ _. Unit {0})
-unfolding line_part
-line_part_kept = (λ _ _. splice_kept, λ _ _. (tt, (λ _ _ _ _. tt, tt)))
-
-comment_part_kept : Kept comment_part (λ _. Unit {0})
-unfolding comment_part
-comment_part_kept = (λ _ _ _ _. tt, (splices_kept _ (λ _ _. tt, λ _ _. tt), tt))
-
-quotes_part_kept : (close : List ℕ) → Kept (quotes_part close) (λ _. Unit {0})
-unfolding quotes_part escaped_part
-quotes_part_kept close =
-    (λ _ _. tt, λ _ _. (λ _ _. splice_kept, λ _ _. (splices_kept _ (λ _ _ _ _. tt, tt), (λ _ _ _ _. tt, (λ _ _ _ _. tt, tt)))))
+unfolding splices splice_turn splice repeat
+splices_kept Q q = search q depth 9
 
 tag_piece_kept : Kept tag_piece (λ _. Unit {0})
 unfolding tag_piece
-tag_piece_kept = (λ _ _ _ _. tt, (tt, (tt, (tt, (tt, tt)))))
-
-inner_name_kept : KeptAny inner_name
-unfolding inner_name
-inner_name_kept Q q = (λ _ _ _ _ _ _. q true, λ _ _. q false)
+tag_piece_kept = search depth 9
 
 name_begins : (text found rest : List ℕ) → IsSome NameByte text found rest → starts (holds NameByte) found ≡ true
 name_begins text [] rest is = absurd (cc (is.begins, ap (starts (holds NameByte)) is.run.whole, is.run.longest))
@@ -141,153 +110,73 @@ name_begins text (b ∷ found) rest is = sym (ap (starts (holds NameByte)) is.ru
 module _ (len : ℕ) where
   -- Code
 
-  code_comment_kept : (start : List ℕ) → KeptAll (code_comment len start)
-  unfolding code_comment repeat
-  code_comment_kept start Q q = (comment_part_kept, λ _. (q, (tt, q)))
-
   slash_piece_kept : (start : List ℕ) → Kept (slash_piece len start) (λ _. Unit {0})
-  unfolding slash_piece repeat
-  slash_piece_kept start = splices_kept _ (code_comment_kept start _ tt, ((line_part_kept, λ _. tt), tt))
+  unfolding slash_piece code_comment comment_part line_part splice repeat
+  slash_piece_kept start = search splices_kept depth 9
 
   code_quotes_kept : (start close : List ℕ) (kind : WordFaultKind) → Kept (code_quotes len start close kind) (λ _. Unit {0})
-  unfolding code_quotes repeat
-  code_quotes_kept start close kind = (quotes_part_kept close, λ _. (tt, (tt, tt)))
+  unfolding code_quotes quotes_part escaped_part splice repeat
+  code_quotes_kept start close kind = search splices_kept depth 9
 
   code_piece_kept : Kept (code_piece len) (λ _. Unit {0})
   unfolding code_piece less_piece percent_piece
-  code_piece_kept = λ start. (
-    λ _ _ _ _. tt,
-    (
-      slash_piece_kept start,
-      (
-        splices_kept _ (tt, (tt, tt)),
-        (
-          splices_kept _ (tt, tt),
-          (
-            tt,
-            (
-              tt,
-              (
-                code_quotes_kept start (codes "\"") IncompleteString,
-                (
-                  code_quotes_kept start (codes "'") IncompleteLiteral,
-                  tt,
-                ),
-              ),
-            ),
-          ),
-        ),
-      ),
-    ),
-  )
-
-  braces_kept : (start : List ℕ) (lexeme : List ℕ → List ℕ → Lexeme) → ((opened rest : List ℕ) → BeginsAsName (lexeme opened rest)) → Kept (braces len start lexeme) (λ _. Unit {0})
-  unfolding braces code_end
-  braces_kept start lexeme named = (
-    λ opened. closing_kept (code_piece len) code_piece_kept _ (λ closed. (λ _ _ rest _. (named opened rest, tt), λ _ _. (tt, (tt, tt)))),
-    tt,
-  )
+  code_piece_kept = λ start. (λ _ _ _ _. tt, (slash_piece_kept start, (splices_kept _ (tt, (tt, tt)), (splices_kept _ (tt, tt), search code_quotes_kept depth 9))))
 
   code_kept : Kept (code len) (λ _. Unit {0})
-  unfolding code
-  code_kept = λ start. braces_kept start (code_lexeme len) (λ _ _. tt)
+  unfolding code braces code_end
+  code_kept = search (closing_kept (code_piece len) code_piece_kept) depth 9
 
   predicate_kept : Kept (predicate len) (λ _. Unit {0})
-  unfolding predicate
-  predicate_kept = λ start. (λ _ _ _ _. braces_kept start (λ opened rest. Predicate) (λ _ _. tt), tt)
+  unfolding predicate braces code_end
+  predicate_kept = search (closing_kept (code_piece len) code_piece_kept) depth 9
 
   prologue_kept : Kept (prologue len) (λ _. Unit {0})
   unfolding prologue prologue_piece prologue_end repeat
-  prologue_kept = λ start. (λ opened. ((λ _ _. tt, λ _ _. code_piece_kept), λ _. (λ _. (tt, tt), (tt, (tt, tt)))), tt)
+  prologue_kept = search code_piece_kept depth 9
 
   -- Literals and strings
 
   numbered_kept : (start : List ℕ) (class : Class) (base least most : ℕ) → KeptAny (numbered len start class base least most)
   unfolding numbered numbered_value
-  numbered_kept start class base least most Q q =
-      (λ _ _ _. (tt, q 63), λ _ _ _ digits _ _. (λ _ _. q (number_of base digits), λ _ _ _. (tt, q 63)))
+  numbered_kept start class base least most Q q = search q depth 9
 
   escape_kept : (start : List ℕ) → KeptAny (escape len start)
   unfolding escape illegal_escape
-  escape_kept start Q q = (
-    λ _ _ _ _. q _,
-    (
-      λ _ _. numbered_kept start Octal 8 1 3 Q q,
-      λ _ _. (
-        numbered_kept start Hexadecimal 16 1 len Q q,
-        (
-          numbered_kept start Hexadecimal 16 4 4 Q q,
-          (
-            numbered_kept start Hexadecimal 16 8 8 Q q,
-            λ _ _ _ _ _. (tt, q 63),
-          ),
-        ),
-      ),
-    ),
-  )
+  escape_kept start Q q = search (numbered_kept, q) depth 9
 
   quoted_kept : (close : List ℕ) → KeptAny (quoted len close)
   unfolding quoted quoted_part
-  quoted_kept close Q q = (
-    λ start. (λ _ _. tt, λ _ _. (escape_kept start _ (λ _. tt), (λ _. (tt, tt), (λ _ _ _ _. tt, (λ _ _ _ _. tt, tt))))),
-    λ _. q _,
-  )
-
-  quotes_end_kept : (start close : List ℕ) (kind : WordFaultKind) → KeptAny (quotes_end len start close kind)
-  unfolding quotes_end
-  quotes_end_kept start close kind Q q = (q true, (tt, q false))
+  quoted_kept close Q q = search (escape_kept, q) depth 9
 
   literal_word_kept : (start : List ℕ) (parts : Option (ℕ × Bool)) → KeptAll (literal_word len start parts)
   unfolding literal_word
-  literal_word_kept start parts Q q = (λ _ _ _. (tt, λ _. (tt, q)), λ _ _. (λ _ _ _. (tt, λ _. (tt, q)), λ _ _ _. (tt, q)))
+  literal_word_kept start parts Q q = search q depth 9
 
   literal_kept : Kept (literal len) (λ _. Unit {0})
-  unfolding literal
-  literal_kept = λ start. (
-    quoted_kept (codes "'") _ (λ parts. quotes_end_kept start (codes "'") IncompleteLiteral _ (λ closed. literal_word_kept start (if_closed closed parts) _ tt)),
-    tt,
-  )
-
-  string_word_kept : (start close : List ℕ) (lexeme : List ℕ → Lexeme) → ((text : List ℕ) → BeginsAsName (lexeme text)) → Kept (string_word len start close lexeme) (λ _. Unit {0})
-  unfolding string_word
-  string_word_kept start close lexeme named = λ quote. (
-    λ opened. quoted_kept close _ (λ _ closing. quotes_end_kept quote close IncompleteString _ (λ _ _. (named _, tt))),
-    tt,
-  )
+  unfolding literal quotes_end
+  literal_kept = search (quoted_kept, literal_word_kept) depth 9
 
   string_kept : Kept (string len) (λ _. Unit {0})
-  unfolding string
-  string_kept = λ start. string_word_kept start (codes "\"") String (λ _. tt)
+  unfolding string string_word quotes_end
+  string_kept = search quoted_kept depth 9
 
   translatable_kept : Kept (translatable len) (λ _. Unit {0})
-  unfolding translatable
-  translatable_kept = λ start. (string_word_kept start (codes "\")") Translatable (λ _. tt), tt)
+  unfolding translatable string_word quotes_end
+  translatable_kept = search quoted_kept depth 9
 
   -- Tags, and names in brackets
 
   tag_kept : Kept (tag len) (λ _. Unit {0})
   unfolding tag tag_end
-  tag_kept = λ start. (
-    λ _. (tt, tt),
-    (
-      λ _. (tt, tt),
-      (
-        λ opened. closing_kept tag_piece tag_piece_kept _ (λ closed. (λ _ _ _. (tt, tt), λ _ _. (tt, (tt, tt)))),
-        tt,
-      ),
-    ),
-  )
+  tag_kept = λ start. (search, (search, search (closing_kept tag_piece tag_piece_kept) depth 9))
 
   name_end_kept : (start opened : List ℕ) (found : Bool) → KeptAll (name_end len start opened found)
   unfolding name_end name_close
-  name_end_kept start opened found Q q = λ close. (
-    λ _ _ _ _. (λ _ _ _. (tt, q), λ _ _. (tt, λ _. (tt, q))),
-    (tt, (tt, λ _ _ _ _. q)),
-  )
+  name_end_kept start opened found Q q = search q depth 9
 
   name_kept : Kept (name len) (λ _. Unit {0})
-  unfolding name
-  name_kept = λ start. (λ opened. blank_kept len _ (inner_name_kept _ (λ found. blank_kept len _ (name_end_kept start opened found _ tt))), tt)
+  unfolding name inner_name
+  name_kept = search (blank_kept len, name_end_kept) depth 9
 
   -- Identifiers, numbers and marks
 
@@ -297,108 +186,52 @@ module _ (len : ℕ) where
 
   number_end_kept : (start : List ℕ) (base : ℕ) (digits : List ℕ) → Kept (number_end len start base digits) (λ _. Unit {0})
   unfolding number_end number_word
-  number_end_kept start base digits = (
-    λ _ _ _ _ _ _ _. (tt, (tt, tt)),
-    λ _ _. (λ _ _ _. (tt, λ _. (tt, tt)), λ _ _ _. (tt, tt)),
-  )
+  number_end_kept start base digits = search depth 9
 
   number_kept : Kept (number len) (λ _. Unit {0})
   unfolding number hexadecimal
-  number_kept = λ start. (
-    λ _ digits _ _. number_end_kept start 16 digits,
-    (
-      λ _ digits _ _. number_end_kept start 16 digits,
-      (λ _ digits _ _. number_end_kept start 10 digits, tt),
-    ),
-  )
+  number_kept = search number_end_kept depth 9
 
   mark_kept : Kept (mark len) (λ _. Unit {0})
   unfolding mark
-  mark_kept = λ start. (λ _. (tt, tt), (λ _. (tt, tt), (λ _. (tt, tt), (λ _. (tt, tt), tt))))
+  mark_kept = λ start. search depth 7
 
   odd_kept : Kept (odd len) (λ _. Unit {0})
   unfolding odd
-  odd_kept = λ start. (
-    λ _ _ _ _ _. (tt, (tt, tt)),
-    (λ _ _ _ _ _. (tt, (tt, tt)), tt),
-  )
+  odd_kept = search depth 9
 
   -- Directives
 
   directive_word_kept : (start : List ℕ) (named : Option Directive) → KeptAll (directive_word len start named)
   unfolding directive_end equals
-  directive_word_kept start (Some found) Q q = (λ _ _ _ _ _ _. (λ _. (tt, q), λ _. (tt, q)), λ _ _ _. (tt, q))
-  directive_word_kept start None Q q = λ _. (tt, (tt, q))
+  directive_word_kept start (Some found) Q q = search q depth 9
+  directive_word_kept start None Q q = search q depth 9
 
   directive_kept : Kept (directive len) (λ _. Unit {0})
   unfolding directive directive_name
-  directive_kept = λ start. (
-    (
-      λ _ _. (λ _ found _ _. directive_word_kept start (directive_named found) _ tt, λ _. (tt, (tt, tt))),
-      λ _ _. λ _. (tt, (tt, tt)),
-    ),
-    tt,
-  )
+  directive_kept = search directive_word_kept depth 9
 
   -- All words
 
   bracketed_kept : Kept (bracketed len) (λ _. Unit {0})
   unfolding bracketed
-  bracketed_kept = (
-    λ _ _. literal_kept,
-    λ _ _. (
-      λ _ _. string_kept,
-      λ _ _. (
-        λ _ _. tag_kept,
-        λ _ _. (
-          λ _ _. name_kept,
-          λ _ _. (
-            λ _ _. code_kept,
-            λ _ _. odd_kept,
-          ),
-        ),
-      ),
-    ),
-  )
+  bracketed_kept = search (literal_kept, string_kept, tag_kept, name_kept, code_kept, odd_kept) depth 9
+
+  percent_kept : Kept (percent len) (λ _. Unit {0})
+  unfolding percent
+  percent_kept = search (prologue_kept, predicate_kept, directive_kept) depth 9
 
   word_kept : Kept (word len) (λ _. Unit {0})
-  unfolding word percent
-  word_kept = (
-    λ _ _. (λ _ _. prologue_kept, λ _ _. (λ _ _. predicate_kept, λ _ _. directive_kept)),
-    λ _ _. (
-      λ _ _. translatable_kept,
-      λ _ _. (
-        λ _ _. identifier_kept,
-        λ _ _. (
-          λ _ _. number_kept,
-          λ _ _. (
-            λ _ _. mark_kept,
-            λ _ _. bracketed_kept,
-          ),
-        ),
-      ),
-    ),
-  )
+  unfolding word
+  word_kept = search (percent_kept, translatable_kept, identifier_kept, number_kept, mark_kept, bracketed_kept) depth 9
 
   words_kept : KeptAll (words len)
   unfolding words word_turn repeat
   words_kept Q q = (blank_kept len _ (λ _ _. tt, λ _ _. word_kept), λ _. q)
 
-  epilogue_kept : KeptAll (epilogue len)
-  unfolding epilogue repeat
-  epilogue_kept Q q = λ _. (tt, (code_piece_kept, λ _. q))
-
-  last_kept : KeptAll (mark_then len (epilogue len))
-  unfolding mark_then
-  last_kept Q q = λ start. (λ _. (tt, epilogue_kept Q q), q)
-
-  sections_kept : KeptAll (sections len)
-  unfolding sections mark_then
-  sections_kept Q q = words_kept _ (λ start. (λ _. (tt, words_kept _ (last_kept Q q)), q))
-
   text_words_kept : Kept (text_words len) (λ _. Unit {0})
-  unfolding text_words
-  text_words_kept = line_number_kept _ (sections_kept _ (λ _ _. (tt, tt)))
+  unfolding text_words sections mark_then epilogue repeat
+  text_words_kept = line_number_kept _ (words_kept _ (λ start. (λ _. (tt, words_kept _ (λ start. (λ _. (tt, search code_piece_kept depth 9), search))), search)))
 
 word_named : (item : Item) → IsNamed item → IfSome (word_in item) (λ word. BeginsAsName word.lexeme)
 word_named (WordRead read) named = named
