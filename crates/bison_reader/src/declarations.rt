@@ -1,7 +1,7 @@
 //! Declarations.
 
 ghost use Rattle.std.specs.Prelude.{◌≡◌, ◌<◌, length, Ok};
-ghost use Rattle.constructs.specs.Construct.{again, goes_on, recovers, repeat, then};
+ghost use Rattle.constructs.specs.Construct.{again, goes_on, recovers, then};
 ghost use Rattle.bison_reader.specs.Declarations.{codes, declaration, declaration_rest, declaration_turn, declared};
 ghost use Rattle.bison_reader.specs.Declarations.{declared_by, expected_conflicts, level, named_code, only};
 ghost use Rattle.bison_reader.specs.Declarations.{start, start_turn, symbol_or_tag, symbol_or_tag_turn};
@@ -14,6 +14,61 @@ use crate::item::{Associativity, Expected, Item};
 use crate::lists::Listed;
 use crate::reader::{Reader, Stop};
 use crate::sort::{Declaration, Sort};
+use crate::turns::Turns;
+
+/// Further symbols of a `%start`.
+#[derive(Drop)]
+struct StartSymbols;
+
+impl Turns for StartSymbols {
+    ghost construct = { λ turns words. start_turn words };
+
+    #[tactic(auto, unfolding(crate::specs::Declarations::start_turn))]
+    fn turn(&self, reader: &mut Reader<'_>) -> Result<bool, Stop> {
+        match reader.take(Group::Symbol) {
+            Some(symbol) => {
+                reader.note(Item::Start(symbol))?;
+                Ok(true)
+            }
+            None => Ok(false),
+        }
+    }
+}
+
+/// Further symbols and tags of a `%destructor` or `%printer`.
+#[derive(Drop)]
+struct SymbolsAndTags;
+
+impl Turns for SymbolsAndTags {
+    ghost construct = { λ turns words. symbol_or_tag_turn words };
+
+    #[tactic(auto, unfolding(crate::specs::Declarations::symbol_or_tag_turn))]
+    fn turn(&self, reader: &mut Reader<'_>) -> Result<bool, Stop> {
+        match reader.take(Group::SymbolOrTag) {
+            Some(word) => {
+                reader.symbol_or_tag(word)?;
+                Ok(true)
+            }
+            None => Ok(false),
+        }
+    }
+}
+
+/// Declarations up to the first `%%` or the end, each or what is left of it after a fault.
+#[derive(Drop)]
+pub(crate) struct Declarations;
+
+impl Turns for Declarations {
+    ghost construct = { λ turns words. declaration_turn words };
+
+    #[tactic(auto, unfolding(crate::specs::Declarations::declaration_turn))]
+    fn turn(&self, reader: &mut Reader<'_>) -> Result<bool, Stop> {
+        if reader.is_here(Group::Mark) {
+            return Ok(false);
+        }
+        reader.declaration_or_rest()
+    }
+}
 
 impl Reader<'_> {
     ghost use Rattle.bison_reader.specs.Inner.Builds.{Builds};
@@ -26,34 +81,13 @@ impl Reader<'_> {
         self.note(Item::LevelEnd(associativity))
     }
 
-    /// Passes another symbol of a `%start`, if there is one.
-    #[tactic(auto, unfolding(crate::specs::Declarations::start_turn))]
-    fn start_turn(&mut self) -> Result<bool, Stop>
-        ensures { Builds goes_on self.old self.new result (start_turn self.old.sorts.now) }
-    {
-        match self.take(Group::Symbol) {
-            Some(symbol) => {
-                self.note(Item::Start(symbol))?;
-                Ok(true)
-            }
-            None => Ok(false),
-        }
-    }
-
-    fn start_symbols(&mut self) -> Result<(), Stop>
-        ensures { Builds (λ x. x) self.old self.new result (repeat (start_turn self.old.sorts.now)) }
-    {
-        while self.start_turn()? {}
-        Ok(())
-    }
-
     #[tactic(auto, unfolding(crate::specs::Declarations::start))]
     fn start(&mut self) -> Result<(), Stop>
         ensures { Builds (λ x. x) self.old self.new result (start self.old.sorts.now) }
     {
         let symbol = self.needed(Group::Symbol, Expected::Symbol)?;
         self.note(Item::Start(symbol))?;
-        self.start_symbols()
+        self.repeated(&StartSymbols)
     }
 
     /// Notes a symbol; a tag says nothing.
@@ -68,26 +102,6 @@ impl Reader<'_> {
         Ok(())
     }
 
-    #[tactic(auto, unfolding(crate::specs::Declarations::symbol_or_tag_turn))]
-    fn symbol_or_tag_turn(&mut self) -> Result<bool, Stop>
-        ensures { Builds goes_on self.old self.new result (symbol_or_tag_turn self.old.sorts.now) }
-    {
-        match self.take(Group::SymbolOrTag) {
-            Some(word) => {
-                self.symbol_or_tag(word)?;
-                Ok(true)
-            }
-            None => Ok(false),
-        }
-    }
-
-    fn symbols_and_tags(&mut self) -> Result<(), Stop>
-        ensures { Builds (λ x. x) self.old self.new result (repeat (symbol_or_tag_turn self.old.sorts.now)) }
-    {
-        while self.symbol_or_tag_turn()? {}
-        Ok(())
-    }
-
     /// Passes what follows `%destructor` or `%printer`.
     #[tactic(auto, unfolding(crate::specs::Declarations::symbols_code))]
     fn symbols_code(&mut self) -> Result<(), Stop>
@@ -96,7 +110,7 @@ impl Reader<'_> {
         self.needed(Group::Code, Expected::Code)?;
         let word = self.needed(Group::SymbolOrTag, Expected::SymbolOrTag)?;
         self.symbol_or_tag(word)?;
-        self.symbols_and_tags()
+        self.repeated(&SymbolsAndTags)
     }
 
     /// Passes a word of the group, which must be here, and whose text doesn't matter.
@@ -123,8 +137,7 @@ impl Reader<'_> {
         ensures { Builds (λ x. x) self.old self.new result (codes self.old.sorts.now) }
     {
         self.needed(Group::Code, Expected::Code)?;
-        self.words_of(Group::Code);
-        Ok(())
+        self.words_of(Group::Code)
     }
 
     /// Passes what follows `%define`.
@@ -218,19 +231,8 @@ impl Reader<'_> {
             return Ok(false);
         }
         self.needed(Group::Any, Expected::Declaration)?;
-        self.words_of(Group::InDeclaration);
+        self.words_of(Group::InDeclaration)?;
         Ok(!self.is_here(Group::End))
-    }
-
-    /// Passes a declaration, or what is left of one after a fault, and returns whether another may follow.
-    #[tactic(auto, unfolding(crate::specs::Declarations::declaration_turn))]
-    fn declaration_turn(&mut self) -> Result<bool, Stop>
-        ensures { Builds goes_on self.old self.new result (declaration_turn self.old.sorts.now) }
-    {
-        if self.is_here(Group::Mark) {
-            return Ok(false);
-        }
-        self.declaration_or_rest()
     }
 
     /// Passes a declaration, or what is left of one after a fault, and returns whether another may follow.
@@ -256,13 +258,5 @@ impl Reader<'_> {
     {
         self.declaration()?;
         Ok(true)
-    }
-
-    /// Passes all declarations, up to the first `%%` or the end.
-    pub(super) fn declarations(&mut self) -> Result<(), Stop>
-        ensures { Builds (λ x. x) self.old self.new result (repeat (declaration_turn self.old.sorts.now)) }
-    {
-        while self.declaration_turn()? {}
-        Ok(())
     }
 }

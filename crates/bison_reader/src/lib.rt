@@ -11,6 +11,7 @@ mod reader;
 mod rules;
 mod sort;
 mod sorts;
+mod turns;
 
 pub use group::Group;
 pub use item::{Associativity, Expected, Item, Part, PartKind, Production};

@@ -1,7 +1,7 @@
 //! Lists of symbols.
 
 ghost use Rattle.std.specs.Prelude.{◌≡◌, ◌<◌, length, Ok};
-ghost use Rattle.constructs.specs.Construct.{choice, emits, goes_on, repeat};
+ghost use Rattle.constructs.specs.Construct.{choice, emits};
 ghost use Rattle.bison_reader.specs.Declarations.{expected_of, group_of, is_literal, is_string, listed, listed_turn};
 ghost use Rattle.bison_reader.specs.Declarations.{precedence_rest, refused, rule_rest, symbol_rest, tagged_list};
 ghost use Rattle.bison_reader.specs.Declarations.{token_rest};
@@ -12,6 +12,7 @@ use crate::group::Group;
 use crate::item::{Associativity, Expected, Item};
 use crate::reader::{Reader, Stop};
 use crate::sort::Sort;
+use crate::turns::Turns;
 use std::alloc::AllocError;
 
 /// What a list of symbols, with tags between them, declares.
@@ -47,6 +48,24 @@ impl Listed {
             Listed::Rules => Expected::Identifier,
             Listed::Symbols | Listed::Precedences(_) => Expected::Symbol,
         }
+    }
+}
+
+// Each turn passes another symbol, with or without a tag before it.
+impl Turns for Listed {
+    ghost construct = { λ list words. listed_turn words list };
+
+    #[tactic(auto, unfolding(crate::specs::Declarations::listed_turn))]
+    fn turn(&self, reader: &mut Reader<'_>) -> Result<bool, Stop> {
+        if let Some(symbol) = reader.take(self.group()) {
+            reader.symbol_rest(*self, symbol)?;
+            return Ok(true);
+        }
+        if reader.take(Group::Tag).is_some() {
+            reader.listed(*self)?;
+            return Ok(true);
+        }
+        Ok(false)
     }
 }
 
@@ -134,29 +153,6 @@ impl Reader<'_> {
         self.symbol_rest(list, symbol)
     }
 
-    /// Passes another symbol, with or without a tag before it, if there is one.
-    #[tactic(auto, unfolding(crate::specs::Declarations::listed_turn))]
-    fn listed_turn(&mut self, list: Listed) -> Result<bool, Stop>
-        ensures { Builds goes_on self.old self.new result (listed_turn self.old.sorts.now list) }
-    {
-        if let Some(symbol) = self.take(list.group()) {
-            self.symbol_rest(list, symbol)?;
-            return Ok(true);
-        }
-        if self.take(Group::Tag).is_some() {
-            self.listed(list)?;
-            return Ok(true);
-        }
-        Ok(false)
-    }
-
-    fn listed_symbols(&mut self, list: Listed) -> Result<(), Stop>
-        ensures { Builds (λ x. x) self.old self.new result (repeat (listed_turn self.old.sorts.now list)) }
-    {
-        while self.listed_turn(list)? {}
-        Ok(())
-    }
-
     /// Passes a list of symbols, with tags between them.
     #[tactic(auto, unfolding(crate::specs::Declarations::tagged_list))]
     pub(super) fn tagged_list(&mut self, list: Listed) -> Result<(), Stop>
@@ -164,6 +160,6 @@ impl Reader<'_> {
     {
         self.optional(Group::Tag);
         self.listed(list)?;
-        self.listed_symbols(list)
+        self.repeated(&list)
     }
 }

@@ -3,11 +3,11 @@
 ghost use Rattle.std.specs.Prelude.{◌≡◌, ◌<◌, ◌≤◌, length, [], IfErr, IfOk, IfSome, Ok, OnOk, ◌∷◌, ◌++◌};
 ghost use Rattle.bison_reader.specs.Here.{colon_follows, is_here, is_of, needed, noted, optional, sort_of, word_turn};
 ghost use Rattle.bison_reader.specs.Here.{words_of};
-ghost use Rattle.constructs.specs.Construct.{goes_on};
 
 use crate::group::Group;
 use crate::item::{Expected, Item};
 use crate::sort::Sort;
+use crate::turns::Turns;
 use std::alloc::{AllocError, Global};
 
 /// Why reading stopped.
@@ -25,6 +25,15 @@ impl From<AllocError> for Stop {
 
     fn from(_error: AllocError) -> Stop {
         Stop::OutOfMemory
+    }
+}
+
+impl Turns for Group {
+    ghost construct = { λ group words. word_turn words group };
+
+    #[tactic(auto, unfolding(crate::specs::Here::word_turn))]
+    fn turn(&self, reader: &mut Reader<'_>) -> Result<bool, Stop> {
+        Ok(reader.take(*self).is_some())
     }
 }
 
@@ -122,19 +131,12 @@ impl<'a> Reader<'a> {
         self.take(group);
     }
 
-    /// Passes the next word, if it is of the group, and returns whether it is.
-    #[tactic(auto, unfolding(crate::specs::Here::word_turn))]
-    fn word_turn(&mut self, group: Group) -> bool
-        ensures { Builds goes_on self.old self.new (Ok result) (word_turn self.old.sorts.now group) }
-    {
-        self.take(group).is_some()
-    }
-
     /// Passes words of the group, as many as follow each other.
-    pub(super) fn words_of(&mut self, group: Group)
-        ensures { Builds (λ x. x) self.old self.new (Ok tt) (words_of self.old.sorts.now group) }
+    #[tactic(auto, unfolding(crate::specs::Here::words_of))]
+    pub(super) fn words_of(&mut self, group: Group) -> Result<(), Stop>
+        ensures { Builds (λ x. x) self.old self.new result (words_of self.old.sorts.now group) }
     {
-        while self.word_turn(group) {}
+        self.repeated(&group)
     }
 
     /// Notes an item.

@@ -1,7 +1,7 @@
 //! Rules, and the declarations among them.
 
 ghost use Rattle.std.specs.Prelude.{◌≡◌, Ok, OnOk, [], ◌∷◌, ◌++◌};
-ghost use Rattle.constructs.specs.Construct.{goes_on, many, recovers, repeat};
+ghost use Rattle.constructs.specs.Construct.{many, recovers};
 ghost use Rattle.bison_reader.specs.FileGrammar.{file, rules};
 ghost use Rattle.bison_reader.specs.Here.{sort_of};
 ghost use Rattle.bison_reader.specs.Rules.{modifier, modifier_with, part, production, rule};
@@ -10,10 +10,12 @@ ghost use Rattle.bison_reader.specs.Rules.{rule_or_declaration, rules_rest, rule
 ghost use Rattle.bison_reader.specs.Rules.{tagged_action, whole_production, with_name};
 ghost use Rattle.bison_reader.specs.Inner.Parts.{named_part};
 
+use crate::declarations::Declarations;
 use crate::group::Group;
 use crate::item::{Expected, Item, Part, PartKind, Production};
 use crate::reader::{Reader, Stop};
 use crate::sort::{Modifier, Sort};
+use crate::turns::Turns;
 use std::alloc::AllocError;
 
 /// Adds a part to a list.
@@ -22,6 +24,42 @@ fn push(parts: &mut Vec<Part>, part: Part) -> Result<(), AllocError>
 {
     parts.push(part)?;
     Ok(())
+}
+
+/// The other productions of the rule with this name, and any `;`.
+#[derive(Drop)]
+struct OtherProductions {
+    rule: usize,
+}
+
+impl Turns for OtherProductions {
+    ghost construct = { λ turns words. rule_turn words turns.rule };
+
+    #[tactic(auto, unfolding(crate::specs::Rules::rule_turn))]
+    fn turn(&self, reader: &mut Reader<'_>) -> Result<bool, Stop> {
+        if reader.take(Group::Bar).is_some() {
+            reader.production(self.rule)?;
+            return Ok(true);
+        }
+        Ok(reader.take(Group::Semicolon).is_some())
+    }
+}
+
+/// Rules, and the declarations among them, each or what is left of it after a fault.
+#[derive(Drop)]
+struct RulesAndDeclarations;
+
+impl Turns for RulesAndDeclarations {
+    ghost construct = { λ turns words. rules_turn words };
+
+    #[tactic(auto, unfolding(crate::specs::Rules::rules_turn))]
+    fn turn(&self, reader: &mut Reader<'_>) -> Result<bool, Stop> {
+        if reader.is_here(Group::RulesEnd) {
+            return Ok(false);
+        }
+        reader.rule_read()?;
+        Ok(true)
+    }
 }
 
 impl Reader<'_> {
@@ -172,31 +210,10 @@ impl Reader<'_> {
             Err(Stop::Unexpected) => {
                 self.sorts = sorts;
                 self.next = start;
-                self.words_of(Group::InRule);
-                Ok(())
+                self.words_of(Group::InRule)
             }
             read => read,
         }
-    }
-
-    /// Passes another production of the rule, or a `;`, and returns whether there is one.
-    #[tactic(auto, unfolding(crate::specs::Rules::rule_turn))]
-    fn rule_turn(&mut self, rule: usize) -> Result<bool, Stop>
-        ensures { Builds goes_on self.old self.new result (rule_turn self.old.sorts.now rule) }
-    {
-        if self.take(Group::Bar).is_some() {
-            self.production(rule)?;
-            return Ok(true);
-        }
-        Ok(self.take(Group::Semicolon).is_some())
-    }
-
-    /// Passes the other productions of the rule.
-    fn productions(&mut self, rule: usize) -> Result<(), Stop>
-        ensures { Builds (λ x. x) self.old self.new result (repeat (rule_turn self.old.sorts.now rule)) }
-    {
-        while self.rule_turn(rule)? {}
-        Ok(())
     }
 
     /// Passes what follows the name of a rule.
@@ -208,7 +225,7 @@ impl Reader<'_> {
         self.optional(Group::Name);
         self.needed(Group::Colon, Expected::Colon)?;
         self.production(name)?;
-        self.productions(name)
+        self.repeated(&OtherProductions { rule: name })
     }
 
     /// Passes what follows the directive of a declaration among the rules.
@@ -243,22 +260,9 @@ impl Reader<'_> {
     {
         let word = self.needed(Group::Any, Expected::Rule)?;
         if !self.is_of(Group::Semicolon, word) {
-            self.words_of(Group::InRule);
+            self.words_of(Group::InRule)?;
         }
-        self.words_of(Group::Semicolon);
-        Ok(())
-    }
-
-    /// Passes a rule or a declaration, or what is left of one after a fault, and returns whether there was one.
-    #[tactic(auto, unfolding(crate::specs::Rules::rules_turn))]
-    fn rules_turn(&mut self) -> Result<bool, Stop>
-        ensures { Builds goes_on self.old self.new result (rules_turn self.old.sorts.now) }
-    {
-        if self.is_here(Group::RulesEnd) {
-            return Ok(false);
-        }
-        self.rule_read()?;
-        Ok(true)
+        self.words_of(Group::Semicolon)
     }
 
     /// Passes a rule or a declaration, or what is left of one after a fault.
@@ -277,13 +281,6 @@ impl Reader<'_> {
         }
     }
 
-    fn rules_and_declarations(&mut self) -> Result<(), Stop>
-        ensures { Builds (λ x. x) self.old self.new result (repeat (rules_turn self.old.sorts.now)) }
-    {
-        while self.rules_turn()? {}
-        Ok(())
-    }
-
     /// Passes what follows the first `%%`: at least one rule.
     #[tactic(auto, unfolding(crate::specs::FileGrammar::rules), using(crate::proofs::Rests::next_here))]
     fn rules(&mut self) -> Result<(), Stop>
@@ -292,7 +289,7 @@ impl Reader<'_> {
         if self.is_here(Group::RulesEnd) {
             self.note(Item::Unexpected(self.next, Expected::Rule))?;
         }
-        self.rules_and_declarations()
+        self.repeated(&RulesAndDeclarations)
     }
 
     /// Passes a whole file.
@@ -300,7 +297,7 @@ impl Reader<'_> {
     pub(super) fn file(&mut self) -> Result<(), Stop>
         ensures { Builds (λ x. x) self.old self.new result (file self.old.sorts.now) }
     {
-        self.declarations()?;
+        self.repeated(&Declarations)?;
         match self.take(Group::Mark) {
             Some(_) => self.rules(),
             None => Ok(()),
