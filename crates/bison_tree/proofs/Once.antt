@@ -1,6 +1,7 @@
 -- Names, each once, are the same names.
 use Rattle.std.proofs.Common.{◌≡◌, ℕ, Bool, true, false, List, [], ◌∷◌, ◌||◌, map, fold, refl, sym, ap, ◌∙◌}
 use Rattle.std.specs.Str.{bytes_eq}
+use Rattle.std.proofs.Math.Bool.{or-false, or_assoc}
 use Rattle.std.specs.Cmp.Lexicographic.{bytes_decides}
 use Rattle.std.proofs.lemmas.List.Folds.{list_any-append}
 use Rattle.lemmas.specs.Lists.{pushed_unless}
@@ -9,14 +10,6 @@ use Rattle.bison_reader.specs.Items.{Item}
 use Rattle.bison_words.specs.Words.{Word}
 use Rattle.bison_tree.specs.Names.{each_once, letters_of, own_name, own_names, with_one}
 use Rattle.bison_tree.specs.Tree.{rules_items}
-
-or-false : (b : Bool) → (b || false) ≡ b
-or-false true = refl
-or-false false = refl
-
-or-assoc : (x y z : Bool) → ((x || y) || z) ≡ (x || (y || z))
-or-assoc true y z = refl
-or-assoc false y z = refl
 
 -- a name that is known adds none
 has_name-known : (names : List (List ℕ)) (n m : List ℕ) → has_name m names ≡ true → has_name n names ≡ (has_name n names || bytes_eq n m)
@@ -39,7 +32,7 @@ has_name-fold : (n : List ℕ) (names more : List (List ℕ)) → has_name n (fo
 has_name-fold n names [] = sym (or-false (has_name n names))
 has_name-fold n names (m ∷ more) =
     has_name-fold n (with_one names m) more ∙ ap (λ b. b || has_name n more) (has_name-one names n m)
-    ∙ or-assoc (has_name n names) (bytes_eq n m) (has_name n more)
+    ∙ or_assoc (has_name n names) (bytes_eq n m) (has_name n more)
 
 is_in : List (List ℕ) → List ℕ → Bool
 is_in names name = has_name name names

@@ -11,7 +11,6 @@ ghost use Rattle.bison_tree.specs.Inner.Views.{IsConsistent, aliases_view};
 ghost use Rattle.bison_tree.specs.Names.{alias_in, aliases_of, built_in, called, is_taken, name_at, names_of};
 ghost use Rattle.bison_tree.specs.Names.{with_alias};
 
-use crate::added::if_added;
 use crate::names::own_names;
 use crate::sets::{add_name, has_name};
 use bison_reader::Item;
@@ -53,8 +52,9 @@ impl Aliases {
         ensures consistent { IfOk result IsConsistent }
     {
         let mut aliases = Aliases::none(alloc);
-        let given = aliases.give_built_in(alloc);
-        if_added(aliases, given)
+        aliases.give(alloc, "YYerror", "error")?;
+        aliases.give(alloc, "$undefined", "YYUNDEF")?;
+        Ok(aliases)
     }
 
     /// Whether this is another name of a token.
@@ -98,17 +98,6 @@ impl Aliases {
         Ok(())
     }
 
-    /// Gives those that need no declaration.
-    fn give_built_in(&mut self, alloc: Global) -> Result<(), AllocError>
-        requires none { aliases_view self.old ≡ [] }
-        requires consistent { IsConsistent self.old }
-        ensures given { OnOk result (aliases_view self.new ≡ built_in) }
-        ensures consistent { OnOk result (IsConsistent self.new) }
-    {
-        self.give(alloc, "YYerror", "error")?;
-        self.give(alloc, "$undefined", "YYUNDEF")
-    }
-
     /// Gives those of items.
     fn give_items(
         &mut self,
@@ -145,25 +134,8 @@ fn aliases_of(alloc: Global, own: &[String], items: &[Item]) -> Result<Aliases, 
         ≡ aliases_of (map string_bytes own.now) (map item_view items.now)) }
 {
     let mut aliases = Aliases::built_in(alloc)?;
-    let given = aliases.give_items(alloc, own, items);
-    if_added(aliases, given)
-}
-
-/// Adds the names of words to an empty list, by the names that they have by themselves.
-fn push_called(
-    alloc: Global,
-    names: &mut Vec<String>,
-    aliases: &Aliases,
-    own: &[String],
-) -> Result<(), AllocError>
-    requires { names.old.items ≡ [] }
-    ensures { OnOk result (map string_bytes names.new.items
-        ≡ map (called (aliases_view aliases.now)) (map string_bytes own.now)) }
-{
-    for name in own {
-        names.push(String::from_str(alloc, aliases.called(name.as_str()))?)?;
-    }
-    Ok(())
+    aliases.give_items(alloc, own, items)?;
+    Ok(aliases)
 }
 
 /// The names of words, by the names that they have by themselves.
@@ -172,8 +144,10 @@ fn called(alloc: Global, aliases: &Aliases, own: &[String]) -> Result<Vec<String
         ≡ map (called (aliases_view aliases.now)) (map string_bytes own.now)) }
 {
     let mut names = Vec::new(alloc);
-    let pushed = push_called(alloc, &mut names, aliases, own);
-    if_added(names, pushed)
+    for name in own {
+        names.push(String::from_str(alloc, aliases.called(name.as_str()))?)?;
+    }
+    Ok(names)
 }
 
 /// The name of each word.

@@ -7,7 +7,6 @@ ghost use Rattle.bison_tree.specs.Names.{character_name, each_once, in_quotes, l
 ghost use Rattle.bison_tree.specs.Names.{own_names};
 ghost use Rattle.cfgitems.specs.Building.{has_name};
 
-use crate::added::if_added;
 use crate::sets::{add_name, has_name};
 use bison_words::{Lexeme, Word};
 use indexmap::IndexSet;
@@ -33,32 +32,18 @@ fn letter_in<'a>(lexeme: Lexeme<'a>) -> Option<&'a str>
     }
 }
 
-/// Adds the identifiers of one byte among words to an empty set.
-fn add_letters(
-    alloc: Global,
-    letters: &mut IndexSet<String>,
-    words: &[Word<'_>],
-) -> Result<(), AllocError>
-    requires { map string_bytes letters.old.keys ≡ [] }
-    ensures { OnOk result (map string_bytes letters.new.keys
-        ≡ each_once (letters_of (map word_view words.now))) }
-{
-    for word in words {
-        if let Some(letter) = letter_in(word.lexeme) {
-            add_name(alloc, letters, letter)?;
-        }
-    }
-    Ok(())
-}
-
 /// The identifiers of one byte among words.
 fn letters_of(alloc: Global, words: &[Word<'_>]) -> Result<IndexSet<String>, AllocError>
     ensures { IfOk result (λ letters. map string_bytes letters.keys
         ≡ each_once (letters_of (map word_view words.now))) }
 {
     let mut letters = IndexSet::new(alloc);
-    let added = add_letters(alloc, &mut letters, words);
-    if_added(letters, added)
+    for word in words {
+        if let Some(letter) = letter_in(word.lexeme) {
+            add_name(alloc, &mut letters, letter)?;
+        }
+    }
+    Ok(letters)
 }
 
 /// The name of a character.
@@ -96,24 +81,6 @@ fn own_name(
     }
 }
 
-/// Adds the name that each word has by itself to an empty list.
-fn push_names(
-    alloc: Global,
-    names: &mut Vec<String>,
-    letters: &IndexSet<String>,
-    words: &[Word<'_>],
-) -> Result<(), AllocError>
-    requires { names.old.items ≡ [] }
-    ensures { OnOk result (map string_bytes names.new.items
-        ≡ map (λ word. own_name (λ name. has_name name (map string_bytes letters.now.keys)) word.lexeme)
-        (map word_view words.now)) }
-{
-    for word in words {
-        names.push(own_name(alloc, letters, word.lexeme)?)?;
-    }
-    Ok(())
-}
-
 /// The name that each word has by itself.
 fn named(
     alloc: Global,
@@ -125,8 +92,10 @@ fn named(
         (map word_view words.now)) }
 {
     let mut names = Vec::new(alloc);
-    let pushed = push_names(alloc, &mut names, letters, words);
-    if_added(names, pushed)
+    for word in words {
+        names.push(own_name(alloc, letters, word.lexeme)?)?;
+    }
+    Ok(names)
 }
 
 /// The name that each word has by itself.

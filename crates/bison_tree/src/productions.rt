@@ -11,7 +11,6 @@ ghost use Rattle.bison_tree.specs.Inner.Views.{body_with, is_token_in, names_in,
 ghost use Rattle.bison_tree.specs.Productions.{head_at, inner_production, inners_after, precedences_of};
 ghost use Rattle.bison_tree.specs.Productions.{production_items, span_of, symbol_of};
 
-use crate::added::if_added;
 use crate::piece::Piece;
 use crate::pieces::{action_of, end_of, inner_name, pieces_of, precedence_of};
 use crate::symbols::Symbols;
@@ -30,7 +29,7 @@ pub(crate) struct BodySymbol {
 }
 
 /// The symbol that a piece is.
-fn symbol_of(alloc: Global, symbols: Symbols<'_>, piece: Piece) -> Result<BodySymbol, AllocError>
+fn symbol_of(symbols: Symbols<'_>, piece: Piece) -> Result<BodySymbol, AllocError>
     ensures { IfOk result (λ symbol. symbol_view symbol
         ≡ symbol_of (words_in symbols.entry) (names_in symbols.entry) (is_token_in symbols.entry) piece) }
 {
@@ -38,48 +37,29 @@ fn symbol_of(alloc: Global, symbols: Symbols<'_>, piece: Piece) -> Result<BodySy
         Piece::Symbol(word) => {
             let named = symbols.word(word);
             Ok(BodySymbol {
-                name: String::from_str(alloc, named.name)?,
+                name: String::from_str(symbols.alloc, named.name)?,
                 span: named.span,
                 quoted: symbols.is_token(word),
             })
         }
         Piece::Inner { code, number } => Ok(BodySymbol {
-            name: inner_name(alloc, number)?,
+            name: inner_name(symbols.alloc, number)?,
             span: symbols.span(code),
             quoted: false,
         }),
     }
 }
 
-/// Adds the symbols that pieces are to an empty list.
-fn push_symbols(
-    alloc: Global,
-    body: &mut Vec<BodySymbol>,
-    symbols: Symbols<'_>,
-    pieces: &[Piece],
-) -> Result<(), AllocError>
-    requires { body.old.items ≡ [] }
-    ensures { OnOk result (map symbol_view body.new.items
-        ≡ map (symbol_of (words_in symbols.entry) (names_in symbols.entry) (is_token_in symbols.entry)) pieces.now) }
-{
-    for piece in pieces {
-        body.push(symbol_of(alloc, symbols, *piece)?)?;
-    }
-    Ok(())
-}
-
 /// The symbols that pieces are.
-fn symbols_of(
-    alloc: Global,
-    symbols: Symbols<'_>,
-    pieces: &[Piece],
-) -> Result<Vec<BodySymbol>, AllocError>
+fn symbols_of(symbols: Symbols<'_>, pieces: &[Piece]) -> Result<Vec<BodySymbol>, AllocError>
     ensures { IfOk result (λ body. map symbol_view body.items
         ≡ map (symbol_of (words_in symbols.entry) (names_in symbols.entry) (is_token_in symbols.entry)) pieces.now) }
 {
-    let mut body = Vec::new(alloc);
-    let pushed = push_symbols(alloc, &mut body, symbols, pieces);
-    if_added(body, pushed)
+    let mut body = Vec::new(symbols.alloc);
+    for piece in pieces {
+        body.push(symbol_of(symbols, *piece)?)?;
+    }
+    Ok(body)
 }
 
 /// The same symbols, as the tree's builder takes them.
@@ -100,14 +80,13 @@ fn tokens_of(alloc: Global, body: &[BodySymbol]) -> Result<Vec<Token<'_>>, Alloc
 
 /// The token of a `%prec`, by its word, if there is one.
 fn precedences_of<'a>(
-    alloc: Global,
     symbols: Symbols<'a>,
     word: Option<usize>,
 ) -> Result<Vec<Token<'a>>, AllocError>
     ensures { IfOk result (λ tokens. map tree.token_view tokens.items
         ≡ precedences_of (words_in symbols.entry) (names_in symbols.entry) word) }
 {
-    let mut precedences = Vec::new(alloc);
+    let mut precedences = Vec::new(symbols.alloc);
     if let Some(word) = word {
         precedences.push(symbols.token(true, word))?;
     }
@@ -116,19 +95,14 @@ fn precedences_of<'a>(
 
 /// Adds the rule of an action, with its empty production.
 #[tactic(auto, unfolding(cfgitems::specs::Building::adds), using(crate::proofs::Adds::adds_append))]
-fn add_inner(
-    alloc: Global,
-    symbols: Symbols<'_>,
-    builder: &mut AstBuilder,
-    piece: Piece,
-) -> Result<(), AllocError>
+fn add_inner(symbols: Symbols<'_>, builder: &mut AstBuilder, piece: Piece) -> Result<(), AllocError>
     ensures { OnOk result (syntax_built builder.new ≡ adds (syntax_built builder.old)
         (pushed [] (inner_production (words_in symbols.entry) piece))) }
 {
     let Piece::Inner { code, number } = piece else {
         return Ok(());
     };
-    let name = inner_name(alloc, number)?;
+    let name = inner_name(symbols.alloc, number)?;
     let span = symbols.span(code);
     let head = RuleHead {
         name: Word {
@@ -143,13 +117,12 @@ fn add_inner(
         action: symbols.code(code),
         span: Span::new(span.start(), span.start()),
     };
-    builder.add_production(alloc, head, body)
+    builder.add_production(symbols.alloc, head, body)
 }
 
 /// Adds the rules of a production's actions.
 #[tactic(auto, unfolding(cfgitems::specs::Building::adds), using(crate::proofs::Adds::adds_append))]
 fn add_inners(
-    alloc: Global,
     symbols: Symbols<'_>,
     builder: &mut AstBuilder,
     pieces: &[Piece],
@@ -158,7 +131,7 @@ fn add_inners(
         (filter_map (inner_production (words_in symbols.entry)) pieces.now)) }
 {
     for piece in pieces {
-        add_inner(alloc, symbols, builder, *piece)?;
+        add_inner(symbols, builder, *piece)?;
     }
     Ok(())
 }
@@ -176,7 +149,6 @@ fn span_of(symbols: Symbols<'_>, production: &Production) -> Span
 
 /// Adds a production whose body has these symbols.
 fn add_body(
-    alloc: Global,
     symbols: Symbols<'_>,
     builder: &mut AstBuilder,
     production: &Production,
@@ -187,22 +159,21 @@ fn add_body(
         (body_with symbols.entry (map symbol_view body.now) (production_view production.now)))) }
 {
     let parts = production.parts.as_slice();
-    let tokens = tokens_of(alloc, body)?;
-    let precedences = precedences_of(alloc, symbols, precedence_of(parts))?;
+    let tokens = tokens_of(symbols.alloc, body)?;
+    let precedences = precedences_of(symbols, precedence_of(parts))?;
     let body = Body {
         symbols: tokens.as_slice(),
         precedences: precedences.as_slice(),
         action: symbols.code_of(action_of(parts)),
         span: span_of(symbols, production),
     };
-    builder.add_production(alloc, symbols.head(production.rule), body)
+    builder.add_production(symbols.alloc, symbols.head(production.rule), body)
 }
 
 /// Adds a production, and before it the rules of the actions inside of it. `inners` are the words of such actions so
 /// far.
 #[tactic(auto, unfolding(cfgitems::specs::Building::adds), using(crate::proofs::Adds::adds_append))]
 pub(crate) fn add_production(
-    alloc: Global,
     symbols: Symbols<'_>,
     builder: &mut AstBuilder,
     inners: &mut Vec<usize>,
@@ -214,8 +185,8 @@ pub(crate) fn add_production(
     ensures counted { OnOk result (length inners.new.items
         ≡ inners_after (length inners.old.items) (production_view production.now).parts) }
 {
-    let pieces = pieces_of(alloc, inners, production.parts.as_slice())?;
-    add_inners(alloc, symbols, builder, pieces.as_slice())?;
-    let body = symbols_of(alloc, symbols, pieces.as_slice())?;
-    add_body(alloc, symbols, builder, production, body.as_slice())
+    let pieces = pieces_of(symbols.alloc, inners, production.parts.as_slice())?;
+    add_inners(symbols, builder, pieces.as_slice())?;
+    let body = symbols_of(symbols, pieces.as_slice())?;
+    add_body(symbols, builder, production, body.as_slice())
 }

@@ -16,10 +16,12 @@ use cfgbase::Span;
 use cfgitems::RuleHead;
 use cfgwords::words as tree;
 use indexmap::IndexSet;
+use std::alloc::Global;
 
 /// The words of a file, their names, and the names of its tokens.
 #[derive(Clone, Copy)]
 pub(crate) struct Symbols<'a> {
+    pub(crate) alloc: Global,
     pub(crate) words: &'a [Word<'a>],
     pub(crate) names: &'a [String],
     pub(crate) tokens: &'a IndexSet<String>,

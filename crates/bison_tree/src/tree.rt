@@ -80,17 +80,12 @@ impl<'a> Symbols<'a> {
     }
 
     /// Adds tokens.
-    fn add_tokens(
-        self,
-        alloc: Global,
-        builder: &mut AstBuilder,
-        tokens: &[usize],
-    ) -> Result<(), AllocError>
+    fn add_tokens(self, builder: &mut AstBuilder, tokens: &[usize]) -> Result<(), AllocError>
         ensures { OnOk result (syntax_built builder.new ≡ adds (syntax_built builder.old)
             (map (token_quoted (words_in self.entry) (names_in self.entry)) tokens.now)) }
     {
         for token in tokens {
-            builder.quote_token(alloc, self.word(*token))?;
+            builder.quote_token(self.alloc, self.word(*token))?;
         }
         Ok(())
     }
@@ -113,40 +108,29 @@ impl<'a> Symbols<'a> {
     }
 
     /// Adds that a token is expected to be unused, if no production needs it.
-    fn add_expected_unused(
-        self,
-        alloc: Global,
-        builder: &mut AstBuilder,
-        symbol: usize,
-    ) -> Result<(), AllocError>
+    fn add_expected_unused(self, builder: &mut AstBuilder, symbol: usize) -> Result<(), AllocError>
         ensures { OnOk result (syntax_built builder.new ≡ adds (syntax_built builder.old)
             (expected_unused (words_in self.entry) (names_in self.entry) symbol)) }
     {
         if self.is_unneeded(symbol) {
-            return builder.expect_unused_token(alloc, self.word(symbol));
+            return builder.expect_unused_token(self.alloc, self.word(symbol));
         }
         Ok(())
     }
 
     /// Adds a token.
-    fn add_token(
-        self,
-        alloc: Global,
-        builder: &mut AstBuilder,
-        symbol: usize,
-    ) -> Result<(), AllocError>
+    fn add_token(self, builder: &mut AstBuilder, symbol: usize) -> Result<(), AllocError>
         ensures { OnOk result (syntax_built builder.new ≡ adds (syntax_built builder.old)
             (TokenDeclared (word_at (words_in self.entry) (names_in self.entry) symbol)
             ∷ expected_unused (words_in self.entry) (names_in self.entry) symbol)) }
     {
-        builder.declare_token(alloc, self.word(symbol))?;
-        self.add_expected_unused(alloc, builder, symbol)
+        builder.declare_token(self.alloc, self.word(symbol))?;
+        self.add_expected_unused(builder, symbol)
     }
 
     /// Adds a token of a level of precedences.
     fn add_precedence(
         self,
-        alloc: Global,
         builder: &mut AstBuilder,
         associativity: Associativity,
         symbol: usize,
@@ -155,14 +139,13 @@ impl<'a> Symbols<'a> {
             (PrecedenceDeclared (kind_of associativity) (word_at (words_in self.entry) (names_in self.entry) symbol)
             ∷ expected_unused (words_in self.entry) (names_in self.entry) symbol)) }
     {
-        builder.declare_precedence(alloc, kind_of(associativity), self.word(symbol))?;
-        self.add_expected_unused(alloc, builder, symbol)
+        builder.declare_precedence(self.alloc, kind_of(associativity), self.word(symbol))?;
+        self.add_expected_unused(builder, symbol)
     }
 
     /// Adds the string as the printed form of the token, if it is another name of it.
     fn add_printed_form(
         self,
-        alloc: Global,
         builder: &mut AstBuilder,
         token: usize,
         string: usize,
@@ -173,29 +156,23 @@ impl<'a> Symbols<'a> {
         if name_at(self.names, token) != name_at(self.names, string) {
             return Ok(());
         }
-        let text = String::from_str(alloc, text_in(lexeme_at(self.words, string)))?;
-        builder.declare_printed_form(alloc, self.word(token), text, self.span(string))
+        let text = String::from_str(self.alloc, text_in(lexeme_at(self.words, string)))?;
+        builder.declare_printed_form(self.alloc, self.word(token), text, self.span(string))
     }
 
     /// Adds the rule whose name a colon follows.
-    fn add_rule(
-        self,
-        alloc: Global,
-        builder: &mut AstBuilder,
-        word: usize,
-    ) -> Result<(), AllocError>
+    fn add_rule(self, builder: &mut AstBuilder, word: usize) -> Result<(), AllocError>
         ensures { OnOk result (syntax_built builder.new ≡ adds (syntax_built builder.old)
             (RuleBegun (word_at (words_in self.entry) (names_in self.entry) word)
             ∷ named_rule (words_in self.entry) (names_in self.entry) word ∷ [])) }
     {
-        builder.begin_rule(alloc, self.word(word))?;
-        builder.name_rule(alloc, self.head(word))
+        builder.begin_rule(self.alloc, self.word(word))?;
+        builder.name_rule(self.alloc, self.head(word))
     }
 
     /// Adds what an item says. `inners` are the words of actions inside of productions so far.
     fn add_item(
         self,
-        alloc: Global,
         builder: &mut AstBuilder,
         inners: &mut Vec<usize>,
         item: &Item,
@@ -207,68 +184,51 @@ impl<'a> Symbols<'a> {
             ≡ inners_with (length inners.old.items) (item_view item.now)) }
     {
         match item {
-            Item::Token(symbol) => self.add_token(alloc, builder, *symbol),
-            Item::Alias { token, string } => self.add_printed_form(alloc, builder, *token, *string),
+            Item::Token(symbol) => self.add_token(builder, *symbol),
+            Item::Alias { token, string } => self.add_printed_form(builder, *token, *string),
             Item::Precedence(associativity, symbol) => {
-                self.add_precedence(alloc, builder, *associativity, *symbol)
+                self.add_precedence(builder, *associativity, *symbol)
             }
             Item::LevelEnd(associativity) => builder.end_level(kind_of(*associativity)),
-            Item::Head(symbol) => self.add_rule(alloc, builder, *symbol),
-            Item::Production(production) => {
-                add_production(alloc, self, builder, inners, production)
-            }
+            Item::Head(symbol) => self.add_rule(builder, *symbol),
+            Item::Production(production) => add_production(self, builder, inners, production),
             _ => Ok(()),
         }
     }
 
     /// Adds what items say.
-    fn add_items(
-        self,
-        alloc: Global,
-        builder: &mut AstBuilder,
-        items: &[Item],
-    ) -> Result<(), AllocError>
+    fn add_items(self, builder: &mut AstBuilder, items: &[Item]) -> Result<(), AllocError>
         ensures { OnOk result (syntax_built builder.new ≡ adds (syntax_built builder.old)
             (said_after (words_in self.entry) (names_in self.entry) (is_token_in self.entry) 0
             (map item_view items.now))) }
     {
-        let mut inners = Vec::new(alloc);
+        let mut inners = Vec::new(self.alloc);
         for item in items {
-            self.add_item(alloc, builder, &mut inners, item)?;
+            self.add_item(builder, &mut inners, item)?;
         }
         Ok(())
     }
 
     /// Adds the start that the first `%start` names.
-    fn add_start(
-        self,
-        alloc: Global,
-        builder: &mut AstBuilder,
-        items: &[Item],
-    ) -> Result<(), AllocError>
+    fn add_start(self, builder: &mut AstBuilder, items: &[Item]) -> Result<(), AllocError>
         ensures { OnOk result (syntax_built builder.new ≡ adds (syntax_built builder.old)
             (start_items (words_in self.entry) (names_in self.entry) (map item_view items.now))) }
     {
         match first_start(items) {
-            Some(word) => builder.declare_start(alloc, self.word(word)),
+            Some(word) => builder.declare_start(self.alloc, self.word(word)),
             None => Ok(()),
         }
     }
 
     /// Adds the rules of `%nterm`.
-    fn add_named_rules(
-        self,
-        alloc: Global,
-        builder: &mut AstBuilder,
-        items: &[Item],
-    ) -> Result<(), AllocError>
+    fn add_named_rules(self, builder: &mut AstBuilder, items: &[Item]) -> Result<(), AllocError>
         ensures { OnOk result (syntax_built builder.new ≡ adds (syntax_built builder.old)
             (map (named_rule (words_in self.entry) (names_in self.entry))
             (filter_map rule_in (map item_view items.now)))) }
     {
         for item in items {
             if let Item::Rule(symbol) = item {
-                builder.name_rule(alloc, self.head(*symbol))?;
+                builder.name_rule(self.alloc, self.head(*symbol))?;
             }
         }
         Ok(())
@@ -290,26 +250,20 @@ impl<'a> Symbols<'a> {
     }
 
     /// Adds everything but tokens.
-    fn add_rules(
-        self,
-        alloc: Global,
-        builder: &mut AstBuilder,
-        items: &[Item],
-    ) -> Result<(), AllocError>
+    fn add_rules(self, builder: &mut AstBuilder, items: &[Item]) -> Result<(), AllocError>
         ensures { OnOk result (syntax_built builder.new ≡ adds (syntax_built builder.old)
             (rules_items (words_in self.entry) (names_in self.entry) (is_token_in self.entry)
             (map item_view items.now))) }
     {
-        self.add_start(alloc, builder, items)?;
-        self.add_items(alloc, builder, items)?;
-        self.add_named_rules(alloc, builder, items)?;
+        self.add_start(builder, items)?;
+        self.add_items(builder, items)?;
+        self.add_named_rules(builder, items)?;
         self.add_counts(builder, items)
     }
 
     /// Adds tokens, everything else that items say, and what follows the second `%%`.
     fn add_all(
         self,
-        alloc: Global,
         builder: &mut AstBuilder,
         tokens: &[usize],
         items: &[Item],
@@ -321,9 +275,9 @@ impl<'a> Symbols<'a> {
             (map item_view items.now)
             ++ programs_items (option_map (λ text. text.now) epilogue.entry)))) }
     {
-        self.add_tokens(alloc, builder, tokens)?;
-        self.add_rules(alloc, builder, items)?;
-        add_programs(alloc, builder, epilogue)
+        self.add_tokens(builder, tokens)?;
+        self.add_rules(builder, items)?;
+        add_programs(self.alloc, builder, epilogue)
     }
 }
 
@@ -388,17 +342,12 @@ fn add_file(
     let tokens = tokens_of(alloc, words, items)?;
     let set = token_names(alloc, names, tokens.as_slice())?;
     let symbols = Symbols {
+        alloc,
         words,
         names,
         tokens: &set,
     };
-    symbols.add_all(
-        alloc,
-        builder,
-        tokens.as_slice(),
-        items,
-        file.words.epilogue,
-    )
+    symbols.add_all(builder, tokens.as_slice(), items, file.words.epilogue)
 }
 
 /// What a file says of its grammar, by the names of its words.

@@ -3,7 +3,7 @@ use Rattle.std.specs.String.{string_bytes}
 use Rattle.cfgitems.specs.Building.{has_name}
 use Rattle.bison_words.specs.Words.{word_view}
 use Rattle.bison_tree.specs.Names.{own_name}
-use Rattle.bison_tree.proofs.names.push_names.Given as goal
+use Rattle.bison_tree.proofs.names.named.Given as goal
 
 abbrev pub invariant-loop-word : goal.invariant-loop-word
 invariant-loop-word l =
