@@ -47,12 +47,7 @@ fn ends_code(kind: PartKind) -> bool
 pub fn is_followed(rest: &[Part]) -> bool
     ensures { result ≡ is_followed rest.now }
 {
-    for part in rest {
-        if ends_code(part.kind) {
-            return true;
-        }
-    }
-    false
+    rest.iter().any(|part| ends_code(part.kind))
 }
 
 /// The symbols of a production. `inners` are the words of the actions inside of productions so far; those of this one
