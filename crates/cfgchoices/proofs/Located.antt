@@ -7,10 +7,11 @@ use Rattle.std.specs.declared.cmp.Ordering.{Ordering}
 use Rattle.std.proofs.lemmas.Bool.{cases_lt}
 use Rattle.std.proofs.lemmas.Cmp.{nat_list_cmp_total}
 use Rattle.cfgindex.specs.declared.idxnewtype.PIdx.{PIdx}
-use Rattle.std.proofs.lemmas.List.{get_or-map, take-append-drop, take-map, drop-map, map-append, map-set, length_push, length-set}
+use Rattle.std.proofs.lemmas.List.{take-map, drop-map, map-append, map-set, length_push, length-set}
 use Rattle.lemmas.proofs.Elements.{get_or-set}
 use Rattle.std.proofs.lemmas.List.Edits.{length-insert}
-use Rattle.std.proofs.lemmas.List.Elements.{Contains-append_left, Contains-append_right, Contains-append_cases, Contains-get_or, Contains-push, Contains-push_cases}
+use Rattle.std.proofs.lemmas.List.Elements.{Contains-append_left, Contains-get_or, Contains-push, Contains-push_cases}
+use Rattle.std.proofs.lemmas.List.Sorted.{Contains-permutation, IsPermutation-insert, IsPermutation-sym}
 use Rattle.cfgchoices.specs.Choices.{ChoicesGive}
 use Rattle.cfgleast.specs.Generator.{CostTables}
 use Rattle.cfgchoices.specs.FirstSentence.{lexicographic}
@@ -20,24 +21,15 @@ use Rattle.lemmas.proofs.Contained.{contains_cases, contains_first, contains_lat
 use Rattle.cfgchoices.proofs.Nominated.{IsGiven, handled_wider, not_after_both, nominated_given, holds_itself}
 use Rattle.cfgchoices.proofs.SequencesInOrder.{insert_in_order}
 
-module _ {X : Type 0} (xs : List X) (at : ℕ) (y : X) where
-  pub insert_has : (z : X) → Contains (insert xs at y) z ↔ (Contains xs z ⊎ (z ≡ y))
-  insert_has z = (
-    (λ h. elim (Contains-append_cases (take at xs) (y ∷ drop at xs) z h) [
-      | inl prefix ↦ inl (subst (λ l. Contains l z) (take-append-drop at xs) (Contains-append_left (take at xs) (drop at xs) z prefix))
-      | inr back ↦ elim (contains_cases y z (drop at xs) back) [
+pub insert_has : {X : Type 0} (xs : List X) (at : ℕ) (y z : X) → Contains (insert xs at y) z ↔ (Contains xs z ⊎ (z ≡ y))
+insert_has xs at y z =
+    let moved = IsPermutation-insert xs at y in (
+      (λ h. elim (contains_cases y z xs (Contains-permutation (insert xs at y) (y ∷ xs) z (IsPermutation-sym (y ∷ xs) (insert xs at y) moved) h)) [
         | inl same ↦ inr (sym same)
-        | inr rest ↦ inl (subst (λ l. Contains l z) (take-append-drop at xs) (Contains-append_right (take at xs) (drop at xs) z rest))
-      ]
-    ]),
-    (λ h. elim h [
-      | inl old ↦ elim (Contains-append_cases (take at xs) (drop at xs) z (subst (λ l. Contains l z) (sym (take-append-drop at xs)) old)) [
-        | inl prefix ↦ Contains-append_left (take at xs) (y ∷ drop at xs) z prefix
-        | inr back ↦ Contains-append_right (take at xs) (y ∷ drop at xs) z (contains_later y z (drop at xs) back)
-      ]
-      | inr is ↦ subst (Contains (insert xs at y)) (sym is) (Contains-append_right (take at xs) (y ∷ drop at xs) y (contains_first y (drop at xs)))
-    ]),
-  )
+        | inr old ↦ inl old
+      ]),
+      (λ h. Contains-permutation (y ∷ xs) (insert xs at y) z moved (elim h [ inl old ↦ contains_later y z xs old | inr is ↦ subst (Contains (y ∷ xs)) (sym is) (contains_first y xs) ])),
+    )
 
 pub insert_shown : {A B : Type 0} (f : A → B) (xs : List A) (at : ℕ) (y : A) → map f (insert xs at y) ≡ insert (map f xs) at (f y)
 insert_shown f xs at y = map-append f (take at xs) (y ∷ drop at xs) ∙ ap (λ l. l ++ f y ∷ map f (drop at xs)) (sym (take-map f at xs))
@@ -85,10 +77,6 @@ module _ (k : Known) (f : Candidates) (candidates : AreCandidates k f) (p : ℕ)
       ];
       after = b.after;
     }
-
--- an element of the code's list, in numbers
-pub nth_shown : {S : Type 0} (number : S → ℕ) (items : List (PIdx S)) (i : ℕ) (p : PIdx S) → i < length items → p ≡ get_or items i p → get_or (production_numbers number items) i 0 ≡ number p.0
-nth_shown number items i p lt is = get_or-map (λ (p : PIdx _). number p.0) items i p 0 lt ∙ ap (λ (q : PIdx _). number q.0) (sym is)
 
 -- a production in the middle is compared
 module _ (k : Known) (f : Candidates) (candidates : AreCandidates k f) (p : ℕ) (nominated : IsCandidate k f.choices f.number f.cost p) (low high middle q : ℕ) (b : Between k f p low high)
@@ -151,31 +139,31 @@ module _ (k : Known) (f : Candidates) (o : Nominating k f) (p : ℕ) (nominated 
     ready_wider q (inl old) = inl (subst (λ l. Contains l q) (sym e) (Contains-append_left f.ready (p ∷ []) q old))
     ready_wider q (inr other) = inr other
 
-    pub ready_nominating : is_sole k (owner k.tables p) ≡ true → Nominating k (with_ready ready)
-    ready_nominating sole = record {
-      candidates = record {
-        choosing = candidates.choosing;
-        costs = candidates.costs;
-        nominated = λ q h. elim h [
-          | inl now ↦ elim (ready_more q now) [ inl old ↦ candidates.nominated q (inl old) | inr is ↦ subst (IsCandidate k f.choices f.number f.cost) is nominated ]
-          | inr other ↦ candidates.nominated q (inr other)
-        ];
-        sole = λ q h. elim (ready_more q h) [ inl old ↦ candidates.sole q old | inr is ↦ subst (λ i. is_sole k (owner k.tables i) ≡ true) is sole ];
-        several = candidates.several;
-        order = candidates.order;
-      };
-      listed = o.listed;
-      foremost = λ r q at. let (owned, where_is) = o.foremost r q at in (owned, elim where_is [ inl waits ↦ inl (ready_wider q waits) | inr has ↦ inr has ]);
-    }
-
-    pub ready_adds : Adds k.tables (λ q. q ≡ p) 1 f (with_ready ready)
-    ready_adds = record {
-      choices = refl;
-      number = refl;
-      cost = refl;
-      handles = one_more (with_ready ready) refl ready_wider (inl (subst (λ l. Contains l p) (sym e) (Contains-push f.ready p)));
-      together = let long = length_push f.ready p in let len = ap length e in omega (arith, long, len);
-    }
+    pub ready_in : is_sole k (owner k.tables p) ≡ true → Nominating k (with_ready ready) × Adds k.tables (λ q. q ≡ p) 1 f (with_ready ready)
+    ready_in sole = (
+      record {
+        candidates = record {
+          choosing = candidates.choosing;
+          costs = candidates.costs;
+          nominated = λ q h. elim h [
+            | inl now ↦ elim (ready_more q now) [ inl old ↦ candidates.nominated q (inl old) | inr is ↦ subst (IsCandidate k f.choices f.number f.cost) is nominated ]
+            | inr other ↦ candidates.nominated q (inr other)
+          ];
+          sole = λ q h. elim (ready_more q h) [ inl old ↦ candidates.sole q old | inr is ↦ subst (λ i. is_sole k (owner k.tables i) ≡ true) is sole ];
+          several = candidates.several;
+          order = candidates.order;
+        };
+        listed = o.listed;
+        foremost = λ r q at. let (owned, where_is) = o.foremost r q at in (owned, elim where_is [ inl waits ↦ inl (ready_wider q waits) | inr has ↦ inr has ]);
+      },
+      record {
+        choices = refl;
+        number = refl;
+        cost = refl;
+        handles = one_more (with_ready ready) refl ready_wider (inl (subst (λ l. Contains l p) (sym e) (Contains-push f.ready p)));
+        together = let long = length_push f.ready p in let len = ap length e in omega (arith, long, len);
+      },
+    )
 
   abbrev with_level : List ℕ → Candidates
   with_level list = record f {
@@ -196,39 +184,39 @@ module _ (k : Known) (f : Candidates) (o : Nominating k f) (p : ℕ) (nominated 
     put_now : Waits (with_level put) p
     put_now = inr ((insert_has f.sorted at p p).1 (inr refl))
 
-    pub put_nominating : is_sole k (owner k.tables p) ≡ false → Nominating k (with_level put)
-    put_nominating several = record {
-      candidates = record {
-        choosing = candidates.choosing;
-        costs = candidates.costs;
-        nominated = λ q h. elim h [
-          | inl ready ↦ candidates.nominated q (inl ready)
-          | inr other ↦ elim ((insert_has f.sorted at p q).0 other) [ inl old ↦ candidates.nominated q (inr old) | inr is ↦ subst (IsCandidate k f.choices f.number f.cost) (sym is) nominated ]
+    pub put_in : is_sole k (owner k.tables p) ≡ false → Nominating k (with_level put) × Adds k.tables (λ q. q ≡ p) 1 f (with_level put)
+    put_in several = (
+      record {
+        candidates = record {
+          choosing = candidates.choosing;
+          costs = candidates.costs;
+          nominated = λ q h. elim h [
+            | inl ready ↦ candidates.nominated q (inl ready)
+            | inr other ↦ elim ((insert_has f.sorted at p q).0 other) [ inl old ↦ candidates.nominated q (inr old) | inr is ↦ subst (IsCandidate k f.choices f.number f.cost) (sym is) nominated ]
+          ];
+          sole = candidates.sole;
+          several = λ q h. elim ((insert_has f.sorted at p q).0 h) [ inl old ↦ candidates.several q old | inr is ↦ subst (λ i. is_sole k (owner k.tables i) ≡ false) (sym is) several ];
+          order = λ i j lt short. insert_in_order (λ a b. NotAfter k.tables f.choices (sequence k.tables b) (sequence k.tables a)) 0 f.sorted at p within candidates.order before after i j lt
+              (subst (λ m. j < m) (length-insert f.sorted at p within) short);
+        };
+        listed = length-set f.foremost (owner k.tables p) (Some p) ∙ o.listed;
+        foremost = λ r q e. elim (get_or-set f.foremost (owner k.tables p) r (Some p) None) [
+          | inl same ↦
+              let (owned, where_is) = o.foremost r q (sym same ∙ e) in
+              (owned, elim where_is [ inl waits ↦ inl (put_wider q waits) | inr has ↦ inr has ])
+          | inr new ↦
+              let is : p ≡ q = same_Some _ _ (sym new.1 ∙ e) in
+              (ap (owner k.tables) (sym is) ∙ sym new.0, inl (subst (Waits (with_level put)) is put_now))
         ];
-        sole = candidates.sole;
-        several = λ q h. elim ((insert_has f.sorted at p q).0 h) [ inl old ↦ candidates.several q old | inr is ↦ subst (λ i. is_sole k (owner k.tables i) ≡ false) (sym is) several ];
-        order = λ i j lt short. insert_in_order (λ a b. NotAfter k.tables f.choices (sequence k.tables b) (sequence k.tables a)) 0 f.sorted at p within candidates.order before after i j lt
-            (subst (λ m. j < m) (length-insert f.sorted at p within) short);
-      };
-      listed = length-set f.foremost (owner k.tables p) (Some p) ∙ o.listed;
-      foremost = λ r q e. elim (get_or-set f.foremost (owner k.tables p) r (Some p) None) [
-        | inl same ↦
-            let (owned, where_is) = o.foremost r q (sym same ∙ e) in
-            (owned, elim where_is [ inl waits ↦ inl (put_wider q waits) | inr has ↦ inr has ])
-        | inr new ↦
-            let is : p ≡ q = same_Some _ _ (sym new.1 ∙ e) in
-            (ap (owner k.tables) (sym is) ∙ sym new.0, inl (subst (Waits (with_level put)) is put_now))
-      ];
-    }
-
-    pub put_adds : Adds k.tables (λ q. q ≡ p) 1 f (with_level put)
-    put_adds = record {
-      choices = refl;
-      number = refl;
-      cost = refl;
-      handles = one_more (with_level put) refl put_wider put_now;
-      together = let long = length-insert f.sorted at p within in omega (arith, long);
-    }
+      },
+      record {
+        choices = refl;
+        number = refl;
+        cost = refl;
+        handles = one_more (with_level put) refl put_wider put_now;
+        together = let long = length-insert f.sorted at p within in omega (arith, long);
+      },
+    )
 
 -- the code's lists as numbers, after a production was inserted
 pub put_shown : {S : Type 0} (number : S → ℕ) (sorted : List (PIdx S)) (foremost : List (Option (PIdx S))) (f : Candidates) (at i r : ℕ) (p : PIdx S) → i ≡ r

@@ -26,14 +26,10 @@ module _ (g : Grammar) (choices : List (Option (ℕ × ℕ))) (each : ℕ) where
   abbrev size_of : (Sym → ℕ) → Option (ℕ × ℕ) → ℕ
   size_of = tree_size_of g each
 
-  pub tree_size_token : (n t : ℕ) → size n (Token t) ≡ 1
-  unfolding tree_size
-  tree_size_token zero t = refl
-  tree_size_token (suc n) t = refl
-
   pub tree_size_positive : 0 < each → (n : ℕ) (s : Sym) → 0 < size n s
   unfolding tree_size
-  tree_size_positive some n (Token t) = let one = tree_size_token n t in omega (arith, one)
+  tree_size_positive some zero (Token t) = omega arith
+  tree_size_positive some (suc n) (Token t) = omega arith
   tree_size_positive some zero (Rule r) = some
   tree_size_positive some (suc n) (Rule r) = go (rule_choice choices r)
     where

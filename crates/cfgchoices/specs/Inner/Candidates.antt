@@ -166,10 +166,6 @@ candidates_of number f = record {
   foremost = map (production_number number) f.foremost.items;
 }
 
--- the tables with these choices
-abbrev pub chosen_tables : CostTables → Candidates → CostTables
-chosen_tables x f = with_choices x f.choices
-
 -- production p is a candidate and wasn't chosen or dropped yet
 abbrev pub Waits : Candidates → ℕ → Type 0
 Waits f p = Contains f.ready p ⊎ Contains f.sorted p

@@ -5,7 +5,7 @@ ghost use Rattle.cfgleast.specs.Certificate.{choice_of};
 ghost use Rattle.cfgleast.specs.Generator.{IsGeneratorOf, settled_tables, tables_of};
 ghost use Rattle.cfgchoices.specs.FirstChoices.{AreFirst, AreChosen};
 ghost use Rattle.cfgchoices.specs.Kinds.{AreKinds};
-ghost use Rattle.cfgchoices.specs.Inner.Candidates.{CheaperChosen, with_choices, chosen_tables, candidates_of};
+ghost use Rattle.cfgchoices.specs.Inner.Candidates.{CheaperChosen, with_choices, candidates_of};
 
 use crate::first::candidates::Chooser;
 use crate::first::lists::{Listed, no_productions};
@@ -35,27 +35,7 @@ impl<S: Storage> Chooser<S> {
         optimal.invariant_holds();
         self.cost = cost;
         self.nominate_listed(optimal, Listed::Base(cost))?;
-        self.choose_all(optimal)?;
-        Ok(())
-    }
-
-    /// Chooses for all rules, by increasing cost.
-    ///
-    /// # Errors
-    ///
-    /// Out of memory.
-    fn choose_by_cost<T: Tables<S>>(
-        &mut self,
-        optimal: &OptimalTables<S, T>,
-    ) -> Result<(), AllocError>
-        requires { CheaperChosen optimal.now (candidates_of S.number self.old) 1 }
-        ensures walks { OnOk result (AreChosen (chosen_tables optimal.now.tables (candidates_of S.number self.new))) }
-        ensures first { OnOk result (AreFirst (chosen_tables optimal.now.tables (candidates_of S.number self.new))) }
-    {
-        optimal.invariant_holds();
-        for cost in 1..optimal.costs_len() {
-            self.choose_at_cost(optimal, cost)?;
-        }
+        while self.choose(optimal)? {}
         Ok(())
     }
 }
@@ -76,18 +56,19 @@ fn choices_by_cost<S: Storage, T: Tables<S>>(
     ensures first { IfOk result (λ firsts. AreFirst (with_choices optimal.now.tables
         (map (choice_of S.number) firsts.items))) }
 {
-    let choices = no_choices(alloc, rules_len)?;
-    let foremost = no_productions(alloc, rules_len)?;
+    optimal.invariant_holds();
     let mut chooser = Chooser {
         alloc,
-        choices,
+        choices: no_choices(alloc, rules_len)?,
         number: 0,
         cost: 0,
         ready: Vec::new(alloc),
         sorted: VecDeque::new(alloc),
-        foremost,
+        foremost: no_productions(alloc, rules_len)?,
     };
-    chooser.choose_by_cost(optimal)?;
+    for cost in 1..optimal.costs_len() {
+        chooser.choose_at_cost(optimal, cost)?;
+    }
     Ok(chooser.choices)
 }
 

@@ -119,31 +119,6 @@ impl<S: Storage> Chooser<S> {
         }
     }
 
-    /// Inserts a production into the sorted candidates.
-    ///
-    /// # Errors
-    ///
-    /// Out of memory.
-    fn put_in<T: Tables<S>>(
-        &mut self,
-        optimal: &OptimalTables<S, T>,
-        p: PIdx<S>,
-    ) -> Result<(), AllocError>
-        requires nominating { Nominating optimal.now (candidates_of S.number self.old) }
-        requires nominated { IsCandidate optimal.now
-            (candidates_of S.number self.old).choices self.old.number self.old.cost
-            (S.number p.0) }
-        requires several { is_sole optimal.now (owner optimal.now.tables (S.number p.0)) ≡ false }
-        ensures nominating { OnOk result (Nominating optimal.now (candidates_of S.number self.new)) }
-        ensures adds { OnOk result (Adds optimal.now.tables (λ q. q ≡ S.number p.0) 1 (candidates_of S.number self.old)
-            (candidates_of S.number self.new)) }
-    {
-        let index = self.index(optimal, p)?;
-        self.sorted.insert(index, p)?;
-        self.foremost[usize::from(optimal.rule_of(p))] = Some(p);
-        Ok(())
-    }
-
     /// Adds a production to the candidates of its rule.
     ///
     /// # Errors
@@ -162,14 +137,18 @@ impl<S: Storage> Chooser<S> {
         ensures adds { OnOk result (Adds optimal.now.tables (λ q. q ≡ S.number p.0) 1 (candidates_of S.number self.old)
             (candidates_of S.number self.new)) }
     {
-        if optimal.is_sole(optimal.rule_of(p)) {
+        let rule = optimal.rule_of(p);
+        if optimal.is_sole(rule) {
             self.ready.push(p)?;
             return Ok(());
         }
         if self.is_covered(optimal, p)? {
             return Ok(());
         }
-        self.put_in(optimal, p)
+        let index = self.index(optimal, p)?;
+        self.sorted.insert(index, p)?;
+        self.foremost[usize::from(rule)] = Some(p);
+        Ok(())
     }
 
     /// Adds each production of a list to the candidates of its rule.
@@ -218,7 +197,10 @@ impl<S: Storage> Chooser<S> {
     /// # Errors
     ///
     /// Out of memory.
-    fn choose<T: Tables<S>>(&mut self, optimal: &OptimalTables<S, T>) -> Result<bool, AllocError>
+    pub(crate) fn choose<T: Tables<S>>(
+        &mut self,
+        optimal: &OptimalTables<S, T>,
+    ) -> Result<bool, AllocError>
         requires { HandlesChains optimal.now (candidates_of S.number self.old) }
         ensures going { OnOk result (HandlesChains optimal.now (candidates_of S.number self.new)) }
         ensures handles { OnOk result ((q : ℕ) → IsHandled optimal.now.tables (candidates_of S.number self.old) q
@@ -241,25 +223,5 @@ impl<S: Storage> Chooser<S> {
         self.number += 1;
         self.nominate_listed(optimal, Listed::Chain(rule))?;
         Ok(true)
-    }
-
-    /// Chooses among the candidates until none is left.
-    ///
-    /// # Errors
-    ///
-    /// Out of memory.
-    pub(crate) fn choose_all<T: Tables<S>>(
-        &mut self,
-        optimal: &OptimalTables<S, T>,
-    ) -> Result<(), AllocError>
-        requires { HandlesChains optimal.now (candidates_of S.number self.old) }
-        ensures going { OnOk result (HandlesChains optimal.now (candidates_of S.number self.new)) }
-        ensures none { OnOk result (waiting (candidates_of S.number self.new) ≡ 0) }
-        ensures handles { OnOk result ((q : ℕ) → IsHandled optimal.now.tables (candidates_of S.number self.old) q
-            → IsHandled optimal.now.tables (candidates_of S.number self.new) q) }
-        ensures cost { OnOk result (self.new.cost ≡ self.old.cost) }
-    {
-        while self.choose(optimal)? {}
-        Ok(())
     }
 }

@@ -26,10 +26,7 @@ fn push_turned<S: Storage>(
 ) -> Result<(), AllocError>
     ensures { OnOk result (pending.new.items ≡ pending.old.items ++ reverse symbols.now) }
 {
-    for taken in 0..symbols.len() {
-        pending.push(symbols[symbols.len() - 1 - taken])?;
-    }
-    Ok(())
+    pending.extend(symbols.iter().rev().copied())
 }
 
 /// Compares what begins with these symbols lexicographically, if both begin with tokens that differ.

@@ -1,7 +1,8 @@
-use Rattle.std.proofs.Common.{◌≡◌, get_or, sym, ◌∙◌, arith}
-use Rattle.std.proofs.lemmas.List.{length-map}
+use Rattle.std.proofs.Common.{◌≡◌, get_or, sym, ap, ◌∙◌, arith}
+use Rattle.std.proofs.lemmas.List.{get_or-map, length-map}
+use Rattle.cfgindex.specs.declared.idxnewtype.PIdx.{PIdx}
 use Rattle.cfgchoices.specs.Inner.Candidates.{candidates_of}
-use Rattle.cfgchoices.proofs.Located.{middle_nominated, nth_shown, to_back, to_prefix}
+use Rattle.cfgchoices.proofs.Located.{middle_nominated, to_back, to_prefix}
 use Rattle.cfgchoices.proofs.first.candidates.Chooser.index.Given.{Over}
 use Rattle.cfgchoices.proofs.first.candidates.Chooser.index.Goals.{After-index}
 use Rattle.cfgchoices.proofs.first.candidates.Chooser.index.Goals as goal
@@ -9,7 +10,8 @@ use Rattle.cfgchoices.proofs.first.candidates.Chooser.index.Goals as goal
 middle : (g : Over) (c : After-index g) → get_or (candidates_of g.S.Storage.number c.args.self.now).sorted c.probe-middle.result 0 ≡ g.S.Storage.number c.index.result.now.0
 middle g c =
     let len = length-map c.args.self.now.sorted.items (λ p. g.S.Storage.number p.0) in
-    nth_shown g.S.Storage.number c.args.self.now.sorted.items c.probe-middle.result c.index.result.now (omega (arith, c.probe-middle.ensures.to, c.loop-low.invariant.within, len)) c.index.ensures
+    get_or-map (λ (p : PIdx _). g.S.Storage.number p.0) c.args.self.now.sorted.items c.probe-middle.result c.index.result.now 0 (omega (arith, c.probe-middle.ensures.to, c.loop-low.invariant.within, len))
+    ∙ ap (λ (p : PIdx _). g.S.Storage.number p.0) (sym c.index.ensures)
 
 pub loop-low-init : goal.loop-low-init
 loop-low-init g c =

@@ -1,5 +1,0 @@
-use Rattle.cfgchoices.specs.Inner.Candidates.{CheaperChosen, candidates_of}
-use Rattle.cfgchoices.proofs.first.candidates.Chooser.choose_by_cost.Given as goal
-
-abbrev pub invariant-loop-cost : goal.invariant-loop-cost
-invariant-loop-cost g l = CheaperChosen l.optimal (candidates_of g.S.Storage.number l.self) l.cost
