@@ -132,10 +132,7 @@ module _ (P : ℕ → List Sym → Type 0) (cost : ℕ → ℕ) where
         same : Least P cost rule c
         holds : IsMinimalAnd rule w
 
-      abbrev AllLess : List Sym → ℕ → Type 0
-      AllLess a c = (q d : ℕ) → Contains a (Rule q) → Least P cost q d → d < c
-
-      target_or_less : {a : List Sym} {w : List ℕ} (c : ℕ) → Split IsMinimalAnd a w → All (IsPaid cost) a → cost_of cost w ≤ c → Target a w c ⊎ AllLess a c
+      target_or_less : {a : List Sym} {w : List ℕ} (c : ℕ) → Split IsMinimalAnd a w → All (IsPaid cost) a → cost_of cost w ≤ c → Target a w c ⊎ ((q d : ℕ) → Contains a (Rule q) → Least P cost q d → d < c)
       target_or_less c done all small = inr (λ q d h l. absurd (contains_none (Rule q) h))
       target_or_less c (itself {t = t} {a = a} {w = w} s) all small =
           let both = cost_of-token cost t w in

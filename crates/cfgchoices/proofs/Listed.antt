@@ -1,7 +1,7 @@
 -- Lists of productions, built by prepending productions from the last one down.
 use Rattle.std.proofs.Common.{◌≡◌, ℕ, ◌+◌, ◌<◌, ◌≤◌, ◌⊎◌, inl, inr, List, get_or, length, replicate, slice_set, Option, Some, None, arith, sym, ap, subst, ◌∙◌}
 use Rattle.std.proofs.lemmas.Option.{same_Some}
-use Rattle.std.proofs.lemmas.Bool.{cases_lt}
+use Rattle.std.proofs.lemmas.Bool.{cases_eq, cases_lt}
 use Rattle.std.proofs.lemmas.List.{get_or_default, get_or-set_same, get_or-set_other}
 use Rattle.lemmas.proofs.Elements.{get_or-replicate_default}
 use Rattle.cfgindex.specs.declared.idxnewtype.PIdx.{PIdx}
@@ -50,7 +50,7 @@ module _ {S : Type 0} (number : S → ℕ) (Is : ℕ → ℕ → Type 0) (n : �
     pub listed_first : (k j m : ℕ) (p : PIdx S) → number p.0 ≡ n → Is k n → ((l : ℕ) → Is l n → l ≡ k) → k < length firsts → n < length next → j ≡ k → m ≡ k → o ≡ get_or firsts j o
         → AreListed number Is n (slice_set firsts m (Some p)) (slice_set next i o)
     listed_first k j m p here is only within there read written old = subst (λ m. AreListed number Is n (slice_set firsts m (Some p)) (slice_set next i o)) (sym written) (record {
-      first = λ l. elim (same_or l) [
+      first = λ l. elim (cases_eq l k) [
         | inl e ↦ subst (λ i. IsFirstFrom number (Is i) n (get_or (slice_set firsts k (Some p)) i None)) (sym e)
             (subst (IsFirstFrom number (Is k) n) (sym (get_or-set_same firsts k (Some p) None within))
             (omega (arith, here), subst (Is k) (sym here) is, λ q le lt i. absurd (omega (arith, le, lt, here))))
@@ -67,12 +67,6 @@ module _ {S : Type 0} (number : S → ℕ) (Is : ℕ → ℕ → Type 0) (n : �
       where
         now : get_or (slice_set next i o) n None ≡ get_or firsts k None
         now = ap (λ m. get_or (slice_set next m o) n None) at ∙ get_or-set_same next n o None there ∙ old ∙ ap (λ m. get_or firsts m o) read ∙ get_or_default firsts k o None within
-
-        same_or : (l : ℕ) → (l ≡ k) ⊎ (l ≡ k → ⊥)
-        same_or l = elim (cases_lt l k) [
-          | inl lt ↦ inr (λ e. omega (arith, lt, e))
-          | inr ge ↦ elim (cases_lt k l) [ inl gt ↦ inr (λ e. omega (arith, gt, e)) | inr le ↦ inl (omega (arith, ge, le)) ]
-        ]
 
 -- nothing is listed yet
 pub listed_none : {S : Type 0} (number : S → ℕ) (Is : ℕ → ℕ → Type 0) (n lists : ℕ) (firsts next : List (Option (PIdx S))) → ((k p : ℕ) → Is k p → p < n)

@@ -1,5 +1,5 @@
 -- Candidates: what the choices give for them, and what one more choice changes.
-use Rattle.std.proofs.Common.{◌≡◌, ℕ, ◌+◌, ◌<◌, ◌⊎◌, inl, inr, Bool, true, false, List, [], ◌∷◌, get_or, length, Option, Some, None, All, append-nil, arith, refl, sym, ap, subst, ◌∙◌, true≢false}
+use Rattle.std.proofs.Common.{◌≡◌, ℕ, ◌+◌, ◌<◌, ◌⊎◌, inl, inr, Bool, true, false, List, [], ◌∷◌, get_or, length, Option, Some, None, append-nil, arith, refl, sym, ap, subst, ◌∙◌, true≢false}
 use Rattle.std.specs.Prelude.{IsSomeAnd}
 use Rattle.std.specs.declared.cmp.Ordering.{Ordering}
 use Rattle.std.specs.declared.cmp.Ordering.TheVariants.{Equal, Greater}
@@ -11,8 +11,8 @@ use Rattle.cfgtables.proofs.Located.{at_position}
 use Rattle.cfgleast.specs.Certificate.{rule_choice}
 use Rattle.cfgchoices.specs.Choices.{ChoicesGive}
 use Rattle.cfgchoices.specs.Choices as gives
-use Rattle.cfgleast.specs.Generator.{CostTables, cost_answer, token_cost}
-use Rattle.cfgchoices.specs.Kinds.{IsChain, IsOptimal}
+use Rattle.cfgleast.specs.Generator.{CostTables, cost_answer}
+use Rattle.cfgchoices.specs.Kinds.{IsChain}
 use Rattle.cfgchoices.specs.FirstSentence.{lexicographic}
 use Rattle.cfgchoices.specs.Inner.Candidates.{Choices, Choosing, Handles, HasChoice, IsDone, IsFloor, IsHandled, IsKnown, IsNext, IsCandidate, IsFreeOrChosenBelow, Known, AreCandidates, NotAfter, Nominating, Candidates, GivesNoMore, Waits, with_choices, is_sole, owner, sequence}
 use Rattle.cfgchoices.proofs.Choices.{choices_once}
@@ -20,7 +20,6 @@ use Rattle.cfgchoices.proofs.Choosing.{answer_chosen, choosing_more, chosen_now,
 use Rattle.lemmas.proofs.Contained.{contains_one}
 use Rattle.cfgchoices.proofs.FirstChosen.{not_after}
 use Rattle.cfgchoices.proofs.GrowingChoices.{Keeps, gives_kept, keeps_one}
-use Rattle.cfgchoices.proofs.Lengths.{IsPaid}
 use Rattle.cfgchoices.proofs.Optimal.{chains_target, one_cost, paid}
 
 not_greater : (u v : List ℕ) → u ≡ v → lexicographic u v ≡ Greater → ⊥
@@ -128,9 +127,6 @@ module _ (k : Known) (n : ℕ) (is : IsKnown k n) where
     abbrev pub choosing : Choosing x chosen (f.number + 1)
     choosing = choosing_more x l f.number (owner x p) p candidates.choosing unset within next.nominated.optimal refl next.nominated.below
 
-    paid_sequence : (q : ℕ) → IsOptimal x q → All (IsPaid (token_cost x)) (sequence x q)
-    paid_sequence q optimal = paid x n is.generator is.grammar (owner x q) (sequence x q) (at_position x.grammar q _ optimal.index refl refl)
-
     costs_now : cost_answer x (owner x p) ≡ Some f.cost
     costs_now = next.nominated.optimal.rule ∙ ap Some next.nominated.cost
 
@@ -213,7 +209,7 @@ module _ (k : Known) (n : ℕ) (is : IsKnown k n) where
           cost = one_cost x (owner x p) target.optimal.cost f.cost target.same costs_now;
           below = target_below x chosen q (owner x p) (f.number + 1) links (subst (λ (o : Option (ℕ × ℕ)). IsSomeAnd o (λ choice. choice.1 < f.number + 1)) (sym now) (omega arith));
           floor = λ r has costs several u v g h.
-              let back = target_gives x chosen (owner x p) v links (paid_sequence q target.optimal) h in
+              let back = target_gives x chosen (owner x p) v links (paid x n is.generator is.grammar (owner x q) (sequence x q) (at_position x.grammar q _ target.optimal.index refl refl)) h in
               elim (cases r has) [
                 | inl old ↦ not_after_kept x l chosen keeps (Rule r ∷ []) (sequence x p) (choice_given x l f.number candidates.choosing r old) mine (next.nominated.floor r old costs several)
                     u v g (sequence_gives x chosen (f.number + 1) choosing (owner x p) p f.number now v back)

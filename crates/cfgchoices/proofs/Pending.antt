@@ -19,12 +19,6 @@ use Rattle.cfgchoices.proofs.Choices.{choices_join}
 use Rattle.cfgchoices.proofs.Choosing.{answer_chosen, few, paid_chosen, sequence_below}
 use Rattle.cfgchoices.proofs.TreeSizes.{tree_size_opened, tree_size_positive}
 
-last_first : {A : Type 0} (rest : List A) (s : A) → reverse (rest ++ s ∷ []) ≡ s ∷ reverse rest
-last_first rest s = reverse-append rest (s ∷ [])
-
-turned_first : {A : Type 0} (rest symbols : List A) → reverse (rest ++ reverse symbols) ≡ symbols ++ reverse rest
-turned_first rest symbols = reverse-append rest (reverse symbols) ∙ ap (λ l. l ++ reverse rest) (reverse-reverse symbols)
-
 pub map_reverse : {A B : Type 0} (f : A → B) (xs : List A) → map f (reverse xs) ≡ reverse (map f xs)
 map_reverse f [] = refl
 map_reverse f (x ∷ xs) = ap (map f) (reverse-append (x ∷ []) xs) ∙ map-append f (reverse xs) (x ∷ []) ∙ ap (λ l. l ++ f x ∷ []) (map_reverse f xs)
@@ -82,7 +76,7 @@ pub record GoesOn (x : CostTables) (l : Choices) (old pending : List Sym) : Type
 
 module _ (x : CostTables) (l : Choices) (n : ℕ) (state : Choosing x l n) (rest : List Sym) where
   first_pending : (s : Sym) (w : List ℕ) → Pends x l (rest ++ s ∷ []) w → ChoicesGive (with_choices x l) (s ∷ reverse rest) w
-  first_pending s w h = subst (λ a. ChoicesGive (with_choices x l) a w) (last_first rest s) h
+  first_pending s w h = subst (λ a. ChoicesGive (with_choices x l) a w) (reverse-append rest (s ∷ [])) h
 
   pub rule_within : (k : ℕ) → IsGenerator x k → (r : ℕ) (w : List ℕ) → Pends x l (rest ++ Rule r ∷ []) w → r < length l
   rule_within k is r w h = go (reverse rest) (first_pending (Rule r) w h)
@@ -131,7 +125,7 @@ module _ (x : CostTables) (l : Choices) (n : ℕ) (state : Choosing x l n) (rest
   pub goes_on_opened : (old : List Sym) (r p m : ℕ) → rule_choice l r ≡ Some (p, m) → GoesOn x l old (rest ++ Rule r ∷ []) → GoesOn x l old (rest ++ reverse (sequence x p))
   goes_on_opened old r p m e g =
       let c = (state.each r p m e).0 in record {
-        same = λ w h. subst (λ a. ChoicesGive (with_choices x l) a w) (sym (turned_first rest (sequence x p)))
+        same = λ w h. subst (λ a. ChoicesGive (with_choices x l) a w) (sym (reverse-append rest (reverse (sequence x p)) ∙ ap (λ l. l ++ reverse rest) (reverse-reverse (sequence x p))))
             (rule_prefix (with_choices x l) r p m (reverse rest) w (paid_chosen x l n state r p m c) (answer_chosen x l n state r p m e c) (first_pending (Rule r) w (g.same w h)));
         left = omega (arith, g.left, rule_less r p m e);
       }

@@ -59,13 +59,10 @@ module _ {S : Type 0} (kinds : List (Kind S)) (g : Grammar) where
         rules = a.rules;
         none = λ r none p lt c h. a.none r none p (other r p (λ _ is. true≢false (sym (was ∙ e) ∙ ap (λ m. get_or seen m false) is ∙ none)) lt c h) c h;
         one = λ r t. elim (get_or-set sole i r false false) [
-          | inl same ↦ one_other r (λ _ is. true≢false (sym t ∙ ap (λ m. get_or (slice_set sole i false) m false) (sym is ∙ sym at) ∙ cleared)) (sym same ∙ t)
+          | inl same ↦ one_other r (λ _ is. true≢false (sym t ∙ ap (λ m. get_or (slice_set sole i false) m false) (sym is ∙ sym at) ∙ get_or-set_same sole i false false (subst (λ m. i < m) (sym a.flags) within))) (sym same ∙ t)
           | inr now ↦ absurd (true≢false (sym t ∙ now.1))
         ];
       }
-        where
-          cleared : get_or (slice_set sole i false) i false ≡ false
-          cleared = get_or-set_same sole i false false (subst (λ m. i < m) (sym a.flags) within)
 
       -- it has none yet
       pub sole_first : b ≡ false → SoleSoFar (n + 1) sole (slice_set seen i true)
@@ -73,7 +70,7 @@ module _ {S : Type 0} (kinds : List (Kind S)) (g : Grammar) where
         flags = a.flags;
         rules = length-set seen i true ∙ a.rules;
         none = λ r none. elim (get_or-set seen i r true false) [
-          | inl same ↦ λ p lt c h. a.none r (sym same ∙ none) p (other r p (λ _ is. true≢false (sym set ∙ ap (λ m. get_or (slice_set seen i true) m false) (at ∙ is) ∙ none)) lt c h) c h
+          | inl same ↦ λ p lt c h. a.none r (sym same ∙ none) p (other r p (λ _ is. true≢false (sym (get_or-set_same seen i true false (subst (λ m. i < m) (sym a.rules) within)) ∙ ap (λ m. get_or (slice_set seen i true) m false) (at ∙ is) ∙ none)) lt c h) c h
           | inr now ↦ absurd (true≢false (sym now.1 ∙ none))
         ];
         one = λ r t p q lt lt' c d h k. elim (old_or_new p lt) [
@@ -87,6 +84,3 @@ module _ {S : Type 0} (kinds : List (Kind S)) (g : Grammar) where
           ]
         ];
       }
-        where
-          set : get_or (slice_set seen i true) i false ≡ true
-          set = get_or-set_same seen i true false (subst (λ m. i < m) (sym a.rules) within)
