@@ -1,5 +1,5 @@
 -- Words of the code that were sorted, each once: as lists of numbers they are in lexicographic order.
-use Rattle.std.proofs.Common.{◌≡◌, ◌↔◌, ◌<◌, ◌≤◌, inl, inr, ℕ, zero, suc, Bool, List, Vec, [], ◌∷◌, get_or, length, map, take, Contains, refl, sym, ap, subst, ◌∙◌}
+use Rattle.std.proofs.Common.{◌≡◌, ◌↔◌, ◌+◌, ◌<◌, ◌≤◌, inl, inr, ℕ, Bool, List, Vec, [], ◌∷◌, drop, get_or, length, map, take, Contains, arith, refl, sym, ap, subst, ◌∙◌}
 use Rattle.std.specs.declared.cmp.Ordering.{Ordering}
 use Rattle.std.specs.declared.cmp.Ordering.TheVariants.{Less, Equal, Greater}
 use Rattle.std.specs.Ordering.{eq_by_cmp, is_eq, is_lt, nat_cmp, on, ordering_then}
@@ -9,12 +9,13 @@ use Rattle.std.specs.List.{AllByRecursion, dedup}
 use Rattle.std.specs.List.Retain.{DiffersFromLast, IsFiltered}
 use Rattle.std.specs.List.Sorted.{IsPermutation, IsSorted, IsStrictlySortedBy}
 use Rattle.std.proofs.lemmas.Cmp.{nat_list_cmp_total, on_total}
-use Rattle.std.proofs.lemmas.List.{take-map, take_all}
-use Rattle.std.proofs.lemmas.List.Elements.{All-contains, Contains-get_or}
+use Rattle.std.proofs.lemmas.List.{get_or-take, length-take, take-append-drop, take-map, take_all}
+use Rattle.std.proofs.lemmas.List.Elements.{All-contains, Contains-append_left, Contains-get_or}
 use Rattle.std.proofs.lemmas.List.Filters.{dedup_is}
 use Rattle.std.proofs.lemmas.List.Kept.{Any-dedup, Contains-from_dedup, IsStrictlySortedBy-dedup}
 use Rattle.std.proofs.lemmas.List.Sorted.{Contains-permutation, IsPermutation-map, IsPermutation-sym}
-use Rattle.lemmas.proofs.Contained.{contains_cases, contains_first, contains_later, contains_mapped, contains_none, contains_source}
+use Rattle.lemmas.proofs.Contained.{contains_cases, contains_mapped, contains_none, contains_source}
+use Rattle.std.proofs.lemmas.Map.Keys.{Less-from_sorted, sorted_from_all_adjacent}
 use Rattle.std.proofs.lemmas.Map.Views.{All-after_first}
 use Rattle.std.specs.declared.alloc.Global.{Global}
 use Rattle.cfgindex.specs.declared.idxnewtype.TIdx.{TIdx}
@@ -111,24 +112,14 @@ module _ {S : Type 0} (number : S → ℕ) (P : ℕ → List Sym → Type 0) (co
   first_listed sentences all order word within is =
       (listed_minimal sentences all 0 word within is, λ v m g. none_before sentences word v order is ((all v).1 m) g)
 
-all_take : (P : List ℕ → Type 0) (n : ℕ) (words : List (List ℕ)) → AllByRecursion P words → AllByRecursion P (take n words)
-all_take P zero words all = tt
-all_take P (suc n) [] all = tt
-all_take P (suc n) (w ∷ words) all = (all.0, all_take P n words all.1)
-
 sorted_take : (n : ℕ) (words : List (List ℕ)) → IsStrictlySortedBy lexicographic words → IsStrictlySortedBy lexicographic (take n words)
-unfolding IsStrictlySortedBy
-sorted_take zero words order = tt
-sorted_take (suc n) [] order = tt
-sorted_take (suc n) (w ∷ words) order = (all_take (λ y. lexicographic w y ≡ Less) n words order.0, sorted_take n words order.1)
-
-contains_take : (n : ℕ) (words : List (List ℕ)) (v : List ℕ) → Contains (take n words) v → Contains words v
-contains_take zero words v h = absurd (contains_none v h)
-contains_take (suc n) [] v h = h
-contains_take (suc n) (w ∷ words) v h = elim (contains_cases w v (take n words) h) [
-  | inl same ↦ subst (Contains (w ∷ words)) same (contains_first w words)
-  | inr later ↦ contains_later w v words (contains_take n words v later)
-]
+sorted_take n words order = sorted_from_all_adjacent nat_list_cmp_total (take n words) [] (λ k lt.
+    let long = length-take n words in
+    let short : k + 1 < n = omega (arith, lt, long) in
+    let inside : k < n = omega (arith, short) in
+    ap (λ w. lexicographic w (get_or (take n words) (k + 1) [])) (get_or-take n words k [] inside)
+    ∙ ap (lexicographic (get_or words k [])) (get_or-take n words (k + 1) [] short)
+    ∙ Less-from_sorted lexicographic words k (k + 1) [] order (omega arith) (omega (arith, lt, long)))
 
 -- of keys whose words are in lexicographic order, those up to a number
 module _ {K : Type 0} (f : K → List ℕ) (keys kept : List K) (n : ℕ) (is : kept ≡ take n keys) where
@@ -136,7 +127,8 @@ module _ {K : Type 0} (f : K → List ℕ) (keys kept : List K) (n : ℕ) (is : 
   kept_sorted order = subst (λ l. IsStrictlySortedBy lexicographic (map f l)) (sym is) (subst (IsStrictlySortedBy lexicographic) (take-map f n keys) (sorted_take n (map f keys) order))
 
   pub kept_listed : (v : List ℕ) → Contains (map f kept) v → Contains (map f keys) v
-  kept_listed v h = contains_take n (map f keys) v (subst (λ l. Contains l v) (sym (take-map f n keys)) (subst (λ l. Contains (map f l) v) is h))
+  kept_listed v h = subst (λ l. Contains l v) (take-append-drop n (map f keys)) (Contains-append_left (take n (map f keys)) (drop n (map f keys)) v
+      (subst (λ l. Contains l v) (sym (take-map f n keys)) (subst (λ l. Contains (map f l) v) is h)))
 
   pub all_kept : length keys ≤ n → (v : List ℕ) → Contains (map f keys) v → Contains (map f kept) v
   all_kept few v h = subst (λ l. Contains (map f l) v) (sym (is ∙ take_all n keys few)) h

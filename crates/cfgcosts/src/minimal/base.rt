@@ -3,7 +3,7 @@
 ghost use Rattle.std.specs.Prelude.{◌≡◌, ◌↔◌, ℕ, ◌<◌, Contains, IfOk, OnOk, length};
 ghost use Rattle.cfgtables.specs.Openings.{nth_production};
 ghost use Rattle.search.specs.Reachable.{Reaches};
-ghost use Rattle.cfgchoices.specs.Kinds.{LeadsTo, IsBase, IsChain, ReachesBase, production_numbers};
+ghost use Rattle.cfgchoices.specs.Kinds.{LeadsTo, IsBase, ReachesBase, production_numbers};
 ghost use Rattle.cfgcosts.specs.Inner.Minimal.{Lists};
 
 use crate::generator::SentenceGenerator;
@@ -14,37 +14,6 @@ use search::{Few, Search};
 use std::alloc::{AllocError, Global};
 
 impl<'a, S: Storage, T: Tables<S>> SentenceGenerator<'a, S, T> {
-    /// Lists a base production; for a chain production, queues the rule that it leads to.
-    ///
-    /// # Errors
-    ///
-    /// Out of memory.
-    fn add_production(
-        &self,
-        p: PIdx<S>,
-        search: &mut Search<Few>,
-        base: &mut Vec<PIdx<S>>,
-    ) -> Result<(), AllocError>
-        requires index { S.number p.0 < length self.now.grammar.productions }
-        requires rules { length search.old.reachable ≡ self.now.grammar.rules }
-        ensures target { OnOk result (Reaches (IsChain self.now (S.number p.0)) search.old search.new) }
-        ensures base { OnOk result (Lists (λ q. (q ≡ S.number p.0) × IsBase self.now q)
-            (production_numbers S.number base.old.items) (production_numbers S.number base.new.items)) }
-    {
-        self.invariant_holds();
-        match self.kinds[usize::from(p)] {
-            Kind::Suboptimal => Ok(()),
-            Kind::Base => {
-                base.push(p)?;
-                Ok(())
-            }
-            Kind::Chain(rule) => {
-                search.reach(usize::from(rule))?;
-                Ok(())
-            }
-        }
-    }
-
     /// Queues the rules that the rule's chain productions lead to, and lists its base productions.
     ///
     /// # Errors
@@ -63,8 +32,14 @@ impl<'a, S: Storage, T: Tables<S>> SentenceGenerator<'a, S, T> {
             (λ p. ((nth_production self.now.grammar p).rule ≡ S.number rule.0) × IsBase self.now p)
             (production_numbers S.number base.old.items) (production_numbers S.number base.new.items)) }
     {
+        self.invariant_holds();
         for p in self.tables.rule_to_prods(rule) {
-            self.add_production(*p, search, base)?;
+            let kind = self.kinds[usize::from(*p)];
+            match kind {
+                Kind::Suboptimal => {}
+                Kind::Base => base.push(*p)?,
+                Kind::Chain(target) => search.reach(usize::from(target))?,
+            }
         }
         Ok(())
     }

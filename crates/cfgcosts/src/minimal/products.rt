@@ -54,6 +54,7 @@ fn join<S: Storage>(
 /// # Errors
 ///
 /// Out of memory.
+#[tactic(auto, using(std::proofs::lemmas::Grind::common_steps))]
 fn join_each<S: Storage>(
     alloc: Global,
     mut prefix: Vec<TIdx<S>>,
@@ -79,6 +80,7 @@ fn join_each<S: Storage>(
 /// # Errors
 ///
 /// Out of memory.
+#[tactic(auto, using(std::proofs::lemmas::Grind::common_steps))]
 fn join_all<S: Storage>(
     alloc: Global,
     prefixes: Vec<Vec<TIdx<S>>>,
