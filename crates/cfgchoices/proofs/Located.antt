@@ -42,60 +42,51 @@ pub record Between (k : Known) (f : Candidates) (p low high : ℕ) : Type 0 wher
   pub before : (i : ℕ) → i < low → NotAfter k.tables f.choices (sequence k.tables p) (sequence k.tables (get_or f.sorted i 0))
   pub after : (i : ℕ) → high ≤ i → i < length f.sorted → NotAfter k.tables f.choices (sequence k.tables (get_or f.sorted i 0)) (sequence k.tables p)
 
-module _ (k : Known) (f : Candidates) (candidates : AreCandidates k f) (p : ℕ) (given : IsGiven k.tables f.choices (sequence k.tables p)) where
+-- a production in the middle is compared
+module _ (k : Known) (f : Candidates) (candidates : AreCandidates k f) (p low high middle q : ℕ) (b : Between k f p low high)
+    (from : low ≤ middle) (to : middle < high) (at : get_or f.sorted middle 0 ≡ q) where
   abbrev x : CostTables
   x = k.tables
 
-  abbrev nth : ℕ → ℕ
-  nth i = get_or f.sorted i 0
+  inside : middle < length f.sorted
+  inside = omega (arith, to, b.within)
 
-  nth_given : (i : ℕ) → i < length f.sorted → IsGiven x f.choices (sequence x (nth i))
-  nth_given i h = nominated_given k f.choices f.number candidates.choosing f.cost (nth i) (candidates.nominated (nth i) (inr (Contains-get_or f.sorted i 0 h)))
-
-  module _ (low high middle : ℕ) (b : Between k f p low high) (from : low ≤ middle) (to : middle < high) where
-    inside : middle < length f.sorted
-    inside = omega (arith, to, b.within)
-
-    pub prefix_half : NotAfter x f.choices (sequence x (nth middle)) (sequence x p) → Between k f p low middle
-    prefix_half here = record {
-      within = let lt = inside in omega (arith, lt);
-      ordered = from;
-      before = b.before;
-      after = λ i le lt. elim (cases_lt middle i) [
-        | inl later ↦ not_after_both x f.choices (sequence x (nth i)) (sequence x (nth middle)) (sequence x p) (nth_given middle inside) (candidates.order middle i later lt) here
-        | inr not ↦ let same : middle ≡ i = omega (arith, le, not) in subst (λ j. NotAfter x f.choices (sequence x (nth j)) (sequence x p)) same here
-      ];
-    }
-
-    pub back_half : NotAfter x f.choices (sequence x p) (sequence x (nth middle)) → Between k f p (middle + 1) high
-    back_half here = record {
-      within = b.within;
-      ordered = omega (arith, to);
-      before = λ i lt. elim (cases_lt i middle) [
-        | inl sooner ↦ not_after_both x f.choices (sequence x p) (sequence x (nth middle)) (sequence x (nth i)) (nth_given middle inside) here (candidates.order i middle sooner inside)
-        | inr not ↦ let same : middle ≡ i = omega (arith, lt, not) in subst (λ j. NotAfter x f.choices (sequence x p) (sequence x (nth j))) same here
-      ];
-      after = b.after;
-    }
-
--- a production in the middle is compared
-module _ (k : Known) (f : Candidates) (candidates : AreCandidates k f) (p : ℕ) (nominated : IsCandidate k f.choices f.number f.cost p) (low high middle q : ℕ) (b : Between k f p low high)
-    (from : low ≤ middle) (to : middle < high) (at : get_or f.sorted middle 0 ≡ q) where
   pub middle_nominated : IsCandidate k f.choices f.number f.cost q
   middle_nominated = subst (IsCandidate k f.choices f.number f.cost) at
-      (candidates.nominated (get_or f.sorted middle 0) (inr (Contains-get_or f.sorted middle 0 (omega (arith, to, b.within)))))
+      (candidates.nominated (get_or f.sorted middle 0) (inr (Contains-get_or f.sorted middle 0 inside)))
 
-  module _ (o : Ordering) (reported : (u v : List ℕ) → ChoicesGive (with_choices k.tables f.choices) (sequence k.tables q) u → ChoicesGive (with_choices k.tables f.choices) (sequence k.tables p) v → o ≡ lexicographic u v) where
-    mine : IsGiven k.tables f.choices (sequence k.tables p)
-    mine = nominated_given k f.choices f.number candidates.choosing f.cost p nominated
+  given : IsGiven x f.choices (sequence x q)
+  given = nominated_given k f.choices f.number candidates.choosing f.cost q middle_nominated
 
+  module _ (o : Ordering) (reported : (u v : List ℕ) → ChoicesGive (with_choices x f.choices) (sequence x q) u → ChoicesGive (with_choices x f.choices) (sequence x p) v → o ≡ lexicographic u v) where
     pub to_prefix : is_lt o ≡ true → Between k f p low middle
-    to_prefix e = prefix_half k f candidates p mine low high middle b from to
-        (subst (λ i. NotAfter k.tables f.choices (sequence k.tables i) (sequence k.tables p)) (sym at) (λ u v h k greater. true≢false (sym e ∙ ap is_lt (reported u v h k ∙ greater))))
+    to_prefix e =
+        let here : NotAfter x f.choices (sequence x q) (sequence x p) = λ u v h k greater. true≢false (sym e ∙ ap is_lt (reported u v h k ∙ greater)) in record {
+          within = let lt = inside in omega (arith, lt);
+          ordered = from;
+          before = b.before;
+          after = λ i le lt. elim (cases_lt middle i) [
+            | inl later ↦ not_after_both x f.choices (sequence x (get_or f.sorted i 0)) (sequence x q) (sequence x p) given
+                (subst (λ j. NotAfter x f.choices (sequence x (get_or f.sorted i 0)) (sequence x j)) at (candidates.order middle i later lt)) here
+            | inr not ↦ let same : middle ≡ i = omega (arith, le, not) in
+                subst (λ j. NotAfter x f.choices (sequence x j) (sequence x p)) (sym at ∙ ap (λ j. get_or f.sorted j 0) same) here
+          ];
+        }
 
     pub to_back : is_lt o ≡ false → Between k f p (middle + 1) high
-    to_back e = back_half k f candidates p mine low high middle b from to
-        (subst (λ i. NotAfter k.tables f.choices (sequence k.tables p) (sequence k.tables i)) (sym at) (λ u v h k greater. true≢false (sym (ap is_lt (reported v u k h ∙ nat_list_cmp_total.antisymm v u ∙ ap ordering_reverse greater)) ∙ e)))
+    to_back e =
+        let here : NotAfter x f.choices (sequence x p) (sequence x q) =
+        λ u v h k greater. true≢false (sym (ap is_lt (reported v u k h ∙ nat_list_cmp_total.antisymm v u ∙ ap ordering_reverse greater)) ∙ e) in record {
+          within = b.within;
+          ordered = omega (arith, to);
+          before = λ i lt. elim (cases_lt i middle) [
+            | inl sooner ↦ not_after_both x f.choices (sequence x p) (sequence x q) (sequence x (get_or f.sorted i 0)) given here
+                (subst (λ j. NotAfter x f.choices (sequence x j) (sequence x (get_or f.sorted i 0))) at (candidates.order i middle sooner inside))
+            | inr not ↦ let same : middle ≡ i = omega (arith, lt, not) in
+                subst (λ j. NotAfter x f.choices (sequence x p) (sequence x j)) (sym at ∙ ap (λ j. get_or f.sorted j 0) same) here
+          ];
+          after = b.after;
+        }
 
 -- one more waits, or one that gives nothing greater does
 module _ (k : Known) (f : Candidates) (o : Nominating k f) (p : ℕ) (nominated : IsCandidate k f.choices f.number f.cost p) where

@@ -15,7 +15,7 @@ use Rattle.cfgleast.specs.Certificate.{choice_of, rule_choice}
 use Rattle.cfgchoices.specs.Choices.{ChoicesGive, empty, token, free, chosen}
 use Rattle.cfgleast.specs.Generator.{CostTables, IsGenerator, choice_answer, cost_answer, where_some}
 use Rattle.cfgchoices.specs.Inner.Candidates.{Choices, Choosing, Pends, with_choices, left_to_open, sequence, tree_size}
-use Rattle.cfgchoices.proofs.Choices.{choices_join}
+use Rattle.cfgchoices.proofs.Choices.{choices_join, choices_once}
 use Rattle.cfgchoices.proofs.Choosing.{answer_chosen, few, paid_chosen, sequence_below}
 use Rattle.cfgchoices.proofs.TreeSizes.{tree_size_opened, tree_size_positive}
 
@@ -87,10 +87,7 @@ module _ (x : CostTables) (l : Choices) (n : ℕ) (state : Choosing x l n) (rest
           let no : ◌≡◌ {A = Option (ℕ × ℕ)} None (Some (p, m)) = sym (ap (where_some (cost_answer x r)) none ∙ where_none (cost_answer x r)) ∙ choice in absurd (cc))
 
   pub none_pending : (w : List ℕ) → Pends x l [] w → w ≡ []
-  none_pending w h = go w h
-    where
-      go : (w : List ℕ) → ChoicesGive (with_choices x l) [] w → w ≡ []
-      go w empty = refl
+  none_pending w h = choices_once (with_choices x l) h empty
 
   pub token_pending : (t : ℕ) (w : List ℕ) → Pends x l (rest ++ Token t ∷ []) w → (v : List ℕ) × (w ≡ t ∷ v) × Pends x l rest v
   token_pending t w h = token_prefix (with_choices x l) t (reverse rest) w (first_pending (Token t) w h)

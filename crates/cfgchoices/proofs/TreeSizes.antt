@@ -1,6 +1,7 @@
 -- What the choices give for symbols, in numbers: how many tokens, and how many rules are replaced on the way.
-use Rattle.std.proofs.Common.{◌≡◌, ℕ, zero, suc, ◌+◌, ◌<◌, List, [], ◌∷◌, Option, Some, None, All, arith, refl, ap, ◌∙◌}
+use Rattle.std.proofs.Common.{◌≡◌, ℕ, zero, suc, ◌+◌, ◌<◌, List, [], ◌∷◌, Option, Some, None, All, arith, refl, sym, ap, ◌∙◌}
 use Rattle.std.specs.Prelude.{IfSome, sum_by}
+use Rattle.std.proofs.lemmas.Option.{IfSome_then}
 use Rattle.std.proofs.lemmas.List.Sums.{sum_by-cons}
 use Rattle.std.proofs.lemmas.List.Elements.{All-head, All-tail}
 use Rattle.derivation.specs.Grammar.{Sym, Rule, Token, Grammar}
@@ -18,6 +19,11 @@ sum_by-same Q f g same (x ∷ xs) all =
     let whole = sum_by-cons f x xs in
     let other = sum_by-cons g x xs in
     omega (arith, here, rest, whole, other)
+
+-- no number is below 0
+none_below : (o : Option (ℕ × ℕ)) → IfSome o (λ choice. choice.1 < 0) → o ≡ None
+none_below None h = refl
+none_below (Some choice) h = absurd (omega (arith, h))
 
 module _ (g : Grammar) (choices : List (Option (ℕ × ℕ))) (each : ℕ) where
   abbrev size : ℕ → Sym → ℕ
@@ -40,11 +46,7 @@ module _ (g : Grammar) (choices : List (Option (ℕ × ℕ))) (each : ℕ) where
   module _ (below : (r p m : ℕ) → rule_choice choices r ≡ Some (p, m) → All (IsBelowIfChosen choices m) (nth_production g p).symbols) where
     lower : (n m : ℕ) (s : Sym) → m < n + 1 → IsBelowIfChosen choices m s → IsBelowIfChosen choices n s
     lower n m (Token t) lt h = tt
-    lower n m (Rule r) lt h = go (rule_choice choices r) h
-      where
-        go : (o : Option (ℕ × ℕ)) → IfSome o (λ choice. choice.1 < m) → IfSome o (λ choice. choice.1 < n)
-        go None h = tt
-        go (Some choice) h = omega (arith, h, lt)
+    lower n m (Rule r) lt h = IfSome_then (rule_choice choices r) h (λ choice below. omega (arith, below, lt))
 
     -- it is enough to go as deep as the numbers of the choices
     tree_size_same : (n m : ℕ) (s : Sym) → IsBelowIfChosen choices n s → IsBelowIfChosen choices m s → size n s ≡ size m s
@@ -54,16 +56,8 @@ module _ (g : Grammar) (choices : List (Option (ℕ × ℕ))) (each : ℕ) where
     tree_size_same zero (suc m) (Token t) h k = refl
     tree_size_same (suc n) zero (Token t) h k = refl
     tree_size_same (suc n) (suc m) (Token t) h k = refl
-    tree_size_same zero (suc m) (Rule r) h k = go (rule_choice choices r) h
-      where
-        go : (o : Option (ℕ × ℕ)) → IfSome o (λ choice. choice.1 < 0) → each ≡ size_of (size m) o
-        go None h = refl
-        go (Some choice) h = absurd (omega (arith, h))
-    tree_size_same (suc n) zero (Rule r) h k = go (rule_choice choices r) k
-      where
-        go : (o : Option (ℕ × ℕ)) → IfSome o (λ choice. choice.1 < 0) → size_of (size n) o ≡ each
-        go None h = refl
-        go (Some choice) h = absurd (omega (arith, h))
+    tree_size_same zero (suc m) (Rule r) h k = ap (size_of (size m)) (sym (none_below (rule_choice choices r) h))
+    tree_size_same (suc n) zero (Rule r) h k = ap (size_of (size n)) (none_below (rule_choice choices r) k)
     tree_size_same (suc n) (suc m) (Rule r) h k = go (λ s. tree_size_same n m s) (rule_choice choices r) refl h k
       where
         go : ((s : Sym) → IsBelowIfChosen choices n s → IsBelowIfChosen choices m s → size n s ≡ size m s) → (o : Option (ℕ × ℕ)) → rule_choice choices r ≡ o

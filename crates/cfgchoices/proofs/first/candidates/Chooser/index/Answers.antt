@@ -29,15 +29,15 @@ index-requires g c =
     omega (arith, c.loop-low.invariant.within, len, c.probe-middle.ensures.to)
 
 pub compare-requires-clause-one : goal.compare-requires-clause-one
-compare-requires-clause-one g c = middle_nominated _ _ c.requires.candidates _ c.requires.nominated _ _ _ _ c.loop-low.invariant c.probe-middle.ensures.from c.probe-middle.ensures.to
+compare-requires-clause-one g c = middle_nominated _ _ c.requires.candidates _ _ _ _ _ c.loop-low.invariant c.probe-middle.ensures.from c.probe-middle.ensures.to
     (middle g (goal.at.compare-requires-clause-one g c).After-index)
 
 pub loop-low-preserved-then-is_lt : goal.loop-low-preserved-then-is_lt
-loop-low-preserved-then-is_lt g c = to_prefix _ _ c.requires.candidates _ c.requires.nominated _ _ _ _ c.loop-low.invariant c.probe-middle.ensures.from c.probe-middle.ensures.to
+loop-low-preserved-then-is_lt g c = to_prefix _ _ c.requires.candidates _ _ _ _ _ c.loop-low.invariant c.probe-middle.ensures.from c.probe-middle.ensures.to
     (middle g (goal.at.loop-low-preserved-then-is_lt g c).After-index) _ c.in_ok-compare.ensures (sym c.is_lt.ensures ∙ c.if-is_lt.true)
 
 pub loop-low-preserved : goal.loop-low-preserved
-loop-low-preserved g c = to_back _ _ c.requires.candidates _ c.requires.nominated _ _ _ _ c.loop-low.invariant c.probe-middle.ensures.from c.probe-middle.ensures.to
+loop-low-preserved g c = to_back _ _ c.requires.candidates _ _ _ _ _ c.loop-low.invariant c.probe-middle.ensures.from c.probe-middle.ensures.to
     (middle g (goal.at.loop-low-preserved g c).After-index) _ c.in_ok-compare.ensures (sym c.is_lt.ensures ∙ c.if-is_lt.false)
 
 pub probe-middle-requires : goal.probe-middle-requires
