@@ -28,9 +28,6 @@ module _ {S : Type 0} (number : S → ℕ) (x : CostTables) (listed : Listed S) 
   abbrev Is : ℕ → Type 0
   Is = IsIn number x listed
 
-  abbrev positions : ℕ
-  positions = length x.grammar.productions
-
   pub record Gone (f' : Candidates) (next : Option (PIdx S)) : Type 0 where
     pub from : ℕ
     pub within : from ≤ length x.grammar.productions
@@ -71,7 +68,7 @@ module _ {S : Type 0} (number : S → ℕ) (x : CostTables) (listed : Listed S) 
         };
       }
 
-  pub gone_ends : (f' : Candidates) → Gone f' None → Adds x Is positions f f'
+  pub gone_ends : (f' : Candidates) → Gone f' None → Adds x Is (length x.grammar.productions) f f'
   gone_ends f' g =
       let a = g.adds in record {
         choices = a.choices;
@@ -84,12 +81,12 @@ module _ {S : Type 0} (number : S → ℕ) (x : CostTables) (listed : Listed S) 
         together = omega (arith, a.together, g.within);
       }
 
-  pub gone_less : (f' : Candidates) (p : PIdx S) (next : Option (PIdx S)) → Gone f' (Some p) → IsFirstFrom number Is (number p.0 + 1) next → left_from number positions next < left_from number positions (Some p)
+  pub gone_less : (f' : Candidates) (p : PIdx S) (next : Option (PIdx S)) → Gone f' (Some p) → IsFirstFrom number Is (number p.0 + 1) next → left_from number (length x.grammar.productions) next < left_from number (length x.grammar.productions) (Some p)
   gone_less f' p next g first =
       let index = (in_optimal number x listed (number p.0) g.first.1).index in
       go next first index
     where
-      go : (next : Option (PIdx S)) → IsFirstFrom number Is (number p.0 + 1) next → number p.0 < positions → left_from number positions next < positions - number p.0
+      go : (next : Option (PIdx S)) → IsFirstFrom number Is (number p.0 + 1) next → number p.0 < length x.grammar.productions → left_from number (length x.grammar.productions) next < length x.grammar.productions - number p.0
       go None first index = omega (arith, index)
       go (Some q) first index = omega (arith, first.0, index)
 
