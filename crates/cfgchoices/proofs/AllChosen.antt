@@ -57,11 +57,10 @@ module _ (x : CostTables) (n : ℕ) (is : IsGenerator x n) (grammar : IsGrammar 
         }
 
     free_unchosen : (q : ℕ) → rule_cost x.least q ≡ Some 0 → rule_choice l q ≡ None
-    free_unchosen q e = go (rule_choice l q) refl
-      where
-        go : (o : Option (ℕ × ℕ)) → rule_choice l q ≡ o → rule_choice l q ≡ None
-        go None none = none
-        go (Some (p, m)) some = absurd (paid_chosen x l k state q p m (state.each q p m some).0 (some_answered (rule_cost x.least q) 0 e (omega arith)))
+    free_unchosen q e = elim (rule_choice l q) as (λ (o : Option (ℕ × ℕ)). rule_choice l q ≡ o → rule_choice l q ≡ None) [
+      | None ↦ λ none. none
+      | Some choice ↦ λ some. absurd (paid_chosen x l k state q choice.0 choice.1 (state.each q choice.0 choice.1 some).0 (some_answered (rule_cost x.least q) 0 e (omega arith)))
+    ] refl
 
     pub walks : ((r c : ℕ) → cost_answer x r ≡ Some c → c < bound) → AreChosen (with_choices x l)
     walks low = record {

@@ -24,9 +24,6 @@ map_reverse f [] = refl
 map_reverse f (x ∷ xs) = ap (map f) (reverse-append (x ∷ []) xs) ∙ map-append f (reverse xs) (x ∷ []) ∙ ap (λ l. l ++ f x ∷ []) (map_reverse f xs)
     ∙ sym (reverse-append (f x ∷ []) (map f xs))
 
-pub reverse_map : {A B : Type 0} (f : A → B) (xs : List A) → reverse (map f (reverse xs)) ≡ map f xs
-reverse_map f xs = ap reverse (map_reverse f xs) ∙ reverse-reverse (map f xs)
-
 where_none : (c : Option ℕ) → where_some c None ≡ None
 where_none None = refl
 where_none (Some c) = refl
