@@ -2,10 +2,9 @@
 
 ghost use Rattle.std.specs.Prelude.{◌≡◌, ℕ, ◌<◌, ◌≤◌, IfOk, MatchBool, MatchOption, OnOk, false, length};
 ghost use Rattle.std.specs.Prelude.{slice_index_or, true};
-ghost use Rattle.cfgchoices.specs.Kinds.{IsChain};
 ghost use Rattle.cfgchoices.specs.Inner.Lists.{IsIn};
 ghost use Rattle.cfgchoices.specs.Inner.Candidates.{Adds, HandlesChains, HasList, IsCandidate};
-ghost use Rattle.cfgchoices.specs.Inner.Candidates.{IsDrained, IsHandled, IsKnown};
+ghost use Rattle.cfgchoices.specs.Inner.Candidates.{IsDrained, IsHandled};
 ghost use Rattle.cfgchoices.specs.Inner.Candidates.{Known, AreCandidates, NotAfter, Nominating};
 ghost use Rattle.cfgchoices.specs.Inner.Candidates.{Takes, is_sole, left_to_choose};
 ghost use Rattle.cfgchoices.specs.Inner.Candidates.{candidates_of, owner, sequence, waiting};
