@@ -35,6 +35,30 @@ fn only_target<S: Storage, T: Tables<S>>(
     only
 }
 
+/// For each rule, the rule that its only optimal production leads to, or else the rule itself.
+///
+/// # Errors
+///
+/// Out of memory.
+fn only_targets<S: Storage, T: Tables<S>>(
+    alloc: Global,
+    tables: &T,
+    kinds: &[Kind<S>],
+) -> Result<Vec<RIdx<S>>, AllocError>
+    requires kinds { length kinds.now ≡ length (T.grammar tables.now).productions }
+    requires targets { HasRulesAsTargets S.number (T.grammar tables.now) kinds.now }
+    ensures { IfOk result (λ targets.
+        AreTargets S.number (T.grammar tables.now) kinds.now (rules_of S.number targets.items)) }
+{
+    let rules_len = tables.rules_len().0.to_usize();
+    let mut targets = Vec::new(alloc);
+    for number in 0..rules_len {
+        let rule = RIdx(to_storage(number));
+        targets.push(only_target(tables, kinds, rule).unwrap_or(rule))?;
+    }
+    Ok(targets)
+}
+
 /// Replaces each entry by the entry of that rule. Returns whether an entry changed.
 fn go_on<S: Storage>(targets: &mut Vec<RIdx<S>>) -> bool
     requires { (g : Grammar) × (kinds : List (Kind S))
@@ -67,12 +91,7 @@ pub(crate) fn last_targets<S: Storage, T: Tables<S>>(
     ensures { IfOk result (λ targets.
         AreTargets S.number (T.grammar tables.now) kinds.now (rules_of S.number targets.items)) }
 {
-    let rules_len = tables.rules_len().0.to_usize();
-    let mut targets = Vec::new(alloc);
-    for number in 0..rules_len {
-        let rule = RIdx(to_storage(number));
-        targets.push(only_target(tables, kinds, rule).unwrap_or(rule))?;
-    }
+    let mut targets = only_targets(alloc, tables, kinds)?;
     // Each iteration doubles how far an entry has come, and no chain is too long to be counted in 32 bits.
     for _turn in 0..32 {
         if !go_on(&mut targets) {
