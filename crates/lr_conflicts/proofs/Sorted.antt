@@ -1,13 +1,13 @@
 -- Entries that are sorted, each once, and what clashes by them.
-use Rattle.std.proofs.Common.{◌≡◌, ◌↔◌, ◌⊎◌, inl, inr, ℕ, ◌<◌, Bool, true, false, List, [], ◌∷◌, Contains, IsTrue, map, not, refl, sym, subst, ◌∙◌, true≢false}
+use Rattle.std.proofs.Common.{◌≡◌, ◌↔◌, inl, inr, Bool, true, List, [], ◌∷◌, Contains, map, sym, subst, ◌∙◌, arith}
 use Rattle.std.specs.Cmp.{Equal-is, IsEquivalence, IsTotalOrder, bool_cmp_total, eq_by_cmp_equiv}
 use Rattle.std.specs.List.{dedup}
 use Rattle.std.specs.List.Sorted.{IsPermutation, IsSorted, IsStrictlySortedBy}
 use Rattle.std.specs.Ordering.{bool_cmp, eq_by_cmp, nat_cmp, ordering_then}
 use Rattle.std.specs.declared.cmp.Ordering.{Ordering}
-use Rattle.std.specs.declared.cmp.Ordering.TheVariants.{Less, Equal, Greater}
-use Rattle.std.proofs.lemmas.Cmp.{by_ranked, nat_cmp_total, on_total, ranked, then_total}
-use Rattle.std.proofs.lemmas.Map.Lookups.{exact_unsigned}
+use Rattle.std.specs.declared.cmp.Ordering.TheVariants.{Less, Equal}
+use Rattle.std.proofs.lemmas.Bool.Decides.{nat_tests}
+use Rattle.std.proofs.lemmas.Cmp.{nat_cmp_total, on_total, then_total}
 use Rattle.std.proofs.lemmas.List.Elements.{All-contains, All-from_recursion}
 use Rattle.std.proofs.lemmas.List.Kept.{Contains-dedup, Contains-from_dedup, IsStrictlySortedBy-dedup}
 use Rattle.std.proofs.lemmas.List.Sorted.{Contains-permutation, IsPermutation-sym}
@@ -29,49 +29,16 @@ entry_total : IsTotalOrder entry_cmp
 entry_total = then_total (on_total (λ (e : Entry). e.reduces) bool_cmp_total) (then_total (on_total (λ (e : Entry). e.production) nat_cmp_total)
     (then_total (on_total (λ (e : Entry). e.other) nat_cmp_total) (then_total (on_total (λ (e : Entry). e.read) nat_cmp_total) (on_total (λ (e : Entry). e.token) nat_cmp_total))))
 
-less_bits : (x y : Bool) (o : Ordering) → ordering_then (bool_cmp x y) o ≡ Less
-    → (IsTrue (not x) × (IsTrue (not y) → ⊥)) ⊎ ((IsTrue (not x) ↔ IsTrue (not y)) × (o ≡ Less))
-less_bits false false o h = inr ((λ e. e, λ e. e), h)
-less_bits false true o h = inl (refl, λ e. true≢false (sym e))
-less_bits true false o h = absurd (let no : ◌≡◌ {A = Ordering} Greater Less = h in cc)
-less_bits true true o h = inr ((λ e. e, λ e. e), h)
-
-less_numbers : (x y : ℕ) (o : Ordering) → ordering_then (nat_cmp x y) o ≡ Less → (x < y) ⊎ ((x ≡ y) × (o ≡ Less))
-less_numbers x y o h = by_ranked (x < y) (x ≡ y) (y < x) (nat_cmp x y) (ranked x y (nat_cmp x y) refl) (λ e lt. inl lt)
-    (λ e same. inr (same, subst (λ r. ordering_then r o ≡ Less) e h))
-    (λ e gt. absurd (let no : ◌≡◌ {A = Ordering} Greater Less = subst (λ r. ordering_then r o ≡ Less) e h in cc))
-
-less_number : (x y : ℕ) → nat_cmp x y ≡ Less → x < y
-less_number x y h = ranked x y Less (sym h)
-
-deeper : {A B C D : Type 0} → A ⊎ (B × C) → (C → D) → A ⊎ (B × D)
-deeper h to = elim h [ inl early ↦ inl early | inr later ↦ inr (later.0, to later.1) ]
-
 before : (a b : Entry) → entry_cmp a b ≡ Less → IsBefore (clash_of a) (clash_of b)
-before a b h = deeper (less_bits a.reduces b.reduces _ h)
-    (λ h. deeper (less_numbers a.production b.production _ h)
-    (λ h. deeper (less_numbers a.other b.other _ h)
-    (λ h. deeper (less_numbers a.read b.read _ h) (less_number a.token b.token))))
-
-equal_bits : (x y : Bool) (o : Ordering) → ordering_then (bool_cmp x y) o ≡ Equal → (x ≡ y) × (o ≡ Equal)
-equal_bits false false o h = (refl, h)
-equal_bits false true o h = absurd (let no : ◌≡◌ {A = Ordering} Less Equal = h in cc)
-equal_bits true false o h = absurd (let no : ◌≡◌ {A = Ordering} Greater Equal = h in cc)
-equal_bits true true o h = (refl, h)
-
-equal_numbers : (x y : ℕ) (o : Ordering) → ordering_then (nat_cmp x y) o ≡ Equal → (x ≡ y) × (o ≡ Equal)
-equal_numbers x y o h = by_ranked (x < y) (x ≡ y) (y < x) (nat_cmp x y) (ranked x y (nat_cmp x y) refl)
-    (λ e lt. absurd (let no : ◌≡◌ {A = Ordering} Less Equal = subst (λ r. ordering_then r o ≡ Equal) e h in cc))
-    (λ e same. (same, subst (λ r. ordering_then r o ≡ Equal) e h))
-    (λ e gt. absurd (let no : ◌≡◌ {A = Ordering} Greater Equal = subst (λ r. ordering_then r o ≡ Equal) e h in cc))
+before a b h = grind (arith, nat_tests)
 
 same : (a b : Entry) → entry_cmp a b ≡ Equal → a ≡ b
 same a b h =
-    let (kind, i) = equal_bits a.reduces b.reduces _ h in
-    let (production, j) = equal_numbers a.production b.production _ i in
-    let (other, k) = equal_numbers a.other b.other _ j in
-    let (read, l) = equal_numbers a.read b.read _ k in
-    let token = exact_unsigned a.token b.token l in
+    let kind : a.reduces ≡ b.reduces = grind (arith, nat_tests) in
+    let production : a.production ≡ b.production = grind (arith, nat_tests) in
+    let other : a.other ≡ b.other = grind (arith, nat_tests) in
+    let read : a.read ≡ b.read = grind (arith, nat_tests) in
+    let token : a.token ≡ b.token = grind (arith, nat_tests) in
     λ m. record { reduces = kind m; production = production m; other = other m; read = read m; token = token m }
 
 sorted_clashes : (entries : List Entry) → IsStrictlySortedBy entry_cmp entries → AreSorted (map clash_of entries)
