@@ -12,5 +12,4 @@ pub mod Shadowing
 pub mod Texts
 pub mod UnproductiveRules
 pub mod Unusable
-pub mod UsedRules
 pub mod UsedSymbols

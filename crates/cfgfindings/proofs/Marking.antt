@@ -1,17 +1,17 @@
 -- Marks of names, one after another, and what all marks say in total.
-use Rattle.std.proofs.Common.{◌≡◌, ℕ, ◌+◌, ◌<◌, ◌≤◌, Bool, true, false, ◌||◌, inl, inr, List, [], ◌∷◌, ◌++◌, Contains, String, Global, Option, Some, None, map, length, get_or, slice_get, slice_set, take, position, replicate, option_map, string_bytes, string_eq, MatchBool, refl, sym, ap, subst, ◌∙◌}
+use Rattle.std.proofs.Common.{◌≡◌, ℕ, ◌+◌, ◌<◌, ◌≤◌, Bool, true, false, ◌||◌, inl, inr, List, [], ◌∷◌, ◌++◌, Contains, String, Global, Option, Some, None, map, length, get_or, slice_get, slice_set, take, position, replicate, option_map, string_bytes, string_eq, MatchBool, unwrap_or, refl, sym, ap, subst, ◌∙◌}
 use Rattle.std.specs.List.{IsDistinct, flat_map}
 use Rattle.std.specs.Map.{keys_of}
 use Rattle.std.specs.Option.{option_to_list}
 use Rattle.std.specs.Str.{bytes_eq}
 use Rattle.std.specs.Cmp.Lexicographic.{bytes_decides, nat_list_eq_equiv}
-use Rattle.std.proofs.Math.Bool.{or_assoc}
-use Rattle.std.proofs.lemmas.List.{flat_map_more, get_or-set_other, get_or-set_same, length-set, take_all, take_more}
+use Rattle.std.proofs.Math.Bool.{or-false, or-true, or_assoc}
+use Rattle.std.proofs.lemmas.List.{flat_map_more, get_or-set_other, get_or-set_same, length-map, length-set, take_all, take_more}
 use Rattle.std.proofs.lemmas.List.Elements.{Contains-append_cases, Contains-append_left, Contains-append_right}
 use Rattle.std.proofs.lemmas.List.Folds.{list_any-append}
 use Rattle.std.proofs.lemmas.List.Quantifiers.{position-Some}
 use Rattle.std.proofs.lemmas.Map.Views.{Contains-from_any, list_any-from_Contains}
-use Rattle.std.proofs.lemmas.Option.{same_Some, slice_get-get_or, slice_get-map}
+use Rattle.std.proofs.lemmas.Option.{same_Some, slice_get-get_or, slice_get-map, unwrap_or-slice_get}
 use Rattle.cfgrammar.proofs.Contained.{contains_first, contains_mapped, contains_none, contains_one, contains_source}
 use Rattle.cfgrammar.proofs.Elements.{get_or-replicate_default}
 use Rattle.cfgrammar.proofs.ListPositions.{position-distinct, position-map}
@@ -24,14 +24,6 @@ use Rattle.cfgrammar.proofs.Joins.{flat_contains, flat_source}
 use Rattle.cfgfindings.specs.Findings.{IsContained, IsRequested, IsUsed, requested, held, implicit}
 use Rattle.cfgfindings.specs.Inner.Marks.{AreMarked, Marks, contained_names, production_names, requested_names, rule_names, token_names}
 
-or_false : (b : Bool) → b ≡ (b || false)
-or_false true = refl
-or_false false = refl
-
-or_true : (b : Bool) → true ≡ (b || true)
-or_true true = refl
-or_true false = refl
-
 -- the key of an entry of a table
 pub key_at : {A : Type 0} (entries : List (List ℕ × A)) (n : ℕ) (entry : List ℕ × A) → slice_get entries n ≡ Some entry
     → slice_get (map entry_name entries) n ≡ Some entry.0
@@ -43,16 +35,22 @@ module _ {A B : Type 0} (entry : String Global × A → List ℕ × B) (same : (
   entry_names [] = refl
   entry_names (e ∷ es) = λ i. same e i ∷ entry_names es i
 
-  pub entry_position : (name : List ℕ) (es : List (String Global × A))
-      → position (bytes_eq name) (map entry_name (map entry es)) ≡ position (λ key. bytes_eq name (string_bytes key)) (keys_of es)
-  entry_position name es = ap (position (bytes_eq name)) (entry_names es) ∙ position-map (bytes_eq name) string_bytes (keys_of es)
+  pub entry_position : (name : List ℕ) (es : List (String Global × A)) (table : List (List ℕ × B)) → map entry es ≡ table
+      → position (λ key. bytes_eq name (string_bytes key)) (keys_of es) ≡ position (bytes_eq name) (map entry_name table)
+  entry_position name es table are =
+      sym (position-map (bytes_eq name) string_bytes (keys_of es))
+      ∙ ap (position (bytes_eq name)) (sym (entry_names es) ∙ ap (map entry_name) are)
 
-  pub entries_differ : (es : List (String Global × A)) → IsDistinct string_eq (keys_of es) → IsDistinct bytes_eq (map entry_name (map entry es))
-  entries_differ es unique = subst (IsDistinct bytes_eq) (sym (entry_names es)) (names_differ (keys_of es) unique)
+  pub entries_differ : (es : List (String Global × A)) (table : List (List ℕ × B)) → map entry es ≡ table → IsDistinct string_eq (keys_of es)
+      → IsDistinct bytes_eq (map entry_name table)
+  entries_differ es table are unique = subst (IsDistinct bytes_eq) (sym (entry_names es) ∙ ap (map entry_name) are) (names_differ (keys_of es) unique)
+
+  pub entry_count : (es : List (String Global × A)) (table : List (List ℕ × B)) → map entry es ≡ table → length es ≡ length (map entry_name table)
+  entry_count es table are = sym (length-map es entry) ∙ ap length are ∙ sym (length-map table entry_name)
 
 module _ (keys : List (List ℕ)) where
   pub marks_none : (bits : List Bool) → Marks keys [] bits bits
-  marks_none bits = record { shape = refl; each = λ n key at. or_false (get_or bits n false) }
+  marks_none bits = record { shape = refl; each = λ n key at. sym (or-false (get_or bits n false)) }
 
   pub marks_then : (names others : List (List ℕ)) (old mid new : List Bool) → Marks keys names old mid → Marks keys others mid new → Marks keys (names ++ others) old new
   marks_then names others old mid new w v = record {
@@ -84,7 +82,7 @@ module _ (keys : List (List ℕ)) where
         go : (n : ℕ) (key : List ℕ) → slice_get keys n ≡ Some key → (b : Bool) → bytes_eq key name ≡ b
             → get_or bits n false ≡ (get_or bits n false || (bytes_eq key name || false))
         go n key at true same = let no : None ≡ Some n = sym nowhere ∙ there n key at same in cc
-        go n key at false other = or_false (get_or bits n false) ∙ ap (λ b. get_or bits n false || (b || false)) (sym other)
+        go n key at false other = sym (or-false (get_or bits n false)) ∙ ap (λ b. get_or bits n false || (b || false)) (sym other)
 
     pub marks_one : (bits : List Bool) (index : ℕ) → index < length bits → position (bytes_eq name) keys ≡ Some index
         → Marks keys (name ∷ []) bits (slice_set bits index true)
@@ -102,10 +100,10 @@ module _ (keys : List (List ℕ)) where
         go n key at true same =
             let is : n ≡ index = same_Some _ _ (sym (there n key at same) ∙ found) in
             ap (λ m. get_or (slice_set bits index true) m false) is ∙ get_or-set_same bits index true false within
-            ∙ or_true (get_or bits n false) ∙ ap (λ b. get_or bits n false || (b || false)) (sym same)
+            ∙ sym (or-true (get_or bits n false)) ∙ ap (λ b. get_or bits n false || (b || false)) (sym same)
         go n key at false other =
             get_or-set_other bits index n true false (λ is. let no : true ≡ false = sym (here n key at is) ∙ other in cc)
-            ∙ or_false (get_or bits n false) ∙ ap (λ b. get_or bits n false || (b || false)) (sym other)
+            ∙ sym (or-false (get_or bits n false)) ∙ ap (λ b. get_or bits n false || (b || false)) (sym other)
 
   -- all marks of the names for which P holds
   pub are_marked : (P : List ℕ → Type 0) (names : List (List ℕ)) → ((name : List ℕ) → Contains names name → P name)
@@ -116,6 +114,12 @@ module _ (keys : List (List ℕ)) where
       go : (b : Bool) → b ≡ has_name key names → MatchBool b (P key) (P key → ⊥)
       go true is = sound key (Contains-from_any (λ x y e. (bytes_decides x y).0 e) key names (sym is))
       go false is = λ h. let no : false ≡ true = is ∙ list_any-from_Contains nat_list_eq_equiv key names (complete key h) in cc
+
+-- a bit that is read is on exactly if its key is marked
+pub marked_as : (keys : List (List ℕ)) (P : List ℕ → Type 0) (bits : List Bool) → AreMarked keys P bits → (n : ℕ) (key : List ℕ) → slice_get keys n ≡ Some key
+    → (read : Option Bool) → read ≡ slice_get bits n → (bit result : Bool) → bit ≡ unwrap_or read false → bit ≡ result → MatchBool result (P key) (P key → ⊥)
+marked_as keys P bits are n key at read got bit result is known = subst (λ b. MatchBool b (P key) (P key → ⊥))
+    (sym (unwrap_or-slice_get bits n false) ∙ ap (λ o. unwrap_or o false) (sym got) ∙ sym is ∙ known) (are n key at)
 
 -- the names among an optional name
 module _ (name : List ℕ) where

@@ -1,14 +1,14 @@
 //! Precedences of tokens that aren't used.
 
-ghost use Rattle.std.specs.Prelude.{◌≡◌, [], ◌∷◌, ◌++◌, length, map, IfOk, OnOk};
-ghost use Rattle.std.specs.List.{flat_map};
+ghost use Rattle.std.specs.Prelude.{◌≡◌, ◌++◌, length, map, IfOk, OnOk};
 ghost use Rattle.cfgrammar.specs.Syntax.{entry_name};
-ghost use Rattle.cfgrammar.specs.SyntaxView.{production_view, span_entry, symbol_view};
+ghost use Rattle.cfgrammar.specs.SyntaxView.{span_entry};
 ghost use Rattle.cfgrammar.specs.TreeView.{syntax};
 ghost use Rattle.cfgfindings.specs.Findings.{IsUsed, ReportsBelow, ReportsUnusedPrecedence};
-ghost use Rattle.cfgfindings.specs.Inner.Marks.{AreMarked, Marks, precedence_keys, production_names, token_names};
+ghost use Rattle.cfgfindings.specs.Inner.Marks.{AreMarked, Marks, precedence_keys};
 
-use cfgrammar::yacc::ast::{GrammarAST, Production, Symbol};
+use crate::marks::{Table, mark, mark_productions};
+use cfgrammar::yacc::ast::GrammarAST;
 use cfgrammar::{Span, Vob};
 use indexmap::IndexMap;
 use std::alloc::{AllocError, Global};
@@ -72,68 +72,22 @@ fn used_tokens(alloc: Global, ast: &GrammarAST) -> Result<Vob, AllocError>
     ensures { IfOk result (AreMarked (precedence_keys (syntax ast.now)) (IsUsed (syntax ast.now))) }
 {
     let mut used = Vob::from_elem(alloc, false, ast.precs().len())?;
-    mark_productions(ast, &mut used, ast.prods());
+    mark_productions(ast, Table::Precedences, &mut used);
     if let Some(table) = ast.implicit_tokens() {
         mark_table(ast, &mut used, table);
     }
     Ok(used)
 }
 
-/// Marks what productions contain and what their `%prec` names.
-fn mark_productions(ast: &GrammarAST, used: &mut Vob, productions: &[Production])
-    requires { length used.old ≡ length (syntax ast.now).tables.precedences }
-    ensures { Marks (precedence_keys (syntax ast.now)) (flat_map production_names (map production_view productions.now))
-        used.old used.new }
-{
-    for production in productions {
-        mark_production(ast, used, production);
-    }
-}
-
-/// Marks what a production contains and what its `%prec` names.
-fn mark_production(ast: &GrammarAST, used: &mut Vob, production: &Production)
-    requires { length used.old ≡ length (syntax ast.now).tables.precedences }
-    ensures { Marks (precedence_keys (syntax ast.now)) (production_names (production_view production.now))
-        used.old used.new }
-{
-    mark_symbols(ast, used, &production.symbols);
-    if let Some(name) = &production.precedence {
-        mark(ast, used, name);
-    }
-}
-
-/// Marks the tokens among symbols.
-fn mark_symbols(ast: &GrammarAST, used: &mut Vob, symbols: &[Symbol])
-    requires { length used.old ≡ length (syntax ast.now).tables.precedences }
-    ensures { Marks (precedence_keys (syntax ast.now)) (flat_map token_names (map symbol_view symbols.now))
-        used.old used.new }
-{
-    for symbol in symbols {
-        if let Symbol::Token(name, _) = symbol {
-            mark(ast, used, name);
-        }
-    }
-}
-
 /// Marks the tokens of a table.
 fn mark_table(ast: &GrammarAST, used: &mut Vob, table: &IndexMap<String, Span>)
-    requires { length used.old ≡ length (syntax ast.now).tables.precedences }
+    requires { length used.old ≡ length (precedence_keys (syntax ast.now)) }
     ensures { Marks (precedence_keys (syntax ast.now)) (map entry_name (map span_entry table.now.entries))
         used.old used.new }
 {
     for index in 0..table.len() {
         if let Some((name, _)) = table.get_index(index) {
-            mark(ast, used, name);
+            mark(ast, Table::Precedences, used, name);
         }
-    }
-}
-
-/// Marks the token with this name, if it is given a precedence.
-fn mark(ast: &GrammarAST, used: &mut Vob, name: &str)
-    requires { length used.old ≡ length (syntax ast.now).tables.precedences }
-    ensures { Marks (precedence_keys (syntax ast.now)) (name.now ∷ []) used.old used.new }
-{
-    if let Some(index) = ast.precs().get_index_of(name) {
-        used.set(index, true);
     }
 }

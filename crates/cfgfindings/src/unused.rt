@@ -1,7 +1,9 @@
 //! Unused rules and tokens, and rules whose name is that of a token.
 
-ghost use Rattle.std.specs.Prelude.{◌≡◌, ◌++◌, ◌<◌, List, Some, length, slice_get, IfOk, MatchBool, MatchOption, OnOk};
+ghost use Rattle.std.specs.Prelude.{◌≡◌, ◌++◌, ◌<◌, List, Some, length, option_map, slice_get, IfOk};
+ghost use Rattle.std.specs.Prelude.{MatchBool, MatchOption, OnOk};
 ghost use Rattle.cfgrammar.specs.Span.{Span};
+ghost use Rattle.cfgrammar.specs.SyntaxView.{rule_view};
 ghost use Rattle.cfgrammar.specs.TreeView.{syntax};
 ghost use Rattle.cfgfindings.specs.Findings.{IsShadowed};
 ghost use Rattle.cfgfindings.specs.Findings.{ReportsBelow, ReportsShadowedRule, ReportsUnusedRule, ReportsUnusedToken};
@@ -11,7 +13,7 @@ ghost use Rattle.cfgfindings.specs.Shown.{ShownFinding};
 
 use crate::marks::{contained_rules, requested_tokens};
 use crate::names::{is_declared, is_start, token_index};
-use cfgrammar::yacc::ast::GrammarAST;
+use cfgrammar::yacc::ast::{GrammarAST, Rule};
 use cfgrammar::{Span, Vob};
 use std::alloc::{AllocError, Global};
 use std::marker::Model;
@@ -83,6 +85,14 @@ impl<'a> Usage<'a> {
         })
     }
 
+    /// The rule with this number, and its name.
+    fn rule(&self, number: usize) -> Option<(&'a str, &'a Rule)>
+        ensures { option_map (λ rule. (rule.0.now, rule_view rule.1.now)) result ≡ slice_get self.now.rules number }
+    {
+        let (name, rule) = self.ast.rules().get_index(number)?;
+        Some((name.as_str(), rule))
+    }
+
     /// The span of the token that shadows this rule, if one does.
     fn shadowing(&self, number: usize, name: &str) -> Option<Span>
         requires { slice_get (rule_keys self.now) number ≡ Some name.now }
@@ -126,10 +136,13 @@ impl<'a> Reporter for UnusedRules<'a> {
 
     fn report(&self, alloc: Global, number: usize) -> Result<Option<Finding>, AllocError> {
         let usage = self.0;
-        let Some((name, rule)) = usage.ast.rules().get_index(number) else {
+        let Some((name, rule)) = usage.rule(number) else {
             return Ok(None);
         };
-        if !usage.unused[number] || usage.shadowing(number, name).is_some() {
+        if !usage.unused[number] {
+            return Ok(None);
+        }
+        if let Some(_token) = usage.shadowing(number, name) {
             return Ok(None);
         }
         let text = format!(in alloc; "Unused rule '{name}'")?;
@@ -180,7 +193,7 @@ impl<'a> Reporter for ShadowedRules<'a> {
 
     fn report(&self, alloc: Global, number: usize) -> Result<Option<Finding>, AllocError> {
         let usage = self.0;
-        let Some((name, rule)) = usage.ast.rules().get_index(number) else {
+        let Some((name, rule)) = usage.rule(number) else {
             return Ok(None);
         };
         let Some(token) = usage.shadowing(number, name) else {

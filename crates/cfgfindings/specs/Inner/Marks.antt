@@ -1,9 +1,11 @@
 -- Names that a syntax contains, and bits that mark which names of a list are among them.
-use Rattle.std.specs.Prelude.{◌≡◌, ℕ, Bool, false, List, [], ◌∷◌, ◌++◌, ◌||◌, Some, length, map, slice_get, slice_index_or, MatchBool}
+use Rattle.std.specs.Prelude.{◌≡◌, ℕ, Bool, true, false, List, [], ◌∷◌, ◌++◌, ◌||◌, Some, length, map, slice_get, slice_index_or, MatchBool}
 use Rattle.std.specs.List.{flat_map}
 use Rattle.std.specs.Option.{option_to_list}
 use Rattle.cfgrammar.specs.Building.{has_name}
 use Rattle.cfgrammar.specs.Syntax.{Production, RuleSymbol, Symbol, Syntax, TokenSymbol, entry_name}
+use Rattle.cfgfindings.specs.declared.marks.Table.{Table}
+use Rattle.cfgfindings.specs.declared.marks.Table.TheVariants.{Precedences, Rules, Tokens}
 
 abbrev pub rule_names : Symbol → List (List ℕ)
 rule_names (RuleSymbol word) = word.name ∷ []
@@ -12,6 +14,11 @@ rule_names (TokenSymbol word) = []
 abbrev pub token_names : Symbol → List (List ℕ)
 token_names (RuleSymbol word) = []
 token_names (TokenSymbol word) = word.name ∷ []
+
+-- the rules among symbols, or the tokens
+abbrev pub symbol_names : Bool → Symbol → List (List ℕ)
+symbol_names true = rule_names
+symbol_names false = token_names
 
 -- the rules that a production contains, and the token that its `%prec` names
 abbrev pub contained_names : Production → List (List ℕ)
@@ -30,6 +37,17 @@ rule_keys s = map entry_name s.rules
 
 abbrev pub precedence_keys : Syntax → List (List ℕ)
 precedence_keys s = map entry_name s.tables.precedences
+
+abbrev pub table_keys : Table → Syntax → List (List ℕ)
+table_keys Rules s = rule_keys s
+table_keys Tokens s = s.tokens
+table_keys Precedences s = precedence_keys s
+
+-- what a production names of a table
+abbrev pub names_by : Table → Production → List (List ℕ)
+names_by Rules = contained_names
+names_by Tokens = requested_names
+names_by Precedences = production_names
 
 -- the bits of these names were turned on, each at the index that its name has among the keys; nothing else changed
 pub record Marks (keys names : List (List ℕ)) (old new : List Bool) : Type 0 where

@@ -31,7 +31,7 @@ loop-index-preserved c =
           let at = sym w.in-Some.ensures.entry in
           subst (Marks (precedence_keys s) (flat_map names (take (index + 1) entries)) c.args.used.now) (sym w.used-is)
           (marks_more (precedence_keys s) names entries index _ _ _ _ within (sym (get_or_from_slice_get entries index _ _ at)) c.loop-index.invariant
-          (subst (λ name. Marks (precedence_keys s) (name ∷ []) c.loop-index.used w.mark.new.used) w.deref.ensures w.mark.ensures))
+          (subst (λ name. Marks (precedence_keys s) (name ∷ []) c.loop-index.used w.mark.new.marks) w.deref.ensures w.mark.ensures))
       | in_default w ↦
           let (entry, at) = element_at entries index within in
           let no : None ≡ Some entry = w.in_default.ensures.entry ∙ at in cc

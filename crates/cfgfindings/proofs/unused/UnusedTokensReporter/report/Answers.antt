@@ -8,7 +8,7 @@ use Rattle.cfgrammar.specs.Unused.{AreUnused, IsUnused, TokenName}
 use Rattle.cfgfindings.specs.Findings.{IsRequested}
 use Rattle.cfgfindings.specs.Inner.Marks.{AreMarked}
 use Rattle.finding_kinds.specs.declared.finding_kind.FindingKind.TheVariants.{UnusedToken}
-use Rattle.cfgfindings.proofs.UsedRules.{marked_as}
+use Rattle.cfgfindings.proofs.Marking.{marked_as}
 use Rattle.cfgfindings.proofs.unused.UnusedTokensReporter.report.Goals as goal
 use Rattle.cfgfindings.proofs.unused.UnusedTokensReporter.report.Goals.{then-not-is_unused-via-else-not-is_unused+then-unwrap_or, then-not-is_unused-via-then-not-is_unused}
 

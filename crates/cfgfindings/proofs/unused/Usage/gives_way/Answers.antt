@@ -5,7 +5,7 @@ use Rattle.cfgrammar.specs.Unused.{IsStart, RuleName}
 use Rattle.cfgfindings.specs.Findings.{IsContained}
 use Rattle.cfgfindings.specs.Inner.Marks.{AreMarked, rule_keys}
 use Rattle.cfgfindings.specs.Inner.Shadowing.{GivesWay}
-use Rattle.cfgfindings.proofs.UsedRules.{marked_as}
+use Rattle.cfgfindings.proofs.Marking.{marked_as}
 use Rattle.cfgfindings.proofs.unused.Usage.gives_way.Goals as goal
 
 pub returns-then-unwrap_or : goal.returns-then-unwrap_or
