@@ -7,7 +7,7 @@ use Rattle.cfgrammar.proofs.Shows.{rule_named}
 use Rattle.finding_kinds.specs.declared.finding_kind.FindingKind.TheVariants.{NoSentence}
 use Rattle.cfgfindings.specs.Findings.{AreOthers, IsFirstOfSinkGroup}
 use Rattle.cfgfindings.specs.Shown.{rule_span}
-use Rattle.cfgfindings.proofs.Texts.{no_sentence_text, shown_with}
+use Rattle.cfgfindings.proofs.Texts.{as_quoted, shown_with}
 use Rattle.cfgfindings.proofs.unproductive_rules.UnproductiveRulesReporter.report.Goals as goal
 
 pub returns-then-not-is_first_of_sink_group : goal.returns-then-not-is_first_of_sink_group
@@ -37,6 +37,6 @@ returns c =
       subst (λ (n : Numbered). AreOthers n r others) view are,
       inr (
         subst (λ (n : Numbered). IsFirstOfSinkGroup (syntax c.args.self.now.ast.now) n r) view c.if-not-is_first_of_sink_group.ensures,
-        shown ∙ (λ i. shown_with NoSentence (map (rule_span (view i)) (r ∷ others)) ((text ∙ no_sentence_text g r name named) i)),
+        shown ∙ (λ i. shown_with NoSentence (map (rule_span (view i)) (r ∷ others)) ((text ∙ as_quoted (codes "Rule ") (codes " has no sentence") (sym (rule_named g r name named))) i)),
       ),
     )

@@ -1,5 +1,6 @@
-use Rattle.std.proofs.Common.{◌≡◌, ◌++◌, MatchBool, Some, codes, string_bytes, sym, ap, subst, ◌∙◌}
+use Rattle.std.proofs.Common.{◌≡◌, ◌++◌, MatchBool, Some, codes, string_bytes, unwrap_or, sym, ap, subst, ◌∙◌}
 use Rattle.cfgrammar.specs.Accessors.{rule_part}
+use Rattle.cfgrammar.specs.Check.{nowhere}
 use Rattle.cfgrammar.specs.Numbered.{Numbered}
 use Rattle.cfgrammar.specs.TreeView.{syntax}
 use Rattle.cfgrammar.specs.Unused.{IsStart, RuleName}
@@ -7,7 +8,7 @@ use Rattle.cfgrammar.proofs.Shows.{rule_named}
 use Rattle.finding_kinds.specs.declared.finding_kind.FindingKind.TheVariants.{UnusableRule}
 use Rattle.cfgfindings.specs.Findings.{IsUnproductiveRule}
 use Rattle.cfgfindings.proofs.Read.{rule_seen}
-use Rattle.cfgfindings.proofs.Texts.{shown_at, unusable_rule_reported}
+use Rattle.cfgfindings.proofs.Texts.{as_quoted, shown_at}
 use Rattle.cfgfindings.proofs.UnproductiveRules.{is_sink_by, no_sink_by}
 use Rattle.cfgfindings.proofs.unproductive_rules.UnusableRulesReporter.report.Goals as goal
 use Rattle.cfgfindings.proofs.unproductive_rules.UnusableRulesReporter.report.Goals.{then-is_start-via-then-is_start, then-is_start-via-else-is_start+then-not-is_empty}
@@ -36,6 +37,7 @@ returns c =
     let name = c.in-Some.name.now in
     let span = c.rule_name_span-span.result in
     let named = subst (λ (n : Numbered). rule_part (λ rule. rule.name) n r ≡ Some name) c.unproductive-unproductive.ensures c.in-Some.ensures.1 in
+    let located = rule_seen g h (c.grammar-grammar.ensures ∙ c.unproductive-unproductive.ensures) r c.to_storage.result c.to_storage.ensures span (λ rule. rule.span) c.rule_name_span-span.ensures in
     let other : IsStart s (RuleName name) → ⊥ = subst (λ b. MatchBool b (IsStart s (RuleName name)) (IsStart s (RuleName name) → ⊥)) c.if-is_start.false c.is_start.ensures in
     let text : string_bytes c.in_ok-text.text ≡ codes "Unusable rule '" ++ (name ++ codes "': each of its productions has a rule without a sentence") = c.in_ok-text.ensures.ok in (
       record {
@@ -44,5 +46,6 @@ returns c =
         no_start = λ start. other (subst (λ n. IsStart s (RuleName n)) (rule_named g r name named) start);
       },
       c.in_ok-at.ensures ∙ ap (shown_at UnusableRule span) text
-          ∙ unusable_rule_reported g r name named span (rule_seen g h (c.grammar-grammar.ensures ∙ c.unproductive-unproductive.ensures) r c.to_storage.result c.to_storage.ensures span (λ rule. rule.span) c.rule_name_span-span.ensures),
+          ∙ (λ i. shown_at UnusableRule (unwrap_or (sym located i) nowhere)
+          (as_quoted (codes "Unusable rule ") (codes ": each of its productions has a rule without a sentence") (sym (rule_named g r name named)) i)),
     )
