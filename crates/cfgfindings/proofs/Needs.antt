@@ -24,29 +24,19 @@ puts_none Put steps none = record {
   steps = λ a b. (λ h. inl h, λ h. elim h [ inl i ↦ i | inr i ↦ absurd (none a b i) ]);
 }
 
-puts_as : (Put Put' : ℕ → ℕ → Type 0) (old new : List (List UnitStep)) → ((a b : ℕ) → Put a b → Put' a b) → ((a b : ℕ) → Put' a b → Put a b)
-    → Puts Put old new → Puts Put' old new
-puts_as Put Put' old new to from w = record {
-  shape = w.shape;
-  within = w.within;
-  steps = λ a b. (
-    (λ h. elim ((w.steps a b).0 h) [ inl i ↦ inl i | inr i ↦ inr (to a b i) ]),
-    (λ h. (w.steps a b).1 (elim h [ inl i ↦ inl i | inr i ↦ inr (from a b i) ])),
-  );
-}
-
-puts_then : (Put Put' : ℕ → ℕ → Type 0) (old mid new : List (List UnitStep)) → Puts Put old mid → Puts Put' mid new → Puts (λ a b. Put a b ⊎ Put' a b) old new
-puts_then Put Put' old mid new w v = record {
+puts_then : (Put Put' Both : ℕ → ℕ → Type 0) (old mid new : List (List UnitStep)) → ((a b : ℕ) → Put a b ⊎ Put' a b → Both a b)
+    → ((a b : ℕ) → Both a b → Put a b ⊎ Put' a b) → Puts Put old mid → Puts Put' mid new → Puts Both old new
+puts_then Put Put' Both old mid new to from w v = record {
   shape = v.shape ∙ w.shape;
   within = λ within. v.within (w.within within);
   steps = λ a b. (
     (λ h. elim ((v.steps a b).0 h) [
-      | inl i ↦ elim ((w.steps a b).0 i) [ inl j ↦ inl j | inr j ↦ inr (inl j) ]
-      | inr i ↦ inr (inr i)
+      | inl i ↦ elim ((w.steps a b).0 i) [ inl j ↦ inl j | inr j ↦ inr (to a b (inl j)) ]
+      | inr i ↦ inr (to a b (inr i))
     ]),
     (λ h. (v.steps a b).1 (elim h [
       | inl i ↦ inl ((w.steps a b).1 (inl i))
-      | inr i ↦ elim i [ inl j ↦ inl ((w.steps a b).1 (inr j)) | inr j ↦ inr j ]
+      | inr i ↦ elim (from a b i) [ inl j ↦ inl ((w.steps a b).1 (inr j)) | inr j ↦ inr j ]
     ])),
   );
 }
@@ -55,9 +45,6 @@ module _ (old new : List (List UnitStep)) (rule : ℕ) (step : UnitStep) (within
     (is : new ≡ slice_set old rule (get_or old rule [] ++ step ∷ [])) where
   abbrev list : List UnitStep
   list = get_or old rule [] ++ step ∷ []
-
-  set : List (List UnitStep)
-  set = slice_set old rule list
 
   at_rule : (s : UnitStep) → Contains list s → HasStep (slice_set old rule list) rule s
   at_rule s h = subst (λ l. Contains l s) (sym (get_or-set_same old rule list [] within)) h
@@ -112,7 +99,7 @@ module _ (g : Numbered) where
       → ((b : ℕ) → Next b → (f x ≡ Rule b) × IsUnproductive b) → ((b : ℕ) → f x ≡ Rule b → IsUnproductive b → Next b) → (old mid new : List (List UnitStep))
       → Puts (λ a b. (a ≡ rule) × IsNeededIn g (map f (take n xs)) b) old mid → Puts (λ a b. (a ≡ rule) × Next b) mid new
       → Puts (λ a b. (a ≡ rule) × IsNeededIn g (map f (take (n + 1) xs)) b) old new
-  more_needed f xs n x lt is rule Next next known old mid new before put = puts_as _ _ old new to from (puts_then _ _ old mid new before put)
+  more_needed f xs n x lt is rule Next next known old mid new before put = puts_then _ _ _ old mid new to from before put
     where
       same : map f (take (n + 1) xs) ≡ map f (take n xs) ++ f x ∷ []
       same = more_taken f xs n x lt is
@@ -152,10 +139,7 @@ module _ (g : Numbered) where
         next b e = let same : q ≡ b = sym to ∙ sym e in (at ∙ ap Rule same, subst IsUnproductive same none)
 
         known : (b : ℕ) → f x ≡ Rule b → IsUnproductive b → b ≡ step.rule
-        known b here needed = sym (same_rule (sym at ∙ here)) ∙ sym to
-          where
-            same_rule : Rule q ≡ Rule b → q ≡ b
-            same_rule e = cc
+        known b here needed = let rules : Rule q ≡ Rule b = sym at ∙ here in let same : b ≡ q = cc in same ∙ sym to
 
     -- the next one is no unproductive rule
     pub needed_left_out : ((q : ℕ) → f x ≡ Rule q → IsUnproductive q → ⊥) → new ≡ mid

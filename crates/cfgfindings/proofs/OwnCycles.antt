@@ -1,13 +1,13 @@
 -- Groups of cyclic rules of a grammar, and their cycles.
-use Rattle.std.proofs.Common.{◌≡◌, ℕ, ◌<◌, ◌≤◌, ◌↔◌, inl, inr, Bool, true, false, cond, leb, List, [], ◌∷◌, ◌++◌, All, Contains, Option, None, Some, get_or, length, slice_get, arith, refl, sym, ap, subst, ◌∙◌, length-append}
+use Rattle.std.proofs.Common.{◌≡◌, ℕ, ◌+◌, ◌<◌, ◌≤◌, ◌↔◌, Bool, true, drop, leb, List, [], ◌∷◌, ◌++◌, All, Contains, Option, None, Some, get_or, length, slice_get, take, arith, refl, sym, ap, subst, ◌∙◌, length-append}
 use Rattle.std.specs.List.{filter}
 use Rattle.std.specs.List.Sorted.{IsStrictlyIncreasing}
 use Rattle.std.proofs.lemmas.Bool.{le-leb, leb-true}
-use Rattle.std.proofs.lemmas.List.{get_or_default}
-use Rattle.std.proofs.lemmas.List.Elements.{All-cons, All-nil}
+use Rattle.std.proofs.lemmas.List.{drop_more, get_or_default, take-append-drop}
+use Rattle.std.proofs.lemmas.List.Elements.{All-cons, All-contains, All-contains_itself, All-filter, All-nil, Contains-append_right, filter-append, filter_passes}
 use Rattle.std.proofs.lemmas.List.Kept.{IsStrictlyIncreasing-filter}
-use Rattle.std.proofs.lemmas.Option.{get_or_from_slice_get, same_Some, slice_get_within}
-use Rattle.cfgrammar.proofs.Contained.{contains_cases, contains_first, contains_later, contains_none}
+use Rattle.std.proofs.lemmas.Option.{get_or_from_slice_get, same_Some, slice_get-get_or, slice_get_within}
+use Rattle.cfgrammar.proofs.Contained.{contains_first}
 use Rattle.cfgrammar.specs.Grammar.{Grammar, HasProduction}
 use Rattle.cfgrammar.specs.Numbered.{Numbered, core}
 use Rattle.cfgrammar.specs.UnitPaths.{DerivesRule}
@@ -101,28 +101,17 @@ found_at g shown same groups are rule within found entry is read =
 -- the elements that pass a test
 module _ (test : ℕ → Bool) where
   pub kept : (xs : List ℕ) (x : ℕ) → Contains xs x → test x ≡ true → Contains (filter test xs) x
-  kept [] x c t = absurd (contains_none x c)
-  kept (y ∷ xs) x c t = elim (contains_cases y x xs c) [
-    | inl same ↦ subst (λ b. Contains (cond b (y ∷ filter test xs) (filter test xs)) x) (sym (ap test same ∙ t))
-        (subst (λ n. Contains (y ∷ filter test xs) n) same (contains_first y (filter test xs)))
-    | inr later ↦ go (test y) (kept xs x later t)
-  ]
-    where
-      go : (b : Bool) → Contains (filter test xs) x → Contains (cond b (y ∷ filter test xs) (filter test xs)) x
-      go true c = contains_later y x (filter test xs) c
-      go false c = c
+  kept xs x (k, lt, at) passes =
+      let back = drop (k + 1) xs in
+      let split : take k xs ++ (x ∷ back) ≡ xs = ap (λ l. take k xs ++ l) (ap (λ y. y ∷ back) (sym at) ∙ sym (drop_more xs k x lt)) ∙ take-append-drop k xs in
+      subst (λ l. Contains (filter test l) x) split (rw (filter-append test (take k xs) (x ∷ back))
+      (Contains-append_right (filter test (take k xs)) _ x (rw passes (0, omega arith, refl))))
 
   pub passed : (xs : List ℕ) (x : ℕ) → Contains (filter test xs) x → Contains xs x × (test x ≡ true)
-  passed [] x c = absurd (contains_none x c)
-  passed (y ∷ xs) x c = go (test y) refl (passed xs x) c
-    where
-      go : (b : Bool) → test y ≡ b → (Contains (filter test xs) x → Contains xs x × (test x ≡ true))
-          → Contains (cond b (y ∷ filter test xs) (filter test xs)) x → Contains (y ∷ xs) x × (test x ≡ true)
-      go true t rest c = elim (contains_cases y x (filter test xs) c) [
-        | inl same ↦ (subst (Contains (y ∷ xs)) same (contains_first y xs), ap test (sym same) ∙ t)
-        | inr later ↦ let w = rest later in (contains_later y x xs w.0, w.1)
-      ]
-      go false t rest c = let w = rest c in (contains_later y x xs w.0, w.1)
+  passed xs x c = (
+    All-contains (Contains xs) (filter test xs) x (All-filter test (Contains xs) xs (All-contains_itself xs)) c,
+    All-contains (λ y. test y ≡ true) (filter test xs) x (filter_passes test xs) c,
+  )
 
 module _ (law : (g : Grammar) (a b : ℕ) → LeadsTo (IsStep g) a b ↔ DerivesRule (HasProduction g) a b) (g : Numbered) where
   derive_each_other : (a b : ℕ) → OnCommonCycle (IsStep (core g)) a b → DeriveEachOther g a b
@@ -178,11 +167,10 @@ module _ (law : (g : Grammar) (a b : ℕ) → LeadsTo (IsStep g) a b ↔ Derives
 
     -- it has no rules of the file
     pub reports_no_own : slice_get own 0 ≡ None → ReportsGroup g first None
-    reports_no_own none = λ r others h. let w = (h.all r).0 (contains_first r others) in no_first own r none (held r w.0 w.1)
-      where
-        no_first : (xs : List ℕ) (x : ℕ) → slice_get xs 0 ≡ None → Contains xs x → ⊥
-        no_first [] x e c = contains_none x c
-        no_first (y ∷ xs) x e c = let same : Some y ≡ None = e in absurd (cc)
+    reports_no_own none = λ r others h.
+        let w = (h.all r).0 (contains_first r others) in
+        let (k, lt, at) = held r w.0 w.1 in
+        let some : None ≡ Some (get_or own 0 r) = sym none ∙ slice_get-get_or own 0 r (omega (arith, lt)) in cc
 
     -- it has rules of the file, the first of which has this cycle
     pub reports_own : (r : ℕ) → slice_get own 0 ≡ Some r → (path : List UnitStep) → IsShortestCycle (IsStep (core g)) r path → (finding : ShownFinding)
@@ -195,16 +183,12 @@ module _ (law : (g : Grammar) (a b : ℕ) → LeadsTo (IsStep g) a b ↔ Derives
             let same : x ≡ r = same_Some x r e in
             (r, xs, path, subst (λ n. IsCyclicGroup g first (n ∷ xs)) same is, shortest, subst (λ n. finding ≡ cyclic_finding g r (n ∷ xs) path) same shown)
 
-    -- the first of them is one of them
-    pub head_in : (r : ℕ) → slice_get own 0 ≡ Some r → Contains own r
-    head_in r head = (0, slice_get_within own 0 r head, get_or_from_slice_get own 0 r r head)
-
     pub head_within : (r : ℕ) → slice_get own 0 ≡ Some r → r < length g.rules
     head_within r head = subst (λ n. n < length g.rules) (get_or_from_slice_get own 0 r r head) (own_within 0 r (slice_get_within own 0 r head))
 
-    -- so it has a cycle
+    -- the first of them is one of them, so it has a cycle
     pub own_cycle : (r : ℕ) → slice_get own 0 ≡ Some r → (path : List UnitStep) × IsCycle (IsStep (core g)) r path
     own_cycle r head =
-        let h = (common r (head_in r head)).1 in
+        let h = (common r (0, slice_get_within own 0 r head, get_or_from_slice_get own 0 r r head)).1 in
         let l = leads_to_through (IsStep (core g)) r first r h.back h.there in
         (l.path, record { some = l.some; leads = l.leads })

@@ -1,11 +1,10 @@
 -- Groups of unproductive rules, and which of them are sink groups.
-use Rattle.std.proofs.Common.{◌≡◌, inl, inr, ℕ, ◌+◌, ◌<◌, List, [], ◌∷◌, All, Contains, Option, None, Some, MatchOption, false, eqb, not, get_or, length, replicate, slice_get, slice_set, take, arith, refl, sym, ap, ◌∙◌, subst, get_or-set_same, get_or-set_other, true≢false}
+use Rattle.std.proofs.Common.{◌≡◌, inl, inr, ℕ, ◌+◌, ◌<◌, List, [], ◌∷◌, All, Contains, Option, None, Some, MatchOption, false, eqb, not, get_or, length, slice_get, slice_set, take, arith, refl, sym, ap, ◌∙◌, subst, get_or-set_same, get_or-set_other, true≢false}
 use Rattle.std.specs.Option.{option_eq}
 use Rattle.std.proofs.lemmas.Bool.{cases_eq, cases_lt, eqb-true, not-false}
-use Rattle.std.proofs.lemmas.List.{get_or_default, length-replicate}
-use Rattle.std.proofs.lemmas.Option.{get_or_from_slice_get, slice_get_within}
+use Rattle.std.proofs.lemmas.List.{get_or_default}
+use Rattle.std.proofs.lemmas.Option.{get_or_from_slice_get, same_Some, slice_get_within}
 use Rattle.search.specs.Reachable.{led, seed}
-use Rattle.cfgrammar.proofs.Elements.{get_or-replicate_default}
 use Rattle.cfgrammar.proofs.Taken.{contains_taken}
 use Rattle.cfgrammar.specs.Grammar.{HasProduction}
 use Rattle.cfgrammar.specs.Productive.{Unproductive}
@@ -145,13 +144,6 @@ InOneGroup = (steps : List (List UnitStep)) (groups : List (Option CyclicGroup))
 
 -- the first rules of groups that no step leads out of
 module _ (steps : List (List UnitStep)) (groups : List (Option CyclicGroup)) where
-  pub no_firsts : (firsts : List (Option ℕ)) → firsts ≡ replicate (length groups) None → AreFirsts steps groups 0 firsts
-  no_firsts firsts is = record {
-    entries = ap length is ∙ length-replicate (length groups) None;
-    each = λ rule. subst (IsFirstOf steps groups 0 rule) (sym (ap (λ l. get_or l rule None) is ∙ get_or-replicate_default (length groups) rule None))
-        (λ first lt. absurd (omega (arith, lt)));
-  }
-
   module _ (k : ℕ) where
     -- an entry stays if the next group doesn't have the rule, or a step leads out of it
     still_first : (rule : ℕ) (found : Option ℕ) → (IsInClosed steps groups rule k → ⊥) → IsFirstOf steps groups k rule found
@@ -165,11 +157,9 @@ module _ (steps : List (List UnitStep)) (groups : List (Option CyclicGroup)) whe
     pub no_group : (firsts : List (Option ℕ)) → slice_get groups k ≡ Some None → AreFirsts steps groups k firsts → AreFirsts steps groups (k + 1) firsts
     no_group firsts at are = record {
       entries = are.entries;
-      each = λ rule. still_first rule (get_or firsts rule None) (λ closed. none_there closed.within.group (sym at ∙ closed.within.is)) (are.each rule);
+      each = λ rule. still_first rule (get_or firsts rule None) (λ closed.
+          let no : Some None ≡ Some (Some closed.within.group) = sym at ∙ closed.within.is in cc) (are.each rule);
     }
-      where
-        none_there : (group : CyclicGroup) → Some None ≡ Some (Some group) → ⊥
-        none_there group is = cc
 
     -- before the group is marked, no entry is its first rule
     pub fresh : (firsts : List (Option ℕ)) → AreFirsts steps groups k firsts → (rule : ℕ) → get_or firsts rule None ≡ Some k → ⊥
@@ -177,10 +167,7 @@ module _ (steps : List (List UnitStep)) (groups : List (Option CyclicGroup)) whe
 
     module _ (law : InOneGroup) (are_groups : AreGroups (HasStep steps) (length steps) groups) (group : CyclicGroup) (at : slice_get groups k ≡ Some (Some group)) where
       within_same : (rule : ℕ) (closed : IsInClosed steps groups rule k) → closed.within.group ≡ group
-      within_same rule closed = same (sym closed.within.is ∙ at)
-        where
-          same : Some (Some closed.within.group) ≡ Some (Some group) → closed.within.group ≡ group
-          same is = cc
+      within_same rule closed = let same : Some (Some closed.within.group) ≡ Some (Some group) = sym closed.within.is ∙ at in cc
 
       -- a rule is in one group
       same_first : (rule first : ℕ) → Contains group.rules.items rule → IsInClosed steps groups rule first → first ≡ k
@@ -312,16 +299,10 @@ module _ (g : Numbered) (groups : List (Option CyclicGroup)) where
     there_is at = at ∙ get_or_from_slice_get groups first (Some sink.group) read sink.is
 
     pub rules_at : (group : CyclicGroup) → read ≡ get_or groups first read → read ≡ Some group → AreGroupOf g r group.rules.items
-    rules_at group at is = subst (λ (x : CyclicGroup). AreGroupOf g r x.rules.items) (same (sym (there_is at) ∙ is)) sink.rules
-      where
-        same : Some sink.group ≡ Some group → sink.group ≡ group
-        same e = cc
+    rules_at group at is = subst (λ (x : CyclicGroup). AreGroupOf g r x.rules.items) (same_Some _ _ (sym (there_is at) ∙ is)) sink.rules
 
     pub has_group : read ≡ get_or groups first read → read ≡ None → ⊥
-    has_group at is = some (sym is ∙ there_is at)
-      where
-        some : None ≡ Some sink.group → ⊥
-        some e = cc
+    has_group at is = let some : None ≡ Some sink.group = sym is ∙ there_is at in cc
 
 -- an entry that a comparison says is this one
 pub same_entry : (entry : Option ℕ) (x : ℕ) → false ≡ not (option_eq eqb entry (Some x)) → entry ≡ Some x
