@@ -59,42 +59,16 @@ fn push_findings(
         × (all.new.items ≡ all.old.items ++ reported)) }
 {
     let unproductive = Unproductive::new(alloc, grammar)?;
-    push_in_turn(
-        alloc,
-        all,
-        text,
-        ast,
-        grammar,
-        &unproductive,
-        associativities,
-    )
-}
-
-/// Adds the findings in the order of their kinds, with what is unproductive in the grammar.
-fn push_in_turn(
-    alloc: Global,
-    all: &mut Vec<Finding>,
-    text: &str,
-    ast: &GrammarAST,
-    grammar: &YaccGrammar<u32>,
-    unproductive: &Unproductive<'_>,
-    associativities: &[Associativity],
-) -> Result<(), AllocError>
-    requires { unproductive.now ≡ grammar.now }
-    ensures { OnOk result ((reported : _)
-        × AreReportedInTurn text.now (syntax ast.now) grammar.now associativities.now reported
-        × (all.new.items ≡ all.old.items ++ reported)) }
-{
     push_unused(alloc, all, ast)?;
-    push_unproductive(alloc, all, ast, unproductive)?;
-    push_unusable(alloc, all, unproductive)?;
-    push_useless(alloc, all, unproductive)?;
+    push_unproductive(alloc, all, ast, &unproductive)?;
+    push_unusable(alloc, all, &unproductive)?;
+    push_useless(alloc, all, &unproductive)?;
     push_cycles(alloc, all, grammar)?;
     push_repeats(alloc, all, grammar)?;
     push_precedences(alloc, all, ast)?;
     push_declarations(alloc, all, ast)?;
     push_glued(alloc, all, text, ast)?;
-    push_needless(alloc, all, ast, unproductive)?;
+    push_needless(alloc, all, ast, &unproductive)?;
     push_escaped(alloc, all, ast)?;
     push_implicitly_empty(alloc, all, text, ast)?;
     push_conflicts(alloc, all, ast, grammar, associativities)?;

@@ -3,7 +3,7 @@ use Rattle.cfgrammar.specs.Numbered.{Numbered}
 use Rattle.cfgfindings.specs.Findings.{ReportsBelow, ReportsNeedless, ReportsNoSentence, ReportsUnusable, ReportsUnusableRule, ReportsUselessRule, ReportsUselessToken}
 use Rattle.cfgfindings.specs.Shown.{ShownFinding, overridden_precedence, repeated_token}
 use Rattle.cfgrammar.specs.TreeView.{syntax}
-use Rattle.cfgfindings.proofs.found.push_in_turn.Goals as goal
+use Rattle.cfgfindings.proofs.found.push_findings.Goals as goal
 
 joined : (a0 a1 a2 a3 a4 a5 a6 a7 a8 n t h w v u x y l r p d : List ShownFinding) → a1 ≡ a0 ++ (n ++ (t ++ h)) → a2 ≡ a1 ++ (w ++ v) → a3 ≡ a2 ++ u
     → a4 ≡ a3 ++ (x ++ y) → a5 ≡ a4 ++ l → a6 ≡ a5 ++ r → a7 ≡ a6 ++ p → a8 ≡ a7 ++ d
@@ -38,7 +38,7 @@ returns c =
     let (conflicts, are_conflicts, conflicts_is) = c.in_ok-push_conflicts.ensures in
     let (of_file, are_of_file, of_file_is) = c.in_ok-push_file_findings.ensures in
     let (of_bison, are_of_bison, of_bison_is) = c.in_ok-push_bison_findings.ensures in
-    let seen : c.args.unproductive.now ≡ c.args.grammar.now = c.requires in
+    let seen : c.in_ok-unproductive.unproductive ≡ c.args.grammar.now = c.in_ok-unproductive.ensures in
     let declared = map repeated_token (syntax c.args.ast.now).repeated_tokens ++ map overridden_precedence (syntax c.args.ast.now).overridden_precedences in
     let last = declared ++ (glued_tokens ++ (glued_precedences ++ (glued_repeated ++ (needless ++ (escapes ++ (empty ++ (conflicts ++ (of_file ++ of_bison)))))))) in
     let before = c.push_bison_findings.new.all.items in
