@@ -3,6 +3,18 @@
 use std::alloc::{AllocError, Global};
 use std::fmt::Display;
 
+/// The value that was made, if there was memory for it; otherwise the page accepts nothing more, and the function that
+/// writes on it ends.
+#[macro_export]
+macro_rules! or_tear {
+    ($out:expr; $made:expr) => {
+        match $made {
+            Ok(value) => value,
+            Err(_) => return $out.tear(),
+        }
+    };
+}
+
 /// A text that is being written. Once memory runs out for it, or for something that it describes, it accepts nothing
 /// more, and the caller that takes the text gets an error: thus the code that writes needs no checks and no results.
 #[derive(Drop)]
@@ -84,9 +96,7 @@ impl Page {
 
     /// The text, if there was memory for it.
     pub fn into_text(self) -> Result<String, AllocError> {
-        if self.is_torn {
-            return Err(AllocError);
-        }
+        self.text()?;
         Ok(self.text)
     }
 }

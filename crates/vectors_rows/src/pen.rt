@@ -1,5 +1,6 @@
 //! Pieces of what is written.
 
+use crate::or_tear;
 use crate::page::Page;
 use cfgrammar::Span;
 
@@ -61,10 +62,8 @@ pub fn line(out: &mut Page, before: &str, rest: &str) {
 
 /// Writes a text if a value isn't equal to a copy of it.
 pub fn unless_copied<T: Clone + PartialEq + Drop>(out: &mut Page, value: &T, word: &str) {
-    match value.clone() {
-        Ok(copy) => text_if(out, copy != *value, word),
-        Err(_) => out.tear(),
-    }
+    let copy = or_tear!(out; value.clone());
+    text_if(out, copy != *value, word);
 }
 
 /// Writes that no call after this line allocates.
