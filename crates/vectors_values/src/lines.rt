@@ -5,6 +5,7 @@ ghost use Rattle.cfgrammar.specs.Lines.{StandsFor};
 
 use cfgrammar::{FeedError, NewlineCache, Span};
 use std::alloc::{AllocError, Global};
+use vectors_rows::or_tear;
 use vectors_rows::page::Page;
 use vectors_rows::pen::{self, Piece};
 use vectors_rows::row::{Row, number, numbers};
@@ -16,10 +17,8 @@ pub fn print(out: &mut Page, row: &Row<'_>, text: &str) {
     pen::number(out, "text of ", text.len());
     out.push_str(" bytes\n");
     write_text(out, text);
-    match NewlineCache::from_str(out.alloc, text) {
-        Ok(cache) => print_cache(out, row, &cache, text),
-        Err(_) => out.tear(),
-    }
+    let cache = or_tear!(out; NewlineCache::from_str(out.alloc, text));
+    print_cache(out, row, &cache, text);
 }
 
 /// Writes the results of a cache of a text, and then those of the ways to feed it; without memory, those of a cache
@@ -72,10 +71,8 @@ fn try_cuts(out: &mut Page, row: &Row<'_>, text: &str, whole: &str) -> usize {
 
 /// Feeds a text in the pieces that a line names, if there is memory for their lengths.
 fn try_line(out: &mut Page, row: &Row<'_>, text: &str, line: (&str, &str), whole: &str) {
-    match lengths_of(out.alloc, text, line) {
-        Ok(lengths) => try_way(out, row, text, &lengths, whole),
-        Err(_) => out.tear(),
-    }
+    let lengths = or_tear!(out; lengths_of(out.alloc, text, line));
+    try_way(out, row, text, &lengths, whole);
 }
 
 /// The lengths of pieces of a text: those that a line gives, that of every piece as often as it fits, or those of the
@@ -168,9 +165,7 @@ fn feed(
 /// then differs from one of that.
 fn write_want(out: &mut Page, cache: &NewlineCache, fed: &str) {
     out.push_str("out of memory\n");
-    let Ok(other) = NewlineCache::from_str(out.alloc, fed) else {
-        return out.tear();
-    };
+    let other = or_tear!(out; NewlineCache::from_str(out.alloc, fed));
     for byte in 0..fed.len().saturating_add(2) {
         let is_same = cache.byte_to_line_num(byte) == other.byte_to_line_num(byte)
             && cache.byte_to_line_byte(byte) == other.byte_to_line_byte(byte);
@@ -217,13 +212,9 @@ fn write_spans(out: &mut Page, row: &Row<'_>, cache: &NewlineCache) {
 /// Writes the results of a cache of the text's lines, joined, for the text's end and past it.
 fn write_joined(out: &mut Page, text: &str) {
     let end = text.len();
-    match NewlineCache::from_pieces(out.alloc, text.split_inclusive('\n')) {
-        Ok(joined) => {
-            pen::number(out, "of its lines, joined: ", end);
-            write_line(out, ":", &joined, end);
-            write_line(out, ", past it:", &joined, end.saturating_add(1));
-            out.push('\n');
-        }
-        Err(_) => out.tear(),
-    }
+    let joined = or_tear!(out; NewlineCache::from_pieces(out.alloc, text.split_inclusive('\n')));
+    pen::number(out, "of its lines, joined: ", end);
+    write_line(out, ":", &joined, end);
+    write_line(out, ", past it:", &joined, end.saturating_add(1));
+    out.push('\n');
 }

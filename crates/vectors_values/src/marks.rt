@@ -13,9 +13,9 @@ use std::alloc::{AllocError, Global};
 use std::fmt::Debug;
 use std::mem;
 use vectors_rows::page::Page;
-use vectors_rows::pen::{self, Piece};
 use vectors_rows::row::{Row, number, words};
 use vectors_rows::text::of_turn;
+use vectors_rows::{or_tear, pen};
 
 /// A type of keys.
 trait Key: Ord + Clone + Debug + Drop {
@@ -109,10 +109,7 @@ fn play_line<K: Key>(
 
 /// Writes whether two maps are equal, as a line.
 fn compare<K: Key>(out: &mut Page, before: &str, map: &MarkMap<K, u32>, other: &MarkMap<K, u32>) {
-    pen::pieces(
-        out,
-        &[Piece::Flag(before, *map == *other), Piece::Text("\n")],
-    );
+    writeln!(out, "{before}{}", *map == *other);
 }
 
 /// Makes a call, and writes it, its result and what is then in the map.
@@ -144,9 +141,7 @@ fn write_want<K: Key>(out: &mut Page, row: &Row<'_>, position: usize, map: &mut 
 
 /// Writes a call before its result.
 fn write_call(out: &mut Page, before: &str, line: &str) {
-    out.push_str(before);
-    out.push_str(line);
-    out.push_str(": ");
+    write!(out, "{before}{line}: ");
 }
 
 /// Makes a call as many times as the number at its start says, with the turn's number for each `#`, and writes each
@@ -154,10 +149,8 @@ fn write_call(out: &mut Page, before: &str, line: &str) {
 fn calls<K: Key>(out: &mut Page, map: &mut MarkMap<K, u32>, line: &str) {
     let (count, line) = line.split_once(' ').unwrap_or(("0", ""));
     for turn in 0..number(count) {
-        match of_turn(out.alloc, line, turn) {
-            Ok(line) => note_call(out, map, line.as_str()),
-            Err(_) => out.tear(),
-        }
+        let line = or_tear!(out; of_turn(out.alloc, line, turn));
+        note_call(out, map, line.as_str());
     }
 }
 
@@ -336,14 +329,10 @@ fn write_entries<K: Key>(out: &mut Page, map: &MarkMap<K, u32>) {
 
 /// Writes the unused keys and the missing ones.
 fn write_marked<K: Key>(out: &mut Page, map: &MarkMap<K, u32>) {
-    match map.unused(out.alloc) {
-        Ok(keys) => write_list(out, "; unused", &keys),
-        Err(_) => out.tear(),
-    }
-    match map.missing(out.alloc) {
-        Ok(keys) => write_list(out, "; missing", &keys),
-        Err(_) => out.tear(),
-    }
+    let unused = or_tear!(out; map.unused(out.alloc));
+    write_list(out, "; unused", &unused);
+    let missing = or_tear!(out; map.missing(out.alloc));
+    write_list(out, "; missing", &missing);
 }
 
 /// Writes a text, and keys after it.

@@ -4,8 +4,8 @@ ghost use Rattle.std.specs.Prelude.{◌≡◌, length};
 
 use cfgrammar::{Location, PIdx, RIdx, SIdx, Span, Storage, Symbol, TIdx, Vob};
 use vectors_rows::page::Page;
-use vectors_rows::pen::{self, Piece};
 use vectors_rows::row::{Row, number, numbers};
+use vectors_rows::{or_tear, pen};
 
 /// Writes the results for each value of the row. The row's text, or else `a script`, is a location that isn't a span.
 pub fn print(out: &mut Page, row: &Row<'_>, text: &str) {
@@ -26,12 +26,8 @@ pub fn print(out: &mut Page, row: &Row<'_>, text: &str) {
 /// Writes the results for each value of the row, and for the row's list of bits, which were all made before.
 fn print_without_memory(out: &mut Page, row: &Row<'_>) {
     let (len, first) = numbers(row.first("bits").unwrap_or(""));
-    let Ok(mut bits) = Vob::from_elem(out.alloc, first == 1, len) else {
-        return out.tear();
-    };
-    let Ok(others) = Vob::from_elem(out.alloc, true, len) else {
-        return out.tear();
-    };
+    let mut bits = or_tear!(out; Vob::from_elem(out.alloc, first == 1, len));
+    let others = or_tear!(out; Vob::from_elem(out.alloc, true, len));
     pen::without_memory(out);
     for (word, rest) in &row.lines {
         let (first, second) = numbers(*rest);
@@ -51,24 +47,17 @@ fn write_span(out: &mut Page, script: Option<&str>, (start, end): (usize, usize)
     }
     write_parts(out, Span::new(start, end));
     if let Some(script) = script {
-        match String::from_str(out.alloc, script) {
-            Ok(words) => write_copied(out, &Location::Other(words)),
-            Err(_) => out.tear(),
-        }
+        let words = or_tear!(out; String::from_str(out.alloc, script));
+        write_copied(out, &Location::Other(words));
     }
     out.push('\n');
 }
 
 /// Writes the parts of a span, and of its location; whether that equals a copy; and the command line.
 fn write_parts(out: &mut Page, span: Span) {
-    let pieces = [
-        Piece::Number("    (", span.start()),
-        Piece::Number(",", span.end()),
-        Piece::Number(") has ", span.len()),
-        Piece::Text(" bytes"),
-        Piece::If(span.is_empty(), ", is empty"),
-    ];
-    pen::pieces(out, &pieces);
+    let (start, end, len) = (span.start(), span.end(), span.len());
+    write!(out, "    ({start},{end}) has {len} bytes");
+    pen::text_if(out, span.is_empty(), ", is empty");
     let position = Location::from(span);
     write!(out, ", as a place {position:?};");
     write_copied(out, &position);
@@ -77,10 +66,8 @@ fn write_parts(out: &mut Page, span: Span) {
 
 /// Writes whether a location equals a copy.
 fn write_copied(out: &mut Page, position: &Location) {
-    match position.clone() {
-        Ok(copy) => pen::flag(out, " ", copy == *position),
-        Err(_) => out.tear(),
-    }
+    let copy = or_tear!(out; position.clone());
+    pen::flag(out, " ", copy == *position);
 }
 
 /// Writes a number as each index type stores it.
@@ -123,9 +110,7 @@ fn write_stored<S: Storage>(out: &mut Page, storage: &str, number: usize) {
 
 /// Writes a list of bits that are all off or all on, the results of the row's calls, and the list after each.
 fn write_bits(out: &mut Page, row: &Row<'_>, (len, first): (usize, usize)) {
-    let Ok(mut bits) = Vob::from_elem(out.alloc, first == 1, len) else {
-        return out.tear();
-    };
+    let mut bits = or_tear!(out; Vob::from_elem(out.alloc, first == 1, len));
     write_list(out, &bits);
     for (word, rest) in &row.lines {
         let (position, bit) = numbers(*rest);
@@ -133,10 +118,8 @@ fn write_bits(out: &mut Page, row: &Row<'_>, (len, first): (usize, usize)) {
             write_call(out, &mut bits, *word, position, bit);
             continue;
         }
-        match Vob::from_elem(out.alloc, position == 1, bits.len()) {
-            Ok(other) => write_or(out, &mut bits, position, &other),
-            Err(_) => out.tear(),
-        }
+        let other = or_tear!(out; Vob::from_elem(out.alloc, position == 1, bits.len()));
+        write_or(out, &mut bits, position, &other);
     }
 }
 
@@ -159,13 +142,8 @@ fn write_or(out: &mut Page, bits: &mut Vob, position: usize, other: &Vob)
     requires { length other.now ≡ length bits.old }
 {
     let is_changed = bits.or(other);
-    let pieces = [
-        Piece::Number("    or(", position),
-        Piece::Flag("..): ", is_changed),
-        Piece::Flag(", equal: ", *bits == *other),
-        Piece::Text("\n"),
-    ];
-    pen::pieces(out, &pieces);
+    let is_equal = *bits == *other;
+    writeln!(out, "    or({position}..): {is_changed}, equal: {is_equal}");
     write_list(out, bits);
 }
 

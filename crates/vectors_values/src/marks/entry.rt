@@ -3,6 +3,7 @@
 use super::{Act, Key, write_filled, write_key};
 use cfgrammar::markmap::{Entry, MarkMap, OccupiedEntry, VacantEntry};
 use std::alloc::AllocError;
+use vectors_rows::or_tear;
 use vectors_rows::page::Page;
 use vectors_rows::pen::{self, Piece};
 
@@ -103,13 +104,9 @@ fn mark_vacant<K: Key>(
 pub(super) fn write_watched<K: Key>(out: &mut Page, watched: &str, map: &mut MarkMap<K, u32>) {
     out.push_str("       ");
     for word in watched.split_whitespace() {
-        match K::of(out.alloc, word) {
-            Ok(key) => {
-                write_marks(out, map, &key);
-                write_mark(out, &map.entry(key));
-            }
-            Err(_) => out.tear(),
-        }
+        let key = or_tear!(out; K::of(out.alloc, word));
+        write_marks(out, map, &key);
+        write_mark(out, &map.entry(key));
     }
     out.push('\n');
 }
