@@ -39,20 +39,14 @@ impl Writer<ASTWithValidityInfo, AllocError> for Twin<'_> {
 fn write_productions(out: &mut Page, productions: &[Production]) {
     for production in productions {
         write_symbols(out, production);
-        pen::unless_copied(
-            out,
-            production,
-            "    and a copy of a production that isn't the same\n",
-        );
+        let word = "    and a copy of a production that isn't the same\n";
+        pen::unless_copied(out, production, word);
     }
 }
 
 fn write_symbols(out: &mut Page, production: &Production) {
     for symbol in &production.symbols {
-        pen::unless_copied(
-            out,
-            symbol,
-            "    and a copy of a symbol that isn't the same\n",
-        );
+        let word = "    and a copy of a symbol that isn't the same\n";
+        pen::unless_copied(out, symbol, word);
     }
 }

@@ -12,7 +12,7 @@ use vectors_rows::page::Page;
 use vectors_rows::pen::{self, Piece};
 
 /// How many texts were grammars, how many had a list of errors, and how many of these lists were empty.
-#[derive(Clone, Copy)]
+#[derive(Clone, Copy, Default)]
 pub(crate) struct Counts {
     grammars: usize,
     refused: usize,
@@ -20,15 +20,6 @@ pub(crate) struct Counts {
 }
 
 impl Counts {
-    /// The counts before the first text.
-    pub(crate) fn new() -> Cell<Self> {
-        Cell::new(Counts {
-            grammars: 0,
-            refused: 0,
-            empty: 0,
-        })
-    }
-
     /// These counts and a text, which is a grammar or has these errors.
     fn and(self, is_valid: bool, errors: &[YaccGrammarError]) -> Self {
         let is_empty = !is_valid && errors.is_empty();
@@ -53,7 +44,8 @@ impl Counts {
 
 /// Writes a line for each prefix of the text that ends at a character boundary.
 pub fn write_cuts(out: &mut Page, kind: Option<YaccKind>, text: &str) {
-    write_counted(out, &Counts::new(), kind, text, (0, text.len()));
+    let counts = Cell::new(Counts::default());
+    write_counted(out, &counts, kind, text, (0, text.len()));
 }
 
 /// Writes a line for each prefix of the text that ends at a character boundary and has a number of bytes in this range,

@@ -4,7 +4,7 @@ use cfgrammar::yacc::ast::GrammarAST;
 use cfgrammar::yacc::{YaccGrammarError, YaccGrammarWarning};
 use cfgrammar::{Positions, Spanned};
 use vectors_rows::page::Page;
-use vectors_rows::pen;
+use vectors_rows::{or_tear, pen};
 
 /// Writes whether there are errors, and a line for each.
 pub fn write_errors(out: &mut Page, text: &str, errors: &[YaccGrammarError]) {
@@ -18,16 +18,11 @@ pub fn write_errors(out: &mut Page, text: &str, errors: &[YaccGrammarError]) {
 /// Writes a line for each error: its kind, its spans, the line and the column of the first span's start (of the text's
 /// if there are no spans), what the spans mean, and its text.
 pub fn write_error_lines(out: &mut Page, text: &str, errors: &[YaccGrammarError]) {
-    let Ok(positions) = Positions::new(out.alloc, text) else {
-        return out.tear();
-    };
+    let positions = or_tear!(out; Positions::new(out.alloc, text));
     for error in errors {
         write_kind(out, "    ", error);
-        let start = match error.spans().first() {
-            Some(span) => span.start(),
-            None => 0,
-        };
-        match positions.line_and_column(start) {
+        let start = error.spans().first().map(|span| span.start());
+        match positions.line_and_column(start.unwrap_or(0)) {
             Some((line, column)) => pen::numbers(out, (" ", line), (":", column)),
             None => out.push_str(" no place"),
         }
@@ -43,9 +38,7 @@ pub(crate) fn write_kind(out: &mut Page, before: &str, error: &YaccGrammarError)
 
 /// Writes the warnings of a syntax.
 pub fn write_warnings(out: &mut Page, ast: &GrammarAST) {
-    let Ok(warnings) = ast.warnings(out.alloc) else {
-        return out.tear();
-    };
+    let warnings = or_tear!(out; ast.warnings(out.alloc));
     let mut before = "warnings: ";
     for warning in &warnings {
         write_warning(out, before, warning);

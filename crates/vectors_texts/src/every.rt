@@ -27,7 +27,7 @@ const KINDS: [Option<YaccKind>; 6] = [
 /// unless the row requests one.
 pub fn print(out: &mut Page, rt: &HostRuntime, row: &Row<'_>, file: &str) {
     let mut whole = Page::new(out.alloc);
-    let counts = Counts::new();
+    let counts = Cell::new(Counts::default());
     match rows(rt.alloc(), file) {
         Ok(rows) => print_rows(&mut whole, rt, &counts, row, &rows),
         Err(_) => whole.tear(),
@@ -61,10 +61,8 @@ fn print_text(out: &mut Page, counts: &Cell<Counts>, requested: &Row<'_>, text: 
     if requested.first("only").is_none() && (text.is_empty() || text.len() > LONGEST) {
         return;
     }
-    let (least, most) = match requested.first("bytes") {
-        Some(bytes) => numbers(bytes),
-        None => (0, text.len()),
-    };
+    let range = requested.first("bytes").map(|bytes| numbers(bytes));
+    let (least, most) = range.unwrap_or((0, text.len()));
     for kind in &KINDS {
         write_counted(out, counts, *kind, text, (least, most.min(text.len())));
     }

@@ -5,8 +5,8 @@ use cfgrammar::yacc::{YaccGrammarError, YaccGrammarErrorKind as Kind, YaccGramma
 use cfgrammar::{Span, Spanned};
 use std::alloc::{AllocError, Global};
 use vectors_rows::page::Page;
-use vectors_rows::pen;
 use vectors_rows::row::{Row, numbers};
+use vectors_rows::{or_tear, pen};
 
 /// Writes a line for each error that the row names: its kind, its spans, what they mean, and its text. A kind with a
 /// name has the row's text as its name, or else `µ`.
@@ -26,14 +26,11 @@ pub fn print(out: &mut Page, row: &Row<'_>, text: &str) {
 
 /// Makes an error of its parts, and writes it.
 fn print_without_memory(out: &mut Page, row: &Row<'_>, held: &str) {
-    match parts_of(out.alloc, held, row.first("error").unwrap_or("")) {
-        Ok((kind, spans)) => {
-            pen::without_memory(out);
-            write_parts(out, &YaccGrammarError::new(kind, spans));
-            out.push('\n');
-        }
-        Err(_) => out.tear(),
-    }
+    let line = row.first("error").unwrap_or("");
+    let (kind, spans) = or_tear!(out; parts_of(out.alloc, held, line));
+    pen::without_memory(out);
+    write_parts(out, &YaccGrammarError::new(kind, spans));
+    out.push('\n');
 }
 
 fn print_warning(out: &mut Page, name: &str) {
@@ -47,10 +44,8 @@ fn print_warning(out: &mut Page, name: &str) {
 }
 
 fn print_error(out: &mut Page, held: &str, line: &str) {
-    match parts_of(out.alloc, held, line) {
-        Ok((kind, spans)) => write_error(out, &YaccGrammarError::new(kind, spans)),
-        Err(_) => out.tear(),
-    }
+    let (kind, spans) = or_tear!(out; parts_of(out.alloc, held, line));
+    write_error(out, &YaccGrammarError::new(kind, spans));
 }
 
 /// The kind and the spans of the error that a line describes. A kind that contains a name gets `held`.
@@ -76,11 +71,8 @@ fn write_error(out: &mut Page, error: &YaccGrammarError) {
     write_parts(out, error);
     write!(out, ": {error}");
     pen::unless_copied(out, error, ", and a copy that isn't the same");
-    pen::unless_copied(
-        out,
-        error.kind(),
-        ", and a copy of its kind that isn't the same",
-    );
+    let word = ", and a copy of its kind that isn't the same";
+    pen::unless_copied(out, error.kind(), word);
     out.push('\n');
 }
 

@@ -5,6 +5,7 @@ mod plain;
 
 use self::held::{Held, write_held, write_value};
 use crate::pages::are_same;
+use crate::syntax::write_named;
 use cfgrammar::header::{
     GrmtoolsSectionParser, Header, HeaderError, HeaderFault, HeaderValue, Value,
 };
@@ -13,9 +14,8 @@ use cfgrammar::{Location, Span, Spanned};
 use std::alloc::{AllocError, Global};
 use vectors_rows::made::write_made;
 use vectors_rows::page::Page;
-use vectors_rows::pen::{self, Piece};
 use vectors_rows::row::Row;
-use vectors_rows::text;
+use vectors_rows::{or_tear, pen, text};
 
 /// Writes the results for the section at the start of a text, of each of its prefixes, or for an entry at each of its
 /// offsets; or the values of all kinds.
@@ -108,12 +108,7 @@ fn write_entries(out: &mut Page, text: &str) {
 
 /// Writes a key with its span, its value, and where it ends. With locations instead of spans the value is the same.
 fn write_entry(out: &mut Page, (key, span, value, end): &(String, Span, Value<Span>, usize)) {
-    let pieces = [
-        Piece::Name(" ", key.as_str()),
-        Piece::Span(*span),
-        Piece::Text(": "),
-    ];
-    pen::pieces(out, &pieces);
+    write_named(out, " ", (key.as_str(), *span), ": ");
     let (mut printed, mut located) = (Page::new(out.alloc), Page::new(out.alloc));
     write_value(&mut printed, value);
     write_made(&mut located, &Held, to_location(out.alloc, value));
@@ -148,13 +143,9 @@ fn write_error(out: &mut Page, error: &HeaderError<Span>) {
     write!(out, "{:?}", error.kind);
     pen::spans(out, error.spans());
     writeln!(out, " {:?}: {error}", error.spanskind());
-    match error.clone() {
-        Ok(copy) => {
-            let is_same = copy.kind == error.kind && copy.spans() == error.spans();
-            pen::text_if(out, !is_same, "    and a copy that isn't the same\n");
-        }
-        Err(_) => out.tear(),
-    }
+    let copy = or_tear!(out; error.clone());
+    let is_same = copy.kind == error.kind && copy.spans() == error.spans();
+    pen::text_if(out, !is_same, "    and a copy that isn't the same\n");
 }
 
 /// Writes the value of each kind.

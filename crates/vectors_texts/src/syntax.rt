@@ -10,7 +10,7 @@ use std::alloc::AllocError;
 use vectors_rows::made::{Writer, write_made};
 use vectors_rows::page::Page;
 use vectors_rows::pen::{self, Piece};
-use vectors_rows::said::{write_precedence, write_settings};
+use vectors_rows::said::write_settings;
 
 /// Writes all of a syntax: its start, what the declarations say, and a line for each rule, production and token. A copy
 /// has the same.
@@ -45,14 +45,10 @@ impl Writer<GrammarAST, AllocError> for Whole {
 
 /// Writes the lengths of a syntax's lists.
 pub fn write_lengths(out: &mut Page, ast: &GrammarAST) {
-    let pieces = [
-        Piece::Number("syntax of ", ast.rules().len()),
-        Piece::Number(" rules, ", ast.prods().len()),
-        Piece::Number(" productions, ", ast.tokens().len()),
-        Piece::Number(" tokens, ", ast.token_directives().len()),
-        Piece::Text(" of them declared\n"),
-    ];
-    pen::pieces(out, &pieces);
+    let (rules, productions) = (ast.rules().len(), ast.prods().len());
+    let (tokens, declared) = (ast.tokens().len(), ast.token_directives().len());
+    write!(out, "syntax of {rules} rules, {productions} productions");
+    writeln!(out, ", {tokens} tokens, {declared} of them declared");
 }
 
 /// Writes the start, if there is one; what the declarations say of conflicts, of the parser, of the programs and of
@@ -84,7 +80,7 @@ fn write_parts(out: &mut Page, ast: &GrammarAST) {
 }
 
 /// Writes a name and its span between two texts.
-fn write_named(out: &mut Page, before: &str, (name, span): (&str, Span), after: &str) {
+pub(crate) fn write_named(out: &mut Page, before: &str, (name, span): (&str, Span), after: &str) {
     pen::name(out, before, name);
     pen::span(out, span);
     out.push_str(after);
@@ -103,8 +99,7 @@ fn write_unused(out: &mut Page, ast: &GrammarAST) {
 fn write_precedences(out: &mut Page, ast: &GrammarAST) {
     for (name, (Precedence { level, kind }, span)) in ast.precs() {
         write_named(out, "    precedence ", (name.as_str(), *span), ": ");
-        write_precedence(out, "", *level, kind);
-        out.push('\n');
+        writeln!(out, "{level} {kind:?}");
     }
 }
 
@@ -160,12 +155,9 @@ fn write_productions(out: &mut Page, ast: &GrammarAST) {
 
 /// Writes a production: its span, its symbols with their spans, and its precedence and action, if it has them.
 fn write_production(out: &mut Page, index: usize, production: &Production) {
-    let pieces = [
-        Piece::Number("    production ", index),
-        Piece::Span(production.prod_span),
-        Piece::Text(":"),
-    ];
-    pen::pieces(out, &pieces);
+    pen::number(out, "    production ", index);
+    pen::span(out, production.prod_span);
+    out.push(':');
     for symbol in &production.symbols {
         write_symbol(out, symbol);
     }

@@ -9,6 +9,7 @@ use cfgrammar::yacc::ast::{ASTWithValidityInfo, GrammarAST, Rule, StartFault};
 use cfgrammar::yacc::{YaccKind, YaccOriginalActionKind};
 use std::alloc::{AllocError, Global};
 use vectors_rows::made::{Writer, write_made};
+use vectors_rows::or_tear;
 use vectors_rows::page::Page;
 use vectors_rows::pen::{self, Piece};
 use vectors_rows::row::{Row, number, words};
@@ -160,11 +161,9 @@ pub(crate) fn write_tree(out: &mut Page, ast: &GrammarAST) {
 
 /// Sets the row's programs, and then others, by the two calls that do so.
 fn set_programs_twice(out: &mut Page, row: &Row<'_>, ast: &mut GrammarAST) {
-    let first = String::from_str(out.alloc, row.first("programs").unwrap_or(""));
-    let second = String::from_str(out.alloc, row.first("add-programs").unwrap_or(""));
-    let (Ok(first), Ok(second)) = (first, second) else {
-        return out.tear();
-    };
+    let (first, second) = (row.first("programs"), row.first("add-programs"));
+    let first = or_tear!(out; String::from_str(out.alloc, first.unwrap_or("")));
+    let second = or_tear!(out; String::from_str(out.alloc, second.unwrap_or("")));
     pen::without_memory(out);
     ast.set_programs(first);
     write_programs(out, "    ", ast.programs(), "\n");
@@ -174,13 +173,5 @@ fn set_programs_twice(out: &mut Page, row: &Row<'_>, ast: &mut GrammarAST) {
 
 /// Writes the programs, or that there are none, between two texts.
 fn write_programs(out: &mut Page, before: &str, programs: &Option<String>, after: &str) {
-    out.push_str(before);
-    match programs {
-        Some(programs) => {
-            pen::name(out, "programs Some(", programs.as_str());
-            out.push(')');
-        }
-        None => out.push_str("programs None"),
-    }
-    out.push_str(after);
+    write!(out, "{before}programs {programs:?}{after}");
 }
