@@ -1,12 +1,11 @@
 -- Lists that are added to others, one after another.
-use Rattle.std.proofs.Common.{◌≡◌, ◌==◌, ◌&&◌, Global, Vec, ◌⊎◌, inl, inr, ℕ, ◌+◌, ◌<◌, Bool, true, List, [], ◌∷◌, ◌++◌, get_or, if◌then◌else◌, Contains, Some, slice_get, length, map, refl, sym, ap, subst, ◌∙◌, arith, true≢false}
+use Rattle.std.proofs.Common.{◌≡◌, ◌==◌, ◌&&◌, Global, Vec, inl, inr, ℕ, ◌+◌, ◌<◌, Bool, true, List, [], ◌∷◌, ◌++◌, get_or, if◌then◌else◌, Contains, Some, slice_get, length, map, refl, sym, ap, subst, ◌∙◌, arith, true≢false}
 use Rattle.std.specs.List.{IsDistinct, list_any}
 use Rattle.std.specs.Bool.{Decides}
 use Rattle.std.specs.Cmp.Lexicographic.{pointwise}
 use Rattle.std.proofs.lemmas.Bool.{cases_Bool, cases_eq, cases_lt}
 use Rattle.std.proofs.lemmas.Bool.Decides.{Decides-and, Decides-eqb, Decides-like}
 use Rattle.std.proofs.lemmas.List.{get_or-map, get_or_append_left, get_or_push, length-map, length_push, map_push}
-use Rattle.std.proofs.lemmas.List.Folds.{Any-from_list_any}
 use Rattle.std.proofs.lemmas.Map.Keys.{apart_from_distinct}
 use Rattle.std.proofs.lemmas.List.Elements.{Contains-append_left, Contains-push, Contains-push_cases}
 use Rattle.std.proofs.lemmas.Option.{get_or_from_slice_get, slice_get_within}
@@ -18,35 +17,19 @@ use Rattle.lr_states.specs.declared.kernels.Target.{Target}
 use Rattle.lr_states.specs.Inner.Kernels.{Adds, AreGoing, AreTargets, IsAmong, IsOne, IsTarget}
 use Rattle.lr_states.specs.Automaton.{AreAscending}
 use Rattle.lr_states.specs.Inner.Closure.{items_after}
+use Rattle.lr_states.proofs.Growing.{each_pushed}
 
-pub adds_none : (Found : List Item → Type 0) (lists : List (List Item)) → ((list : List Item) → Found list → ⊥) → Adds Found lists lists
-adds_none Found lists none = record {
-  longer = omega arith;
-  kept = λ q within. refl;
-  fresh = λ q past within. absurd (omega (arith, past, within));
-  all = λ list h. absurd (none list h);
-}
+pub adds_none : (Found : List Item → Type 0) (lists : List (List Item)) → Adds Found lists lists
+adds_none Found lists = record { longer = omega arith; kept = λ q within. refl; fresh = λ q past within. absurd (omega (arith, past, within)) }
 
-pub adds_as : (Found Found' : List Item → Type 0) (old new : List (List Item)) → ((list : List Item) → Found list → Found' list) → ((list : List Item) → Found' list → Found list)
-    → Adds Found old new → Adds Found' old new
-adds_as Found Found' old new to from a = record {
-  longer = a.longer;
-  kept = a.kept;
-  fresh = λ q past within. to (get_or new q []) (a.fresh q past within);
-  all = λ list h. a.all list (from list h);
-}
-
-pub adds_then : (Found Found' : List Item → Type 0) (old mid new : List (List Item)) → Adds Found old mid → Adds Found' mid new → Adds (λ list. Found list ⊎ Found' list) old new
-adds_then Found Found' old mid new a b = record {
+adds_then : (Found Found' Both : List Item → Type 0) (old mid new : List (List Item)) → ((list : List Item) → Found list → Both list) → ((list : List Item) → Found' list → Both list)
+    → Adds Found old mid → Adds Found' mid new → Adds Both old new
+adds_then Found Found' Both old mid new first second a b = record {
   longer = let x = a.longer in let y = b.longer in omega (arith, x, y);
   kept = λ q within. b.kept q (let x = a.longer in omega (arith, x, within)) ∙ a.kept q within;
   fresh = λ q past within. elim (cases_lt q (length mid)) [
-    | inl early ↦ inl (subst Found (sym (b.kept q early)) (a.fresh q past early))
-    | inr late ↦ inr (b.fresh q late within)
-  ];
-  all = λ list h. elim h [
-    | inl first ↦ let (q, within, is) = a.all list first in (q, (let y = b.longer in omega (arith, y, within)), b.kept q within ∙ is)
-    | inr second ↦ b.all list second
+    | inl early ↦ first (get_or new q []) (subst Found (sym (b.kept q early)) (a.fresh q past early))
+    | inr late ↦ second (get_or new q []) (b.fresh q late within)
   ];
 }
 
@@ -58,22 +41,16 @@ pub record IsExtended (lists lists' : ℕ → List Item) (n : ℕ) (list : List 
 
 pub among_more : (lists lists' : ℕ → List Item) (n : ℕ) (list : List Item) → IsExtended lists lists' n list → (old mid new : List (List Item)) → Adds (IsAmong lists) old mid
     → Adds (IsOne list) mid new → Adds (IsAmong lists') old new
-among_more lists lists' n list more old mid new a b = adds_as (λ other. IsAmong lists other ⊎ IsOne list other) (IsAmong lists') old new
-    (λ other h. elim h [
-      | inl early ↦
-          let some = early.some in
-          let apart : early.node ≡ n → ⊥ = λ same. omega (arith, some, ap (λ (l : List Item). length l) (early.is ∙ ap lists same ∙ more.none)) in
-          record { node = early.node; is = early.is ∙ sym (more.elsewhere early.node apart); some = some }
-      | inr here ↦ record { node = n; is = here.is ∙ sym more.here; some = here.some }
-    ])
-    (λ other h. elim (cases_eq h.node n) [
-      | inl same ↦ inr (record { is = h.is ∙ ap lists' same ∙ more.here; some = h.some })
-      | inr apart ↦ inl (record { node = h.node; is = h.is ∙ more.elsewhere h.node apart; some = h.some })
-    ])
-    (adds_then (IsAmong lists) (IsOne list) old mid new a b)
+among_more lists lists' n list more old mid new a b = adds_then (IsAmong lists) (IsOne list) (IsAmong lists') old mid new
+    (λ other h.
+    let some = h.some in
+    let apart : h.node ≡ n → ⊥ = λ same. omega (arith, some, ap (λ (l : List Item). length l) (h.is ∙ ap lists same ∙ more.none)) in
+    record { node = h.node; is = h.is ∙ sym (more.elsewhere h.node apart); some = some })
+    (λ other h. record { node = n; is = h.is ∙ sym more.here; some = h.some })
+    a b
 
 -- keys that show lists, and one more key, unless an equal one is there
-module _ {K : Type 0} (show : K → List Item) (same : K → K → Bool) (decides : (x y : K) → Decides (same x y) (show x ≡ show y)) (keys : List K) (key : K) where
+module _ {K : Type 0} (show : K → List Item) (same : K → K → Bool) (keys : List K) (key : K) where
   added_new : (list : List Item) → show key ≡ list → 0 < length list → (new : List K) → new ≡ keys ++ key ∷ [] → Adds (IsOne list) (map show keys) (map show new)
   added_new list shows some new is = subst (λ l. Adds (IsOne list) (map show keys) l) (sym (ap (map show) is ∙ map_push show keys key)) (record {
     longer = let long = length_push old (show key) in omega (arith, long);
@@ -82,30 +59,15 @@ module _ {K : Type 0} (show : K → List Item) (same : K → K → Bool) (decide
         let last : length old ≡ q = let long = length_push old (show key) in omega (arith, long, past, within) in
         let there : get_or (old ++ show key ∷ []) q [] ≡ list = get_or_push old (show key) [] q last ∙ shows in
         record { is = there; some = subst (λ l. 0 < length l) (sym there) some };
-    all = λ other h. (length old, (let long = length_push old (show key) in omega (arith, long)), get_or_push old (show key) [] (length old) refl ∙ shows ∙ sym h.is);
   })
     where
       old : List (List Item)
       old = map show keys
 
-  added_same : (list : List Item) → show key ≡ list → list_any (same key) keys ≡ true → Adds (IsOne list) (map show keys) (map show keys)
-  added_same list shows found =
-      let (k, x, within, at, equal) = Any-from_list_any (same key) keys found in
-      record {
-        longer = omega arith;
-        kept = λ q within. refl;
-        fresh = λ q past within. absurd (omega (arith, past, within));
-        all = λ other h. (
-          k,
-          subst (λ n. k < n) (sym (length-map keys show)) within,
-          get_or-map show keys k x [] within ∙ ap show at ∙ sym ((decides key x).0 equal) ∙ shows ∙ sym h.is,
-        );
-      }
-
   pub key_added : (list : List Item) → show key ≡ list → 0 < length list → (new : List K) → new ≡ (if list_any (same key) keys then keys else keys ++ key ∷ [])
       → Adds (IsOne list) (map show keys) (map show new)
   key_added list shows some new is = elim (cases_Bool (list_any (same key) keys)) [
-    | inl found ↦ subst (λ (l : List K). Adds (IsOne list) (map show keys) (map show l)) (sym (is ∙ ap {B = List K} (λ b. if b then keys else keys ++ key ∷ []) found)) (added_same list shows found)
+    | inl found ↦ subst (λ (l : List K). Adds (IsOne list) (map show keys) (map show l)) (sym (is ∙ ap {B = List K} (λ b. if b then keys else keys ++ key ∷ []) found)) (adds_none (IsOne list) (map show keys))
     | inr fresh ↦ added_new list shows some new (is ∙ ap {B = List K} (λ b. if b then keys else keys ++ key ∷ []) fresh)
   ]
 
@@ -207,25 +169,20 @@ module _ (g : Grammar) where
 
   pub going_more : (Found : List Item → Type 0) (kernels new states more : List (List Item)) (targets more_targets : List (List Target)) (items : List Item) (own : List Target) → AreGoing g kernels states targets
       → Adds Found kernels new → AreTargets (items_after g items) new own → more ≡ states ++ items ∷ [] → more_targets ≡ targets ++ own ∷ [] → AreGoing g new more more_targets
-  going_more Found kernels new states more targets more_targets items own are adds has is same = subst (λ l. AreGoing g new l more_targets) (sym is) (subst (AreGoing g new (states ++ items ∷ [])) (sym same) (record {
-    count = length_push targets own ∙ ap (λ n. n + 1) are.count ∙ sym (length_push states items);
-    each = λ q within. elim (cases_lt q (length states)) [
-      | inl early ↦
-          let before = are.each q early in
-          let count = are.count in
-          let here : get_or (states ++ items ∷ []) q [] ≡ get_or states q [] = get_or_append_left states (items ∷ []) [] q early in
-          let there : get_or (targets ++ own ∷ []) q [] ≡ get_or targets q [] = get_or_append_left targets (own ∷ []) [] q (omega (arith, early, count)) in
-          subst (λ l. AreTargets (items_after g l) new (get_or (targets ++ own ∷ []) q [])) (sym here) (subst (AreTargets (items_after g (get_or states q [])) new) (sym there) (record {
-            sound = λ t h. target_kept (items_after g (get_or states q [])) Found kernels new adds t (before.sound t h);
-            all = before.all;
-            ascending = before.ascending;
-          }))
-      | inr late ↦
-          let count = are.count in
-          let long = length_push states items in
-          let last : length states ≡ q = omega (arith, within, late, long) in
-          let here : get_or (states ++ items ∷ []) q [] ≡ items = get_or_push states items [] q last in
-          let there : get_or (targets ++ own ∷ []) q [] ≡ own = get_or_push targets own [] q (count ∙ last) in
-          subst (λ l. AreTargets (items_after g l) new (get_or (targets ++ own ∷ []) q [])) (sym here) (subst (AreTargets (items_after g items) new) (sym there) has)
-    ];
-  }))
+  going_more Found kernels new states more targets more_targets items own are adds has is same = record {
+    count = ap length same ∙ length_push targets own ∙ ap (λ n. n + 1) are.count ∙ sym long;
+    each = λ q within. each_pushed (λ p l. AreTargets (items_after g (get_or more p [])) new l) targets more_targets own [] (length states) same are.count
+        (λ p low.
+        let before = are.each p low in
+        let old : get_or more p [] ≡ get_or states p [] = ap (λ l. get_or l p []) is ∙ get_or_append_left states (items ∷ []) [] p low in
+        subst (λ l. AreTargets (items_after g l) new (get_or targets p [])) (sym old) (record {
+          sound = λ t h. target_kept (items_after g (get_or states p [])) Found kernels new adds t (before.sound t h);
+          all = before.all;
+          ascending = before.ascending;
+        }))
+        (subst (λ l. AreTargets (items_after g l) new own) (sym (ap (λ l. get_or l (length states) []) is ∙ get_or_push states items [] (length states) refl)) has)
+        q (omega (arith, within, long));
+  }
+    where
+      long : length more ≡ length states + 1
+      long = ap length is ∙ length_push states items

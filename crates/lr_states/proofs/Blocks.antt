@@ -1,10 +1,10 @@
 -- One state's nodes after the other's.
-use Rattle.std.proofs.Common.{◌≡◌, inl, inr, ◌<◌, ◌≤◌, ℕ, List, [], ◌∷◌, ◌++◌, get_or, length, sym, subst, ◌∙◌, arith}
-use Rattle.std.proofs.lemmas.Bool.{cases_eq}
-use Rattle.std.proofs.lemmas.List.{get_or_append_left, get_or_push, length_push}
+use Rattle.std.proofs.Common.{◌≡◌, ◌<◌, ◌≤◌, ℕ, List, [], ◌∷◌, ◌++◌, get_or, length, refl, sym, subst, arith}
+use Rattle.std.proofs.lemmas.List.{get_or_append_left, length_push}
 use Rattle.lr_states.specs.Automaton.{Automaton}
 use Rattle.lr_states.specs.declared.lookaheads.nodes.Block.{Block}
 use Rattle.lr_states.specs.Inner.Numbers.{AreBlocks, IsBlock, nth_block}
+use Rattle.lr_states.proofs.Growing.{each_pushed}
 
 pub blocks_none : (rules : ℕ) (x : Automaton) (from : ℕ) → AreBlocks rules x from [] from
 blocks_none rules x from = record {
@@ -20,14 +20,9 @@ module _ (rules : ℕ) (x : Automaton) (from : ℕ) (blocks : List Block) (to : 
   old_block : (p : ℕ) → p < length blocks → nth_block (blocks ++ block ∷ []) p ≡ nth_block blocks p
   old_block p low = get_or_append_left blocks (block ∷ []) _ p low
 
-  new_block : (p : ℕ) → p ≡ q → nth_block (blocks ++ block ∷ []) p ≡ block
-  new_block p same = get_or_push blocks block _ p (count ∙ sym same)
-
   split : (P : ℕ → Block → Type 0) → ((p : ℕ) → p < length blocks → P p (nth_block blocks p)) → P q block → (p : ℕ) → p < length (blocks ++ block ∷ []) → P p (nth_block (blocks ++ block ∷ []) p)
-  split P early late p low = elim (cases_eq p q) [
-    | inl same ↦ subst (P p) (sym (new_block p same)) (subst (λ m. P m block) (sym same) late)
-    | inr apart ↦ let long = length_push blocks block in let here : p < length blocks = omega (arith, low, long, apart, count) in subst (P p) (sym (old_block p here)) (early p here)
-  ]
+  split P early late p low =
+      each_pushed P blocks (blocks ++ block ∷ []) block _ (length blocks) refl refl early (subst (λ m. P m block) (sym count) late) p (let long = length_push blocks block in omega (arith, low, long))
 
   pub blocks_more : AreBlocks rules x from (blocks ++ block ∷ []) block.end
   blocks_more =

@@ -9,14 +9,18 @@ use Rattle.cfgrammar.specs.Grammar.{Grammar, IsGrammar, IsSymbolOf, Production, 
 use Rattle.cfgrammar.specs.Openings.{nth_production}
 use Rattle.cfgrammar.proofs.Contained.{contains_first, contains_none}
 use Rattle.lr_states.specs.declared.Item.{Item}
-use Rattle.lr_states.specs.Inner.Closure.{AreAdvanced, IsClosure, IsKernelOf, IsSeed, first, next, node_of}
+use Rattle.lr_states.specs.Inner.Closure.{AreAdvanced, Enters, IsClosure, IsKernelOf, IsSeed, first, next, node_of}
 use Rattle.lr_states.specs.Viable.{AreSorted, HasNext, IsStateOf, IsValid, item_at}
 use Rattle.lr_states.proofs.Spines.{IsSeedAt, IsRead, none_read, opened_reached, opened_valid, read_back, read_one, reached_opened, valid_opened, viable_prefix, viable_read}
 use Rattle.lr_states.proofs.Spines as spines
 
-pub reachable_as : {Seed Seed' : ℕ → Type 0} {Leads : ℕ → ℕ → Type 0} → ((n : ℕ) → Seed n → Seed' n) → {n : ℕ} → Reachable Seed Leads n → Reachable Seed' Leads n
-reachable_as more (seed {a = n} h) = seed (more n h)
-reachable_as more (led h k) = led (reachable_as more h) k
+pub reachable_as : {Seed Seed' : ℕ → Type 0} {Leads Leads' : ℕ → ℕ → Type 0} → ((n : ℕ) → Seed n → Seed' n) → ((a b : ℕ) → Leads a b → Leads' a b) → {n : ℕ}
+    → Reachable Seed Leads n → Reachable Seed' Leads' n
+reachable_as more on (seed {a = n} h) = seed (more n h)
+reachable_as more on (led {a = a} {b = b} h k) = led (reachable_as more on h) (on a b k)
+
+pub enters_as : (g : Grammar) {Used Used' : ℕ → Type 0} → ((p : ℕ) → Used p → Used' p) → {a b : ℕ} → Enters g Used a b → Enters g Used' a b
+enters_as g to e = record { index = e.index; used = to e.index e.used; owner = e.owner; begins = e.begins }
 
 none_from : (xs : List Item) → ((x : Item) → Contains xs x → ⊥) → xs ≡ []
 none_from [] none = refl
@@ -45,13 +49,13 @@ module _ (g : Grammar) (Used : ℕ → Type 0) (prefix : List Sym) (kernel : Lis
     closure_state item = (
       (λ h. elim ((closure.all item).0 h) [
         | inl among ↦ ((is.all item).0 among).1
-        | inr e ↦ opened_valid g Used prefix item e.unread e.used (reached_opened g Used prefix (reachable_as seed_at e.reached))
+        | inr e ↦ opened_valid g Used prefix item e.unread e.used (reached_opened g Used prefix (reachable_as seed_at (λ a b k. k) e.reached))
       ]),
       (λ v. (closure.all item).1 (elim (cases_eq item.read 0) [
         | inl unread ↦ inr (record {
           unread = unread;
           used = v.used;
-          reached = reachable_as seed_from (opened_reached g Used prefix (nth_production g item.production).rule (valid_opened g Used prefix item unread v));
+          reached = reachable_as seed_from (λ a b k. k) (opened_reached g Used prefix (nth_production g item.production).rule (valid_opened g Used prefix item unread v));
         })
         | inr some ↦ inl ((is.all item).1 (omega (arith, some), v))
       ])),

@@ -50,9 +50,10 @@ module _ (lists : List (List ℕ)) (bound : ℕ) (numbers : List ℕ) (members :
         below t h = subst (λ n. t < n) (sym (length-replicate bound false)) h
 
         sound : (t : ℕ) → t < bound → IsOn row t → ReachableFrom (Leads lists) node t
-        sound t h on = elim ((turned.each t (below t h)).0 on) [
+        sound t h on = elim ((turned.each t).0 on) [
           | inl was ↦ absurd (true≢false (sym was ∙ get_or-replicate_default bound t false))
-          | inr found ↦
+          | inr new ↦
+              let found = new.1 in
               let member = ((are.each (length rows)).all found.thing).0 found.among in
               through node found.thing (((are.same node found.thing lt member.0).0 (next ∙ sym member.1)).0) (elim found.finds [
                 | inl this ↦ seed (sym this)
@@ -63,18 +64,21 @@ module _ (lists : List (List ℕ)) (bound : ℕ) (numbers : List ℕ) (members :
         ]
 
         complete : (t : ℕ) → t < bound → ReachableFrom (Leads lists) node t → IsOn row t
-        complete t h reached = (turned.each t (below t h)).1 (inr (elim (meets node lt next reached) [
-          | inside within number ↦ record { thing = t; among = ((are.each (length rows)).all t).1 (within, number); finds = inl refl }
-          | outside member to within number edge earlier rest ↦ record {
-            thing = member;
-            among = ((are.each (length rows)).all member).1 (within, number);
-            finds = inr (record {
-              thing = to;
-              among = edge;
-              finds = record { earlier = earlier; on = ((right to (are.order member to within edge).0 earlier).each t h).1 rest };
-            });
-          }
-        ]))
+        complete t h reached = (turned.each t).1 (inr (
+          below t h,
+          elim (meets node lt next reached) [
+            | inside within number ↦ record { thing = t; among = ((are.each (length rows)).all t).1 (within, number); finds = inl refl }
+            | outside member to within number edge earlier rest ↦ record {
+              thing = member;
+              among = ((are.each (length rows)).all member).1 (within, number);
+              finds = inr (record {
+                thing = to;
+                among = edge;
+                finds = record { earlier = earlier; on = ((right to (are.order member to within edge).0 earlier).each t h).1 rest };
+              });
+            }
+          ],
+        ))
 
     pub right_more : AreRight lists bound numbers (rows ++ row ∷ [])
     right_more node lt h = elim (cases_lt (slice_index numbers node) (length rows)) [

@@ -22,6 +22,7 @@ use Rattle.cfgrammar.proofs.Taken.{contains_taken}
 use Rattle.lr_states.specs.declared.Item.{Item}
 use Rattle.lr_states.specs.Inner.Closure.{AddsTo, Enters, IsClosure, IsEntered, IsIn, IsSeed}
 use Rattle.lr_states.specs.Viable.{AreSorted, IsBefore, item_at}
+use Rattle.lr_states.proofs.Closed.{enters_as, reachable_as}
 
 pub none_in : (set : BTreeSet ℕ) → set.keys ≡ [] → (n : ℕ) → IsIn set n → ⊥
 none_in set none n h = true≢false (sym h ∙ ap (list_any (is_at (nat_cmp n))) none)
@@ -134,6 +135,10 @@ module _ (g : Grammar) (Used : ℕ → Type 0) (kernel : List Item) where
         entering.sound p,
         (λ e. (search_ends nodes (IsSeed g kernel) (Enters g Used) (AreIn set) old entering.search none e.reached).1 p e.used refl),
       )
+
+-- it doesn't matter how it is said which productions are used
+pub entered_as : (g : Grammar) {Used Used' : ℕ → Type 0} {kernel : List Item} {item : Item} → ((p : ℕ) → Used p → Used' p) → IsEntered g Used kernel item → IsEntered g Used' kernel item
+entered_as g {item = item} to e = record { unread = e.unread; used = to item.production e.used; reached = reachable_as (λ n h. h) (λ a b. enters_as g to) e.reached }
 
 -- productions in ascending order with nothing read
 abbrev unread : List ℕ → List Item

@@ -1,11 +1,11 @@
 -- Kernels that were found and states that were visited: each viable prefix is that of a state once all kernels are visited.
-use Rattle.std.proofs.Common.{◌≡◌, ◌==◌, Option, None, Some, cond, true≢false, ◌↔◌, inl, inr, ℕ, ◌+◌, ◌-◌, ◌<◌, ◌≤◌, List, [], ◌∷◌, ◌++◌, Contains, get_or, length, append-nil, append_assoc, refl, sym, ap, subst, ◌∙◌, arith}
-use Rattle.std.proofs.lemmas.Bool.{cases_Bool, cases_lt}
-use Rattle.std.proofs.lemmas.Bool.Decides.{Decides-eqb}
-use Rattle.std.proofs.lemmas.List.{get_or_append_left, get_or_push, length_push}
+use Rattle.std.proofs.Common.{◌≡◌, Option, None, Some, ◌↔◌, inl, inr, ℕ, ◌+◌, ◌-◌, ◌<◌, ◌≤◌, List, [], ◌∷◌, ◌++◌, Contains, get_or, length, append-nil, append_assoc, refl, sym, ap, subst, ◌∙◌, arith}
+use Rattle.std.proofs.lemmas.Bool.{cases_lt}
+use Rattle.std.proofs.lemmas.List.{length_push}
 use Rattle.std.proofs.lemmas.List.Elements.{Contains-get_or}
 use Rattle.cfgrammar.specs.Grammar.{Grammar, IsGrammar, IsSymbolOf, Sym}
-use Rattle.cfgrammar.proofs.Contained.{contains_cases, contains_first, contains_later, contains_none}
+use Rattle.cfgrammar.proofs.Contained.{contains_none}
+use Rattle.search.proofs.PathGroups.{contains_at, contains_there}
 use Rattle.lr_states.specs.declared.Item.{Item}
 use Rattle.lr_states.specs.declared.kernels.Target.{Target}
 use Rattle.lr_states.specs.Inner.Closure.{AreAdvanced, IsClosure, IsKernelOf, items_after, node_of}
@@ -13,39 +13,18 @@ use Rattle.lr_states.specs.Viable.{AreStates, IsStateOf, IsValid, IsViable, item
 use Rattle.lr_states.specs.Inner.Kernels.{Adds, AreGoing, IsAmong}
 use Rattle.lr_states.specs.Automaton.{AreGotos, HaveTargets, IsGoto, target_of}
 use Rattle.lr_states.proofs.Closed.{closure_sorted, closure_state, kernel_next, next_symbol, next_viable}
+use Rattle.lr_states.proofs.Growing.{each_pushed}
 use Rattle.lr_states.proofs.Order.{sorted_same}
+use Rattle.lr_states.proofs.Places.{target_found}
 use Rattle.lr_states.proofs.Spines.{IsRead, none_read, viable_prefix, viable_read}
 use Rattle.lr_states.proofs.Stepped.{steps_advanced}
+use Rattle.lr_states.proofs.Targets.{target_state}
 
 contains_some : (xs : List Item) → 0 < length xs → (x : Item) × Contains xs x
 contains_some xs some = (get_or xs 0 (item_at 0 0), Contains-get_or xs 0 (item_at 0 0) some)
 
 some_contained : (xs : List Item) (x : Item) → Contains xs x → 0 < length xs
 some_contained xs x h = let within = h.1 in omega (arith, within)
-
--- what the first target for a symbol says
-abbrev IsTargetOf : List Target → ℕ → Option ℕ → Type 0
-IsTargetOf targets node None = (r : ℕ) → Contains targets (record { symbol = node; state = r }) → ⊥
-IsTargetOf targets node (Some r) = Contains targets (record { symbol = node; state = r })
-
-target_later : (target : Target) (targets : List Target) (node : ℕ) → (target.symbol ≡ node → ⊥) → (o : Option ℕ) → IsTargetOf targets node o → IsTargetOf (target ∷ targets) node o
-target_later target targets node apart None none = λ r h. elim (contains_cases target (record { symbol = node; state = r }) targets h) [
-  | inl same ↦ apart (ap (λ (t : Target). t.symbol) same)
-  | inr later ↦ none r later
-]
-target_later target targets node apart (Some r) has = contains_later target (record { symbol = node; state = r }) targets has
-
-target_is : (targets : List Target) (node : ℕ) → IsTargetOf targets node (target_of targets node)
-target_is [] node = λ r h. contains_none (record { symbol = node; state = r }) h
-target_is (target ∷ targets) node = elim (cases_Bool (target.symbol == node)) [
-  | inl on ↦
-      let at = (Decides-eqb target.symbol node).0 on in
-      subst (IsTargetOf (target ∷ targets) node) (sym (ap (λ b. cond b (Some target.state) (target_of targets node)) on))
-      (subst (λ n. Contains (target ∷ targets) (record { symbol = n; state = target.state })) at (contains_first target targets))
-  | inr off ↦
-      subst (IsTargetOf (target ∷ targets) node) (sym (ap (λ b. cond b (Some target.state) (target_of targets node)) off))
-      (target_later target targets node (λ at. true≢false (sym ((Decides-eqb target.symbol node).1 at) ∙ off)) (target_of targets node) (target_is targets node))
-]
 
 module _ (g : Grammar) (Used : ℕ → Type 0) where
   -- the kernel is that of a viable prefix
@@ -60,7 +39,6 @@ module _ (g : Grammar) (Used : ℕ → Type 0) where
     pub upto : length states ≤ length kernels
     pub each : (q : ℕ) → q < length kernels → IsReached (get_or kernels q [])
     pub closures : (q : ℕ) → q < length states → IsClosure g Used (get_or kernels q []) (get_or states q [])
-    pub closed : (q : ℕ) → q < length states → (list : List Item) → IsAmong (items_after g (get_or states q [])) list → (r : ℕ) × (r < length kernels) × (get_or kernels r [] ≡ list)
 
   -- the empty prefix has no items with symbols read
   pub kernel_first : IsKernelOf g Used [] []
@@ -89,7 +67,6 @@ module _ (g : Grammar) (Used : ℕ → Type 0) where
         let empty : get_or {A = List Item} ([] ∷ []) q [] ≡ [] = ap (λ n. get_or {A = List Item} ([] ∷ []) n []) zero in
         subst IsReached (sym empty) (record { prefix = []; is = kernel_first; viable = viable });
     closures = λ q within. absurd (omega (arith, within));
-    closed = λ q within list h. absurd (omega (arith, within));
   })
 
   module _ (grammar : IsGrammar g) (kernels states : List (List Item)) (are : AreExplored kernels states) where
@@ -107,45 +84,30 @@ module _ (g : Grammar) (Used : ℕ → Type 0) where
     -- one more state is visited
     pub explored_more : (items : List Item) (kernels' states' : List (List Item)) → length states < length kernels → IsClosure g Used (get_or kernels (length states) []) items
         → Adds (IsAmong (items_after g items)) kernels kernels' → states' ≡ states ++ items ∷ [] → AreExplored kernels' states'
-    explored_more items kernels' states' room closure adds is = subst (AreExplored kernels') (sym is) (record {
+    explored_more items kernels' states' room closure adds is = record {
       some = let longer = adds.longer in omega (arith, longer, room);
       first = adds.kept 0 are.some ∙ are.first;
       upto = let longer = adds.longer in omega (arith, longer, room, long);
       each = λ q within. elim (cases_lt q (length kernels)) [
         | inl early ↦ subst IsReached (sym (adds.kept q early)) (are.each q early)
-        | inr late ↦ successor_reached n room items (get_or kernels' q []) closure (adds.fresh q late within)
+        | inr late ↦ successor_reached (length states) room items (get_or kernels' q []) closure (adds.fresh q late within)
       ];
-      closures = λ q within. elim (cases_lt q n) [
-        | inl early ↦ subst (IsClosure g Used (get_or kernels' q [])) (sym (old q early)) (subst (λ k. IsClosure g Used k (get_or states q [])) (sym (kept q early)) (are.closures q early))
-        | inr late ↦
-            let here : q ≡ n = omega (arith, within, late, long) in
-            subst (λ m. IsClosure g Used (get_or kernels' m []) (get_or (states ++ items ∷ []) m [])) (sym here)
-            (subst (IsClosure g Used (get_or kernels' n [])) (sym (last n refl)) (subst (λ k. IsClosure g Used k items) (sym (adds.kept n room)) closure))
-      ];
-      closed = λ q within list h. elim (cases_lt q n) [
-        | inl early ↦
-            let (r, below, same) = are.closed q early list (subst (λ l. IsAmong (items_after g l) list) (old q early) h) in
-            (r, (let longer = adds.longer in omega (arith, longer, below)), adds.kept r below ∙ same)
-        | inr late ↦ adds.all list (subst (λ l. IsAmong (items_after g l) list) (last q (omega (arith, within, late, long))) h)
-      ];
-    })
+      closures = λ q within. each_pushed (λ p l. IsClosure g Used (get_or kernels' p []) l) states states' items [] (length states) is refl
+          (λ p early. subst (λ k. IsClosure g Used k (get_or states p [])) (sym (adds.kept p (omega (arith, early, room)))) (are.closures p early))
+          (subst (λ k. IsClosure g Used k items) (sym (adds.kept (length states) room)) closure)
+          q (omega (arith, within, long));
+    }
       where
-        n : ℕ
-        n = length states
+        long : length states' ≡ length states + 1
+        long = ap length is ∙ length_push states items
 
-        long : length (states ++ items ∷ []) ≡ length states + 1
-        long = length_push states items
+    -- the item after a symbol is read is among those after the symbol
+    item_after_read : (prefix : List Sym) (items : List Item) → IsStateOf g Used prefix items → (x : Sym) (w : IsRead g Used prefix x)
+        → Contains (items_after g items (node_of g x)) (item_at w.production (w.read + 1))
+    item_after_read prefix items state x w = ((steps_advanced g (node_of g x) items).all (item_at w.production (w.read + 1))).1
+        (record { read = w.read; is = refl; from = (state (item_at w.production w.read)).1 w.valid; symbol = x; next = w.next; at = refl })
 
-        old : (q : ℕ) → q < length states → get_or (states ++ items ∷ []) q [] ≡ get_or states q []
-        old q early = get_or_append_left states (items ∷ []) [] q early
-
-        last : (q : ℕ) → length states ≡ q → get_or (states ++ items ∷ []) q [] ≡ items
-        last q at = get_or_push states items [] q at
-
-        kept : (q : ℕ) → q < length states → get_or kernels' q [] ≡ get_or kernels q []
-        kept q early = adds.kept q (omega (arith, early, room))
-
-    module _ (done : length kernels ≤ length states) where
+    module _ (done : length kernels ≤ length states) (targets : List (List Target)) (going : AreGoing g kernels states targets) where
       -- the state of a prefix
       record IsListed (prefix : List Sym) : Type 0 where
         number : ℕ
@@ -163,24 +125,17 @@ module _ (g : Grammar) (Used : ℕ → Type 0) where
           let items = get_or states h.number [] in
           let node = node_of g x in
           let list = items_after g items node in
-          let advanced = steps_advanced g node items in
           let state = state_of prefix h in
           let sorted = closure_sorted g Used prefix (get_or kernels h.number []) h.kernel items (are.closures h.number inside) in
           let new = item_at w.production (w.read + 1) in
-          let among : Contains list new = (advanced.all new).1 (record {
-            read = w.read;
-            is = refl;
-            from = (state (item_at w.production w.read)).1 w.valid;
-            symbol = x;
-            next = w.next;
-            at = refl;
-          }) in
-          let (r, there, same) = are.closed h.number inside list (record { node = node; is = refl; some = some_contained list new among }) in
+          let among = item_after_read prefix items state x w in
+          let (r, has) = (going.each h.number inside).all node (some_contained list new among) in
+          let target = (going.each h.number inside).sound (record { symbol = node; state = r }) has in
           record {
             number = r;
-            within = there;
-            kernel = subst (IsKernelOf g Used (prefix ++ x ∷ [])) (sym same)
-                (kernel_next g grammar Used prefix items state sorted node list advanced x
+            within = target.within;
+            kernel = subst (IsKernelOf g Used (prefix ++ x ∷ [])) (sym target.is)
+                (kernel_next g grammar Used prefix items state sorted node list (steps_advanced g node items) x
                 (next_symbol g grammar (item_at w.production w.read) x w.next) refl new among);
           }
 
@@ -230,40 +185,35 @@ module _ (g : Grammar) (Used : ℕ → Type 0) where
             closure_sorted g Used a.prefix (get_or kernels q []) a.is (get_or states q []) (are.closures q within);
       }
 
-      module _ (targets : List (List Target)) (going : AreGoing g kernels states targets) where
-        goto_at : (q : ℕ) → q < length states → (x : Sym) → IsSymbolOf g x → (o : Option ℕ) → IsTargetOf (get_or targets q []) (node_of g x) o → IsGoto g Used states q x o
-        goto_at q within x symbol None none = λ prefix state viable.
-            let w = viable_read g Used prefix x viable in
-            let items = get_or states q [] in
-            let new = item_at w.production (w.read + 1) in
-            let among = ((steps_advanced g (node_of g x) items).all new).1 (record {
-              read = w.read;
-              is = refl;
-              from = (state (item_at w.production w.read)).1 w.valid;
-              symbol = x;
-              next = w.next;
-              at = refl;
-            }) in
-            let (r, has) = (going.each q within).all (node_of g x) (some_contained (items_after g items (node_of g x)) new among) in
-            none r has
-        goto_at q within x symbol (Some r) has =
-            let target = (going.each q within).sound (record { symbol = node_of g x; state = r }) has in
-            let there = target.within in
-            let upto = are.upto in
-            let inside : r < length states = omega (arith, there, done) in
-            let items = get_or states q [] in
-            let list = items_after g items (node_of g x) in
-            let a = are.each q (omega (arith, within, upto)) in
-            let sorted = closure_sorted g Used a.prefix (get_or kernels q []) a.is items (are.closures q within) in
-            let (item, among) = contains_some list target.some in (
-              inside,
-              λ prefix state.
-                  let kernel = kernel_next g grammar Used prefix items state sorted (node_of g x) list (steps_advanced g (node_of g x) items) x symbol refl item among in
-                  closure_state g Used (prefix ++ x ∷ []) (get_or kernels r []) (subst (IsKernelOf g Used (prefix ++ x ∷ [])) (sym target.is) kernel) (get_or states r []) (are.closures r inside),
-            )
+      goto_at : (q : ℕ) → q < length states → (x : Sym) → IsSymbolOf g x → (o : Option ℕ) → target_of (get_or targets q []) (node_of g x) ≡ o → IsGoto g Used states q x o
+      goto_at q within x symbol None none = λ prefix state viable.
+          let items = get_or states q [] in
+          let w = viable_read g Used prefix x viable in
+          let among = item_after_read prefix items state x w in
+          let (r, has) = (going.each q within).all (node_of g x) (some_contained (items_after g items (node_of g x)) (item_at w.production (w.read + 1)) among) in
+          let (i, at) = contains_at (get_or targets q []) (record { symbol = node_of g x; state = r }) has in
+          let some = target_state (get_or targets q []) (going.each q within).ascending i (record { symbol = node_of g x; state = r }) at in
+          absurd (cc)
+      goto_at q within x symbol (Some r) leads =
+          let (i, at) = target_found (get_or targets q []) (node_of g x) r leads in
+          let has = contains_there (get_or targets q []) i (record { symbol = node_of g x; state = r }) at in
+          let target = (going.each q within).sound (record { symbol = node_of g x; state = r }) has in
+          let there = target.within in
+          let upto = are.upto in
+          let inside : r < length states = omega (arith, there, done) in
+          let items = get_or states q [] in
+          let list = items_after g items (node_of g x) in
+          let a = are.each q (omega (arith, within, upto)) in
+          let sorted = closure_sorted g Used a.prefix (get_or kernels q []) a.is items (are.closures q within) in
+          let (item, among) = contains_some list target.some in (
+            inside,
+            λ prefix state.
+                let kernel = kernel_next g grammar Used prefix items state sorted (node_of g x) list (steps_advanced g (node_of g x) items) x symbol refl item among in
+                closure_state g Used (prefix ++ x ∷ []) (get_or kernels r []) (subst (IsKernelOf g Used (prefix ++ x ∷ [])) (sym target.is) kernel) (get_or states r []) (are.closures r inside),
+          )
 
-        pub explored_gotos : AreGotos g Used (record { rules = g.rules; states = states; targets = targets })
-        explored_gotos q within x symbol = goto_at q within x symbol (target_of (get_or targets q []) (node_of g x)) (target_is (get_or targets q []) (node_of g x))
+      pub explored_gotos : AreGotos g Used (record { rules = g.rules; states = states; targets = targets })
+      explored_gotos q within x symbol = goto_at q within x symbol (target_of (get_or targets q []) (node_of g x)) refl
 
 -- the symbols of the targets are next in items
 pub explored_targets : (g : Grammar) → IsGrammar g → (kernels states : List (List Item)) (targets : List (List Target)) → AreGoing g kernels states targets

@@ -72,7 +72,7 @@ grouped_none steps rising kernels targets none = subst (AreGrouped steps steps k
   whole = refl;
   rising = rising;
   apart = λ x y h there. absurd (contains_none x h);
-  adds = adds_none (IsAmong (items_by [])) kernels (λ list h. let some = h.some in omega (arith, some, ap (λ (l : List Item). length l) h.is));
+  adds = adds_none (IsAmong (items_by [])) kernels;
   are_targets = record {
     sound = λ t h. absurd (contains_none t h);
     all = λ node some. absurd (omega (arith, some));

@@ -1,11 +1,10 @@
 -- The items of the steps by one symbol.
-use Rattle.std.proofs.Common.{◌≡◌, ◌==◌, ◌&&◌, inl, inr, ℕ, ◌<◌, Bool, not, cond, List, [], ◌∷◌, ◌++◌, Contains, length, refl, sym, ap, ◌∙◌, arith, ltb}
+use Rattle.std.proofs.Common.{◌≡◌, ◌==◌, ◌&&◌, inl, inr, ℕ, ◌<◌, Bool, not, cond, List, [], ◌∷◌, ◌++◌, Contains, length, refl, sym, ap, ◌∙◌, arith}
 use Rattle.std.specs.List.{filter}
 use Rattle.std.specs.List.Sorted.{IsStableByKey, ties}
 use Rattle.std.specs.Ordering.{is_lt, nat_cmp}
-use Rattle.std.specs.declared.cmp.Ordering.TheVariants.{Less, Equal, Greater}
-use Rattle.std.proofs.lemmas.Bool.{cases_Bool, cases_order, false_from_ne_true, le-ltb, lt-ltb, ne_eqb, eq-eqb}
-use Rattle.std.proofs.lemmas.Bool.Decides.{Decides-eqb}
+use Rattle.std.proofs.lemmas.Bool.{cases_Bool, false_from_ne_true}
+use Rattle.std.proofs.lemmas.Bool.Decides.{Decides-eqb, nat_tests}
 use Rattle.std.proofs.lemmas.List.{map-append}
 use Rattle.std.proofs.lemmas.List.Elements.{filter-append, filter_agree}
 use Rattle.cfgrammar.proofs.Contained.{contains_first, contains_later}
@@ -50,31 +49,8 @@ step_by (x ∷ xs) node some = elim (cases_Bool (x.symbol == node)) [
 ]
 
 -- steps that tie are by the same symbol
-compared : (a b : ℕ) → is_lt (nat_cmp a b) ≡ ltb a b
-compared a b = elim (cases_order a b) [
-  | inl same ↦
-      ap (λ t. is_lt (cond t Less (cond (a == b) Equal Greater))) (le-ltb a b (omega (arith, same)))
-      ∙ ap (λ t. is_lt (cond t Equal Greater)) (eq-eqb a b same) ∙ sym (le-ltb a b (omega (arith, same)))
-  | inr apart ↦ elim apart [
-    | inl less ↦ ap (λ t. is_lt (cond t Less (cond (a == b) Equal Greater))) (lt-ltb a b less) ∙ sym (lt-ltb a b less)
-    | inr more ↦
-        ap (λ t. is_lt (cond t Less (cond (a == b) Equal Greater))) (le-ltb a b (omega (arith, more)))
-        ∙ ap (λ t. is_lt (cond t Equal Greater)) (ne_eqb a b (λ same. omega (arith, same, more))) ∙ sym (le-ltb a b (omega (arith, more)))
-  ]
-]
-
 tied : (a b : ℕ) → (b == a) ≡ (not (is_lt (nat_cmp a b)) && not (is_lt (nat_cmp b a)))
-tied a b =
-    let tests : (not (is_lt (nat_cmp a b)) && not (is_lt (nat_cmp b a))) ≡ (not (ltb a b) && not (ltb b a)) =
-    λ i. not (compared a b i) && not (compared b a i) in
-    let same : (b == a) ≡ (not (ltb a b) && not (ltb b a)) = elim (cases_order a b) [
-      | inl equal ↦ eq-eqb b a (sym equal) ∙ sym (λ i. not (le-ltb a b (omega (arith, equal)) i) && not (le-ltb b a (omega (arith, equal)) i))
-      | inr apart ↦ elim apart [
-        | inl less ↦ ne_eqb b a (λ equal. omega (arith, equal, less)) ∙ sym (λ i. not (lt-ltb a b less i) && not (le-ltb b a (omega (arith, less)) i))
-        | inr more ↦ ne_eqb b a (λ equal. omega (arith, equal, more)) ∙ sym (λ i. not (le-ltb a b (omega (arith, more)) i) && not (lt-ltb b a more i))
-      ]
-    ] in
-    same ∙ sym tests
+tied a b = grind (arith, nat_tests)
 
 -- a stable sort by the symbols keeps the items by each of them
 pub items_by-stable : (old new : List Step) → IsStableByKey (λ (s : Step). s.symbol) nat_cmp old new → (node : ℕ) → items_by new node ≡ items_by old node

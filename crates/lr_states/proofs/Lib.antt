@@ -7,6 +7,7 @@ pub mod Rules
 pub mod Entered
 pub mod ItemsBy
 pub mod Stepped
+pub mod Growing
 pub mod Added
 pub mod Groups
 pub mod Explored

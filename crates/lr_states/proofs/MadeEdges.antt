@@ -1,7 +1,6 @@
 -- The edges that are made are those of the graph.
-use Rattle.std.proofs.Common.{◌≡◌, ◌==◌, ◌↔◌, ◌⊎◌, inl, inr, ℕ, zero, suc, ◌+◌, ◌-◌, ◌<◌, Bool, true, false, cond, nat_lt, List, [], ◌∷◌, ◌++◌, Option, None, Some, Contains, drop, get_or, length, slice_get, take, append-nil, length-append, refl, sym, ap, subst, ◌∙◌, arith, lt-ltb, true≢false}
+use Rattle.std.proofs.Common.{◌≡◌, ◌==◌, ◌↔◌, ◌⊎◌, inl, inr, ℕ, zero, suc, ◌+◌, ◌-◌, ◌<◌, Bool, true, false, cond, nat_lt, List, [], ◌∷◌, ◌++◌, Option, None, Some, Contains, drop, get_or, length, slice_get, take, append-nil, refl, sym, ap, subst, ◌∙◌, arith, lt-ltb, true≢false}
 use Rattle.std.proofs.lemmas.Bool.Decides.{Decides-eqb, Decides-ltb}
-use Rattle.std.proofs.lemmas.List.{take_at}
 use Rattle.std.proofs.lemmas.Option.{slice_get_within}
 use Rattle.search.specs.Reachable.{Reachable, led, seed}
 use Rattle.cfgrammar.specs.Grammar.{Grammar, IsGrammar, IsSymbolOf, Sym, Rule, Token}
@@ -12,7 +11,7 @@ use Rattle.lr_states.specs.declared.kernels.Target.{Target}
 use Rattle.lr_states.specs.Automaton.{AreGotos, Automaton, HaveTargets, IsGoto, goto_of, symbol_number, target_of}
 use Rattle.lr_states.specs.Viable.{AreStates, HasNext, IsStateOf, IsValid, Spine, inner, item_at, start}
 use Rattle.lr_states.proofs.Closed.{next_symbol, next_within}
-use Rattle.lr_states.proofs.Spines.{read_back, read_one, slice_at}
+use Rattle.lr_states.proofs.Spines.{read_back, read_one, spine_item}
 use Rattle.search.proofs.PathGroups.{contains_there}
 use Rattle.lr_states.proofs.Targets.{target_state}
 use Rattle.lr_states.specs.Lookaheads.{HasUsed, IsLookahead}
@@ -36,21 +35,7 @@ rule_symbol rules (Token t) k is low = absurd (omega (arith, is, low))
 opened_cases : (g : Grammar) (Used : ℕ → Type 0) {before after : List Sym} {rule : ℕ} → Spine g Used before rule after
     → ((before ≡ []) × (rule ≡ 0)) ⊎ ((item : Item) × IsValid g Used before item × HasNext g item (Rule rule))
 opened_cases g Used start = inl (refl, refl)
-opened_cases g Used (inner {before} {after} spine p used own early rest rule split) =
-    let symbols = (nth_production g p).symbols in
-    let front : take (length early) symbols ≡ early = ap (take (length early)) split ∙ take_at early (Rule rule ∷ rest) (length early) refl in
-    inr (
-      item_at p (length early),
-      record {
-        before = before;
-        after = after;
-        spine = subst (λ r. Spine g Used before r after) (sym own) spine;
-        used = used;
-        read = let long = ap length split in let parts = length-append early (Rule rule ∷ rest) in omega (arith, long, parts);
-        is = ap (λ l. before ++ l) (sym front);
-      },
-      ap (λ l. slice_get l (length early)) split ∙ slice_at early rest (Rule rule),
-    )
+opened_cases g Used (inner spine p used own early rest rule split) = let (valid, at) = spine_item g Used spine p used own early rest rule split in inr (item_at p (length early), valid, at)
 
 pub shown_is : (n : Numbers) (x : Automaton) (symbol : Sym) → shown_number n symbol ≡ number n x (shown symbol)
 shown_is n x (Rule r) = refl

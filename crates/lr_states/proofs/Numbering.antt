@@ -1,6 +1,5 @@
 -- Different nodes have different numbers.
-use Rattle.std.proofs.Common.{◌≡◌, inl, inr, ℕ, ◌+◌, ◌<◌, ◌≤◌, List, [], Option, None, Some, get_or, length, slice_get, refl, sym, ap, subst, ◌∙◌, arith}
-use Rattle.std.proofs.lemmas.Bool.{cases_lt}
+use Rattle.std.proofs.Common.{◌≡◌, ℕ, ◌+◌, ◌<◌, ◌≤◌, List, [], Option, None, Some, get_or, length, slice_get, refl, sym, ap, subst, ◌∙◌, arith}
 use Rattle.cfgrammar.specs.Grammar.{Grammar}
 use Rattle.lr_states.specs.declared.Item.{Item}
 use Rattle.lr_states.specs.declared.kernels.Target.{Target}
@@ -9,7 +8,7 @@ use Rattle.lr_states.specs.Viable.{AreSorted}
 use Rattle.search.proofs.PathGroups.{contains_at}
 use Rattle.lr_states.specs.declared.lookaheads.nodes.Block.{Block}
 use Rattle.lr_states.specs.Inner.Graph.{Node, begun, next, read, rest, token}
-use Rattle.lr_states.specs.Inner.Numbers.{AreNumbers, IsBlock, IsNext, IsNode, Numbers, at_place, block_of, number, place_of_item, place_of_rule, at_start, by_target}
+use Rattle.lr_states.specs.Inner.Numbers.{AreNumbers, IsBlock, IsNext, IsNode, Numbers, at_place, block_of, number, place_of_item, place_of_symbol, at_start, by_target}
 use Rattle.lr_states.proofs.Rests.{rests_rise}
 use Rattle.lr_states.proofs.Places.{place_cases, place_holds, rule_placed}
 
@@ -63,13 +62,10 @@ module _ (g : Grammar) (x : Automaton) (n : Numbers) (are : AreNumbers g x n) (r
 
   -- different states have different nodes
   same_state : (q r m : ℕ) → q < length x.states → r < length x.states → (block q).items ≤ m → m < (block q).end → (block r).items ≤ m → m < (block r).end → q ≡ r
-  same_state q r m within inside from to low high = elim (cases_lt q r) [
-    | inl less ↦ let order = are.blocks.order q r less (has_block r inside) in absurd (omega (arith, order, to, low))
-    | inr most ↦ elim (cases_lt r q) [
-      | inl more ↦ let order = are.blocks.order r q more (has_block q within) in absurd (omega (arith, order, high, from))
-      | inr least ↦ omega (arith, most, least)
-    ]
-  ]
+  same_state q r m within inside from to low high =
+      let up : q < r → (block q).end ≤ (block r).items = λ less. are.blocks.order q r less (has_block r inside) in
+      let down : r < q → (block r).end ≤ (block q).items = λ more. are.blocks.order r q more (has_block q within) in
+      grind (arith, up, down, from, to, low, high)
 
   -- where the node of an item with symbols read is
   record ReadAt (q : ℕ) (item : Item) : Type 0 where
@@ -92,9 +88,9 @@ module _ (g : Grammar) (x : Automaton) (n : Numbers) (are : AreNumbers g x n) (r
     alone : q ≡ 0 → rule ≡ 0 → number n x (next q rule) ≡ n.tokens + n.rules → NextAt q rule
 
   next_at : (q rule : ℕ) → IsNode g x (next q rule) → NextAt q rule
-  next_at q rule (within, bound, is) = go (place_of_rule (targets_at q) rule) refl is
+  next_at q rule (within, bound, is) = go (place_of_symbol (targets_at q) rule) refl is
     where
-      go : (o : Option ℕ) → o ≡ place_of_rule (targets_at q) rule → IsNext x q rule → NextAt q rule
+      go : (o : Option ℕ) → o ≡ place_of_symbol (targets_at q) rule → IsNext x q rule → NextAt q rule
       go (Some place) e is =
           let (target, at, same) = place_cases (targets_at q) rule (Some place) e place refl in
           let here : number n x (next q rule) ≡ (block q).rules + place = ap (at_place (n.tokens + n.rules) (block q).rules) (sym e) in
@@ -103,7 +99,7 @@ module _ (g : Grammar) (x : Automaton) (n : Numbers) (are : AreNumbers g x n) (r
       go None e (at_start zero first) = alone zero first (ap (at_place (n.tokens + n.rules) (block q).rules) (sym e))
       go None e (by_target target h same) =
           let (i, at) = contains_at (targets_at q) target h in
-          let some : place_of_rule (targets_at q) rule ≡ Some i = subst (λ r. place_of_rule (targets_at q) r ≡ Some i) same (rule_placed (targets_at q) (ready.ascending q within) i target at) in
+          let some : place_of_symbol (targets_at q) rule ≡ Some i = subst (λ r. place_of_symbol (targets_at q) r ≡ Some i) same (rule_placed (targets_at q) (ready.ascending q within) i target at) in
           absurd (cc)
 
   -- numbers of rules that are next are not those of tokens and rules
@@ -118,17 +114,13 @@ module _ (g : Grammar) (x : Automaton) (n : Numbers) (are : AreNumbers g x n) (r
   read_high q item is = let after = block_after q is.0 in omega (arith, after)
 
   rest_rest : (item other : Item) → IsNode g x (rest item) → IsNode g x (rest other) → number n x (rest item) ≡ number n x (rest other) → rest item ≡ rest other
-  rest_rest item other a b same = elim (cases_lt item.production other.production) [
-    | inl less ↦ let there = b.0 in let before = rest_before item a other.production less (omega (arith, there)) in absurd (omega (arith, before, same))
-    | inr most ↦ elim (cases_lt other.production item.production) [
-      | inl more ↦ let there = a.0 in let before = rest_before other b item.production more (omega (arith, there)) in absurd (omega (arith, before, same))
-      | inr least ↦
-          let productions : item.production ≡ other.production = omega (arith, most, least) in
-          let firsts = ap first_of productions in
-          let reads : item.read ≡ other.read = omega (arith, same, firsts) in
-          λ i. rest (record { production = productions i; read = reads i })
-    ]
-  ]
+  rest_rest item other a b same =
+      let up : item.production < other.production → number n x (rest item) < first_of other.production = λ less. rest_before item a other.production less (let there = b.0 in omega (arith, there)) in
+      let down : other.production < item.production → number n x (rest other) < first_of item.production = λ more. rest_before other b item.production more (let there = a.0 in omega (arith, there)) in
+      let productions : item.production ≡ other.production = grind (arith, up, down, same) in
+      let firsts = ap first_of productions in
+      let reads : item.read ≡ other.read = omega (arith, same, firsts) in
+      λ i. rest (record { production = productions i; read = reads i })
 
   rest_read : (item : Item) (q : ℕ) (other : Item) → IsNode g x (rest item) → IsNode g x (read q other) → number n x (rest item) ≡ number n x (read q other) → ⊥
   rest_read item q other a b same = let end = rest_end item a in let first = block_first q b.0 in omega (arith, same, end, first)

@@ -1,14 +1,11 @@
 -- Sorted items: a list of them is known by what it contains.
-use Rattle.std.proofs.Common.{◌≡◌, inl, inr, List, [], ◌∷◌, ◌++◌, Contains, refl, sym, ap, subst, ◌∙◌, arith}
+use Rattle.std.proofs.Common.{◌≡◌, inl, inr, List, [], ◌∷◌, Contains, refl, sym, ap, subst, ◌∙◌, arith}
 use Rattle.cfgrammar.proofs.Contained.{contains_cases, contains_first, contains_later, contains_none}
 use Rattle.lr_states.specs.declared.Item.{Item}
 use Rattle.lr_states.specs.Viable.{AreSorted, IsBefore}
 
 pub before_not_after : (a b : Item) → IsBefore a b → IsBefore b a → ⊥
-before_not_after a b (inl less) (inl more) = omega (arith, less, more)
-before_not_after a b (inl less) (inr same) = omega (arith, less, same.0)
-before_not_after a b (inr same) (inl more) = omega (arith, more, same.0)
-before_not_after a b (inr same) (inr equal) = omega (arith, same.1, equal.1)
+before_not_after a b one two = grind arith
 
 -- what is in the rest of one list is in the rest of the other
 rest_within : (x : Item) (xs ys : List Item) → ((y : Item) → Contains xs y → IsBefore x y) → ((y : Item) → Contains (x ∷ xs) y → Contains (x ∷ ys) y)

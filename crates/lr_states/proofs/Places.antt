@@ -1,24 +1,23 @@
 -- Where an item or a target is in its list.
 use Rattle.std.proofs.Common.{◌≡◌, ◌==◌, inl, inr, ℕ, zero, suc, ◌+◌, ◌<◌, ◌≤◌, Bool, true, false, cond, not, nat_lt, ◌↔◌, List, [], ◌∷◌, Option, None, Some, Contains, IsTrue, get_or, length, slice_get, refl, sym, ap, subst, ◌∙◌, arith, ltb, lt-ltb, true≢false}
-use Rattle.std.specs.Prelude.{is_some, position}
+use Rattle.std.specs.Prelude.{is_some, option_map, position}
 use Rattle.std.specs.Bool.{Decides}
 use Rattle.std.specs.List.{position_or_len}
 use Rattle.std.specs.List.Sorted.{IsPartitionPoint, IsPartitionedBy}
-use Rattle.std.proofs.lemmas.Bool.{cases_Bool, cases_eq, cases_lt}
+use Rattle.std.proofs.lemmas.Bool.{cases_Bool, cases_eq, cases_lt, ltb-true}
 use Rattle.std.proofs.lemmas.Bool.Decides.{Decides-and, Decides-eqb, Decides-like, Decides-ltb, Decides-or}
 use Rattle.std.proofs.lemmas.List.Elements.{Contains-get_or}
 use Rattle.std.proofs.lemmas.List.Quantifiers.{position-Some}
 use Rattle.std.proofs.lemmas.Option.{get_or_from_slice_get, slice_get-get_or, slice_get_within}
-use Rattle.cfgrammar.proofs.Elements.{element_at}
 use Rattle.lr_states.specs.declared.Item.{Item}
 use Rattle.lr_states.specs.declared.kernels.Target.{Target}
 use Rattle.lr_states.specs.Automaton.{AreAscending, target_of}
 use Rattle.lr_states.specs.Viable.{AreSorted, IsBefore}
 use Rattle.search.proofs.PathGroups.{contains_at, contains_there}
 use Rattle.lr_states.proofs.Order.{before_not_after}
-use Rattle.lr_states.proofs.Targets.{not_same, symbol_missing, symbol_rises}
+use Rattle.lr_states.proofs.Targets.{not_same, symbol_missing, target_state}
 use Rattle.lr_states.specs.Lookaheads.{is_item}
-use Rattle.lr_states.specs.Inner.Numbers.{is_before, place_of_item, place_of_rule}
+use Rattle.lr_states.specs.Inner.Numbers.{is_before, place_of_item, place_of_symbol}
 
 pub same_item : (a b : Item) → Decides (is_item a b) (a ≡ b)
 same_item a b = Decides-like _
@@ -61,14 +60,14 @@ first_target (t ∷ targets) ascending (suc i) target at =
     ∙ (let later = first_target targets ascending.1 i target at in omega (arith, later))
 
 pub rule_placed : (targets : List Target) → AreAscending targets → (i : ℕ) (target : Target) → slice_get targets i ≡ Some target
-    → place_of_rule targets target.symbol ≡ Some i
+    → place_of_symbol targets target.symbol ≡ Some i
 rule_placed targets ascending i target at =
     let first = first_target targets ascending i target at in
     let within = slice_get_within targets i target at in
     ap (λ n. cond (nat_lt n (length targets)) (Some n) None) first ∙ ap (λ b. cond b (Some i) None) (lt-ltb i (length targets) within)
 
 -- the target at a rule's place
-pub place_cases : (targets : List Target) (rule : ℕ) (o : Option ℕ) → o ≡ place_of_rule targets rule → (i : ℕ) → o ≡ Some i → (target : Target) × (slice_get targets i ≡ Some target) × (target.symbol ≡ rule)
+pub place_cases : (targets : List Target) (rule : ℕ) (o : Option ℕ) → o ≡ place_of_symbol targets rule → (i : ℕ) → o ≡ Some i → (target : Target) × (slice_get targets i ≡ Some target) × (target.symbol ≡ rule)
 place_cases targets rule o is i some =
     let target = get_or targets i (record { symbol = 0; state = 0 }) in
     let (within, passes, first) = position-Some (is_for rule) targets i (record { symbol = 0; state = 0 }) (sym is ∙ some) in
@@ -86,21 +85,6 @@ target_found (t ∷ targets) symbol state is = go (t.symbol == symbol) refl is (
         let for : t.symbol ≡ symbol = (Decides-eqb t.symbol symbol).0 same in
         (0, ap Some (λ j. record { symbol = for j; state = to j }))
     go false apart at onwards = let (i, later) = onwards at in (suc i, later)
-
--- the first elements of a list, up to where something holds of none that come later
-module _ {A : Type 0} (xs : List A) (P : A → Type 0) (falls : (i j : ℕ) (a b : A) → i ≤ j → slice_get xs i ≡ Some a → slice_get xs j ≡ Some b → P b → P a) where
-  pub first_ones : (n : ℕ) → ((i : ℕ) (x : A) → i < n → slice_get xs i ≡ Some x → P x) → ((x : A) → slice_get xs n ≡ Some x → P x → ⊥)
-      → (i : ℕ) (x : A) → slice_get xs i ≡ Some x → P x ↔ (i < n)
-  first_ones n before after i x at = (
-    (λ holds. elim (cases_lt i n) [
-      | inl early ↦ early
-      | inr late ↦
-          let within = slice_get_within xs i x at in
-          let (y, there) = element_at xs n (omega (arith, late, within)) in
-          absurd (after y there (falls n i y x late there at holds))
-    ]),
-    (λ early. before i x early at),
-  )
 
 pub item_before : (items : List Item) → AreSorted items → (i j : ℕ) (a b : Item) → i < j → slice_get items i ≡ Some a → slice_get items j ≡ Some b → IsBefore a b
 item_before [] sorted i j a b less at there = absurd (cc)
@@ -120,53 +104,50 @@ read_falls items sorted i j a b most at there = elim (cases_lt i j) [
       omega (arith, reads)
 ]
 
-pub reads_first : (items : List Item) → AreSorted items → (n : ℕ) → ((i : ℕ) (item : Item) → i < n → slice_get items i ≡ Some item → 0 < item.read) → ((item : Item) → slice_get items n ≡ Some item → item.read ≡ 0)
-    → (i : ℕ) (item : Item) → slice_get items i ≡ Some item → (0 < item.read) ↔ (i < n)
-reads_first items sorted n before after = first_ones items (λ item. 0 < item.read)
-    (λ i j a b most at there some. let less = read_falls items sorted i j a b most at there in omega (arith, less, some)) n before
-    (λ item at some. let none = after item at in omega (arith, none, some))
-
-pub rules_first : (targets : List Target) → AreAscending targets → (rules n : ℕ) → ((i : ℕ) (target : Target) → i < n → slice_get targets i ≡ Some target → target.symbol < rules)
-    → ((target : Target) → slice_get targets n ≡ Some target → rules ≤ target.symbol) → (i : ℕ) (target : Target) → slice_get targets i ≡ Some target → (target.symbol < rules) ↔ (i < n)
-rules_first targets ascending rules n before after = first_ones targets (λ target. target.symbol < rules)
-    (λ i j a b most at there low. let less = symbol_rises targets ascending i j a b most at there in omega (arith, less, low)) n before
-    (λ target at low. let high = after target at in omega (arith, high, low))
-
--- one more element
-pub below_at : {A : Type 0} (P : A → Type 0) (xs : List A) (n : ℕ) (d : A) → n < length xs → ((i : ℕ) (x : A) → i < n → slice_get xs i ≡ Some x → P x) → P (get_or xs n d)
-    → (i : ℕ) (x : A) → i < n + 1 → slice_get xs i ≡ Some x → P x
-below_at P xs n d within before here i x low at = elim (cases_eq i n) [
-  | inl same ↦ subst P (get_or_from_slice_get xs n x d (subst (λ m. slice_get xs m ≡ Some x) same at)) here
-  | inr apart ↦ before i x (omega (arith, low, apart)) at
-]
+-- those with symbols read are the first ones
+pub reads_parted : (items : List Item) → AreSorted items → IsPartitionedBy (λ (item : Item). ltb 0 item.read) items
+reads_parted items sorted i j d most within some =
+    let less = read_falls items sorted i j (get_or items i d) (get_or items j d) most (slice_get-get_or items i d (omega (arith, most, within))) (slice_get-get_or items j d within) in
+    let more = ltb-true 0 (get_or items j d).read some in
+    lt-ltb 0 (get_or items i d).read (omega (arith, less, more))
 
 -- the place of the first target whose symbol isn't below a rule, by a binary search
-pub rule_found : (targets : List Target) → AreAscending targets → (rule place : ℕ) (d : Target) → place < length targets → (get_or targets place d).symbol ≡ rule → Some place ≡ place_of_rule targets rule
+pub rule_found : (targets : List Target) → AreAscending targets → (rule place : ℕ) (d : Target) → place < length targets → (get_or targets place d).symbol ≡ rule → Some place ≡ place_of_symbol targets rule
 rule_found targets ascending rule place d within is =
-    sym (subst (λ r. place_of_rule targets r ≡ Some place) is (rule_placed targets ascending place (get_or targets place d) (slice_get-get_or targets place d within)))
+    sym (subst (λ r. place_of_symbol targets r ≡ Some place) is (rule_placed targets ascending place (get_or targets place d) (slice_get-get_or targets place d within)))
 
-no_place : (targets : List Target) (rule : ℕ) → ((i : ℕ) (target : Target) → slice_get targets i ≡ Some target → target.symbol ≡ rule → ⊥) → None ≡ place_of_rule targets rule
-no_place targets rule none = go (place_of_rule targets rule) refl
+no_place : (targets : List Target) (rule : ℕ) → ((i : ℕ) (target : Target) → slice_get targets i ≡ Some target → target.symbol ≡ rule → ⊥) → None ≡ place_of_symbol targets rule
+no_place targets rule none = go (place_of_symbol targets rule) refl
   where
-    go : (o : Option ℕ) → o ≡ place_of_rule targets rule → None ≡ place_of_rule targets rule
+    go : (o : Option ℕ) → o ≡ place_of_symbol targets rule → None ≡ place_of_symbol targets rule
     go None e = e
     go (Some i) e = let (target, at, same) = place_cases targets rule (Some i) e i refl in absurd (none i target at same)
 
 pub rule_missing : (targets : List Target) → AreAscending targets → (rule place : ℕ) → IsPartitionPoint (λ (target : Target). ltb target.symbol rule ≡ true) (λ (target : Target). ltb target.symbol rule ≡ false) targets place
-    → (d : Target) → (place < length targets → (get_or targets place d).symbol ≡ rule → ⊥) → None ≡ place_of_rule targets rule
+    → (d : Target) → (place < length targets → (get_or targets place d).symbol ≡ rule → ⊥) → None ≡ place_of_symbol targets rule
 rule_missing targets ascending rule place point d none = no_place targets rule (symbol_missing targets ascending rule place point d none)
+
+-- the state of a target by its place
+pub state_placed : (targets : List Target) → AreAscending targets → (node : ℕ) (o : Option ℕ) (d : Target) → o ≡ place_of_symbol targets node
+    → option_map (λ i. (get_or targets i d).state) o ≡ target_of targets node
+state_placed targets ascending node (Some i) d is =
+    let (target, at, same) = place_cases targets node (Some i) is i refl in
+    ap (λ (t : Target). Some t.state) (get_or_from_slice_get targets i target d at)
+    ∙ sym (subst (λ m. target_of targets m ≡ Some target.state) same (target_state targets ascending i target at))
+state_placed targets ascending node None d is = go (target_of targets node) refl
+  where
+    go : (o : Option ℕ) → target_of targets node ≡ o → None ≡ target_of targets node
+    go None e = sym e
+    go (Some state) e =
+        let (i, at) = target_found targets node state e in
+        let placed = rule_placed targets ascending i (record { symbol = node; state = state }) at in
+        absurd (cc)
 
 before_decides : (a b : Item) → Decides (is_before a b) (IsBefore a b)
 before_decides a b = Decides-or _ _ (Decides-ltb b.read a.read) (Decides-and _ _ (Decides-eqb a.read b.read) (Decides-ltb a.production b.production))
 
 before_trans : (a b c : Item) → IsBefore a b → IsBefore b c → IsBefore a c
-before_trans a b c (inl less) (inl more) = inl (omega (arith, less, more))
-before_trans a b c (inl less) (inr same) = let reads = same.0 in inl (omega (arith, less, reads))
-before_trans a b c (inr same) (inl more) = let reads = same.0 in inl (omega (arith, more, reads))
-before_trans a b c (inr same) (inr equal) =
-    let (reads, less) = same in
-    let (again, more) = equal in
-    inr (omega (arith, reads, again), omega (arith, less, more))
+before_trans a b c one two = grind arith
 
 -- a binary search for an item
 module _ (items : List Item) (sorted : AreSorted items) (item : Item) where

@@ -119,22 +119,29 @@ module _ (g : Grammar) (Used : ℕ → Type 0) where
     first : prefix ≡ [] → rule ≡ 0 → IsSeedAt prefix rule
     next : (item : Item) → 0 < item.read → Valid prefix item → HasNext g item (Rule rule) → IsSeedAt prefix rule
 
+  -- the item in which the rule of a spine is next
+  pub spine_item : {before after : List Sym} {owner : ℕ} → Spine g Used before owner after → (p : ℕ) → Used p → (nth_production g p).rule ≡ owner → (read rest : List Sym) (rule : ℕ)
+      → symbols p ≡ read ++ Rule rule ∷ rest → Valid (before ++ read) (item_at p (length read)) × HasNext g (item_at p (length read)) (Rule rule)
+  spine_item {before} {after} spine p used own read rest rule split = (
+    record {
+      before = before;
+      after = after;
+      spine = subst (λ r. Spine g Used before r after) (sym own) spine;
+      used = used;
+      read = let long = ap length split in let parts = length-append read (Rule rule ∷ rest) in omega (arith, long, parts);
+      is = ap (λ l. before ++ l) (sym (ap (take (length read)) split ∙ take_at read (Rule rule ∷ rest) (length read) refl));
+    },
+    ap (λ l. slice_get l (length read)) split ∙ slice_at read rest (Rule rule),
+  )
+
   spine_reached : {prefix after : List Sym} {rule : ℕ} → Spine g Used prefix rule after → Reachable (IsSeedAt prefix) (Enters g Used) rule
   spine_reached start = seed (first refl refl)
   spine_reached (inner {before} {after} {owner} spine p used own [] rest rule split) =
       subst (λ l. Reachable (IsSeedAt l) (Enters g Used) rule) (sym (append-nil before))
       (led (spine_reached spine) (record { index = p; used = used; owner = own; begins = ap (λ l. slice_get l 0) split }))
-  spine_reached (inner {before} {after} {owner} spine p used own (x ∷ read) rest rule split) =
-      seed (next (item_at p (length (x ∷ read))) (omega arith)
-      (record {
-        before = before;
-        after = after;
-        spine = subst (λ r. Spine g Used before r after) (sym own) spine;
-        used = used;
-        read = let long = ap length split in let parts = length-append (x ∷ read) (Rule rule ∷ rest) in omega (arith, long, parts);
-        is = ap (λ l. before ++ l) (sym (ap (take (length (x ∷ read))) split ∙ take_at (x ∷ read) (Rule rule ∷ rest) (length (x ∷ read)) refl));
-      })
-      (ap (λ l. slice_get l (length (x ∷ read))) split ∙ slice_at (x ∷ read) rest (Rule rule)))
+  spine_reached (inner spine p used own (x ∷ read) rest rule split) =
+      let (valid, at) = spine_item spine p used own (x ∷ read) rest rule split in
+      seed (next (item_at p (length (x ∷ read))) (omega arith) valid at)
 
   -- a rule is opened exactly if it is reached from these
   pub opened_reached : (prefix : List Sym) (rule : ℕ) → IsOpened prefix rule → Reachable (IsSeedAt prefix) (Enters g Used) rule

@@ -4,32 +4,17 @@ use Rattle.std.specs.List.{flat_map}
 use Rattle.std.proofs.lemmas.Bool.{cases_Bool}
 use Rattle.std.proofs.lemmas.Bool.Decides.{Decides-eqb}
 use Rattle.std.proofs.lemmas.List.{flat_map_more, get_or-map, take_more}
-use Rattle.std.proofs.lemmas.List.Elements.{Contains-append_cases, Contains-append_left, Contains-append_right}
 use Rattle.std.proofs.lemmas.Option.{get_or_from_slice_get, slice_get_within}
 use Rattle.cfgrammar.specs.Grammar.{Grammar, Production, Sym}
 use Rattle.cfgrammar.specs.Numbered.{Numbered, NumberedProduction, core, production_core}
 use Rattle.cfgrammar.specs.WellNumbered.{IsWellNumbered}
 use Rattle.cfgrammar.proofs.Elements.{element_at}
 use Rattle.cfgrammar.specs.Openings.{nth_production}
-use Rattle.cfgrammar.proofs.Contained.{contains_cases, contains_first, contains_later, contains_none, contains_one}
+use Rattle.cfgrammar.proofs.Contained.{contains_first, contains_none, contains_one}
+use Rattle.cfgrammar.proofs.Joins.{flat_contains, flat_source}
 use Rattle.lr_states.specs.declared.Item.{Item}
 use Rattle.lr_states.specs.Inner.Closure.{AreAdvanced, IsAdvanced, node_of, step_at, step_of}
 use Rattle.lr_states.specs.Viable.{AreSorted, HasNext, IsBefore, item_at}
-
-module _ {A B : Type 0} (f : A → List B) where
-  pub contains_flat : (xs : List A) (y : B) → Contains (flat_map f xs) y → (x : A) × Contains xs x × Contains (f x) y
-  contains_flat [] y h = absurd (contains_none y h)
-  contains_flat (x ∷ xs) y h = elim (Contains-append_cases (f x) (flat_map f xs) y h) [
-    | inl here ↦ (x, contains_first x xs, here)
-    | inr later ↦ let (z, among, gives) = contains_flat xs y later in (z, contains_later x z xs among, gives)
-  ]
-
-  pub flat_contains : (xs : List A) (x : A) (y : B) → Contains xs x → Contains (f x) y → Contains (flat_map f xs) y
-  flat_contains [] x y h gives = absurd (contains_none x h)
-  flat_contains (z ∷ xs) x y h gives = elim (contains_cases z x xs h) [
-    | inl same ↦ Contains-append_left (f z) (flat_map f xs) y (subst (λ w. Contains (f w) y) (sym same) gives)
-    | inr later ↦ Contains-append_right (f z) (flat_map f xs) y (flat_contains xs x y later gives)
-  ]
 
 module _ (g : Grammar) (node : ℕ) where
   -- the item after this symbol is read, if the symbol has this number
@@ -70,7 +55,7 @@ module _ (g : Grammar) (node : ℕ) where
 
   advanced_by : (items : List Item) (new : Item) → Contains (flat_map (step_of g node) items) new → IsAdvanced g items node new
   advanced_by items new h =
-      let (item, among, gives) = contains_flat (step_of g node) items new h in
+      let (item, among, gives) = flat_source (step_of g node) items new h in
       let s = step_contained item new gives in
       let production : new.production ≡ item.production = ap (λ (x : Item). x.production) s.is in
       record {
@@ -98,7 +83,7 @@ module _ (g : Grammar) (node : ℕ) where
   steps_sorted (x ∷ xs) sorted = elim (step_cases x) [
     | inl one ↦ subst (λ l. AreSorted (l ++ flat_map (step_of g node) xs)) (sym one.1) (
       (λ y h.
-          let (item, among, gives) = contains_flat (step_of g node) xs y h in
+          let (item, among, gives) = flat_source (step_of g node) xs y h in
           subst (IsBefore (after x)) (sym (step_contained item y gives).is) (before_after x item (sorted.0 item among))),
       steps_sorted xs sorted.1,
     )

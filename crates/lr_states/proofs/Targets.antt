@@ -1,5 +1,5 @@
 -- Targets in ascending order, and a binary search among them.
-use Rattle.std.proofs.Common.{◌≡◌, ◌==◌, inl, inr, ℕ, zero, suc, ◌+◌, ◌<◌, ◌≤◌, Bool, true, false, cond, List, [], ◌∷◌, Option, None, Some, All, get_or, length, map, slice_get, refl, sym, ap, subst, ◌∙◌, arith, ltb, lt-ltb, true≢false}
+use Rattle.std.proofs.Common.{◌≡◌, ◌==◌, ◌↔◌, inl, inr, ℕ, zero, suc, ◌<◌, ◌≤◌, Bool, true, false, cond, List, [], ◌∷◌, Some, All, get_or, length, map, slice_get, sym, ap, subst, ◌∙◌, arith, ltb, lt-ltb, true≢false}
 use Rattle.std.specs.List.Sorted.{IsPartitionPoint, IsPartitionedBy}
 use Rattle.std.proofs.lemmas.Bool.{cases_Bool, cases_lt, ltb-true}
 use Rattle.std.proofs.lemmas.Bool.Decides.{Decides-eqb}
@@ -38,21 +38,17 @@ target_state (t ∷ targets) ascending (suc i) target at =
     ap (λ b. cond b (Some t.state) (target_of targets target.symbol)) (not_same t.symbol target.symbol (ascending.0 target (contains_there targets i target at)))
     ∙ target_state targets ascending.1 i target at
 
--- the target that a binary search finds
-pub state_found : (targets : List Target) → AreAscending targets → (node place : ℕ) (d : Target) → place < length targets → (get_or targets place d).symbol ≡ node
-    → Some (get_or targets place d).state ≡ target_of targets node
-state_found targets ascending node place d within is =
-    sym (subst (λ r. target_of targets r ≡ Some (get_or targets place d).state) is
-    (target_state targets ascending place (get_or targets place d) (slice_get-get_or targets place d within)))
-
-no_target : (targets : List Target) (node : ℕ) → ((i : ℕ) (target : Target) → slice_get targets i ≡ Some target → target.symbol ≡ node → ⊥) → None ≡ target_of targets node
-no_target [] node none = refl
-no_target (t ∷ targets) node none =
-    let apart : (t.symbol == node) ≡ false = elim (cases_Bool (t.symbol == node)) [
-      | inl same ↦ absurd (none 0 t refl ((Decides-eqb t.symbol node).0 same))
-      | inr apart ↦ apart
-    ] in
-    no_target targets node (λ i. none (suc i)) ∙ ap (λ b. cond b (Some t.state) (target_of targets node)) (sym apart)
+-- an element passes exactly if it comes before the point up to which they do
+pub first_passes : {A : Type 0} (test : A → Bool) (xs : List A) (n : ℕ) → IsPartitionPoint (λ x. test x ≡ true) (λ x. test x ≡ false) xs n
+    → (i : ℕ) (x : A) → slice_get xs i ≡ Some x → (test x ≡ true) ↔ (i < n)
+first_passes test xs n (low, high) i x at =
+    let read = get_or_from_slice_get xs i x x at in (
+      (λ passes. elim (cases_lt i n) [
+        | inl early ↦ early
+        | inr late ↦ absurd (true≢false (sym (ap test read ∙ passes) ∙ high i x late (slice_get_within xs i x at)))
+      ]),
+      (λ early. ap test (sym read) ∙ low i x (omega arith) early),
+    )
 
 pub targets_parted : (targets : List Target) → AreAscending targets → (node : ℕ) → IsPartitionedBy (λ (target : Target). ltb target.symbol node) targets
 targets_parted targets ascending node i j d most within low =
@@ -80,11 +76,6 @@ symbol_missing targets ascending node place (low, high) d none i target at same 
   where
     ge-from-ltb : (a b : ℕ) → ltb a b ≡ false → b ≤ a
     ge-from-ltb a b e = elim (cases_lt a b) [ inl less ↦ absurd (true≢false (sym (lt-ltb a b less) ∙ e)) | inr most ↦ most ]
-
-pub state_missing : (targets : List Target) → AreAscending targets → (node place : ℕ)
-    → IsPartitionPoint (λ (target : Target). ltb target.symbol node ≡ true) (λ (target : Target). ltb target.symbol node ≡ false) targets place
-    → (d : Target) → (place < length targets → (get_or targets place d).symbol ≡ node → ⊥) → None ≡ target_of targets node
-state_missing targets ascending node place point d none = no_target targets node (symbol_missing targets ascending node place point d none)
 
 -- the targets of all states are ascending, if those of each state are
 pub all_ascending : (g : Grammar) (rules : ℕ) (visited : List Visited)

@@ -1,8 +1,10 @@
 -- Bits that are turned on, one node after another.
-use Rattle.std.proofs.Common.{◌≡◌, ℕ, ◌+◌, ◌<◌, ◌≤◌, ◌↔◌, ◌⊎◌, inl, inr, Bool, true, List, [], All, Contains, get_or, length, slice_index, slice_set, take, arith, refl, sym, ap, ◌∙◌, subst, length-set}
+use Rattle.std.proofs.Common.{◌≡◌, ℕ, ◌+◌, ◌<◌, ◌≤◌, ◌↔◌, ◌⊎◌, inl, inr, Bool, true, false, List, [], All, Contains, get_or, length, slice_index, slice_set, take, arith, refl, sym, ap, ◌∙◌, subst, length-set, true≢false}
 use Rattle.std.proofs.lemmas.List.{get_or_default, take_all}
 use Rattle.std.proofs.lemmas.List.Elements.{Contains-get_or}
+use Rattle.lemmas.proofs.Adding.{adds_as, adds_then}
 use Rattle.cfgrammar.proofs.Contained.{contains_none}
+use Rattle.cfgrammar.proofs.Elements.{within_from_get_or}
 use Rattle.cfgrammar.proofs.Taken.{contains_taken}
 use Rattle.cfgindex.proofs.Bits.{length-union, union, union_adds}
 use Rattle.search.specs.Reachable.{FoundBy}
@@ -11,9 +13,13 @@ use Rattle.lr_states.specs.Inner.Reached.{AreWithin, IsInRow, IsOn, TurnsOn}
 
 -- nothing new was found
 pub turns_nothing : (Found : ℕ → Type 0) (row : List Bool) → ((t : ℕ) → t < length row → Found t → IsOn row t) → TurnsOn Found row row
-turns_nothing Found row known = record {
-  bits = refl;
-  each = λ t lt. (λ h. inl h, λ h. elim h [ inl on ↦ on | inr found ↦ known t lt found ]);
+turns_nothing Found row known = record { bits = refl; each = λ t. (λ h. inl h, λ h. elim h [ inl on ↦ on | inr found ↦ known t found.0 found.1 ]) }
+
+-- what was found, described differently
+turns_as : (Found Found' : ℕ → Type 0) (old new : List Bool) → ((t : ℕ) → Found t → Found' t) → ((t : ℕ) → Found' t → Found t) → TurnsOn Found old new → TurnsOn Found' old new
+turns_as Found Found' old new to from w = record {
+  bits = w.bits;
+  each = adds_as (λ t. (t < length old) × Found' t) (λ t k. inr (k.0, to t k.1)) (λ t k. inr (k.0, from t k.1)) w.each;
 }
 
 pub turns_none : (Finds : ℕ → ℕ → Type 0) (row : List Bool) → TurnsOn (FoundBy Finds []) row row
@@ -22,45 +28,26 @@ turns_none Finds row = turns_nothing _ row (λ t lt found. absurd (contains_none
 pub turns_then : (Found Found' : ℕ → Type 0) (old mid new : List Bool) → TurnsOn Found old mid → TurnsOn Found' mid new → TurnsOn (λ t. Found t ⊎ Found' t) old new
 turns_then Found Found' old mid new w v = record {
   bits = v.bits ∙ w.bits;
-  each = λ t lt. let inside : t < length mid = omega (arith, lt, w.bits) in (
-    (λ h. elim ((v.each t inside).0 h) [
-      | inl on ↦ elim ((w.each t lt).0 on) [ inl was ↦ inl was | inr found ↦ inr (inl found) ]
-      | inr found ↦ inr (inr found)
-    ]),
-    (λ h. elim h [
-      | inl was ↦ (v.each t inside).1 (inl ((w.each t lt).1 (inl was)))
-      | inr found ↦ elim found [
-        | inl first ↦ (v.each t inside).1 (inl ((w.each t lt).1 (inr first)))
-        | inr second ↦ (v.each t inside).1 (inr second)
-      ]
-    ]),
-  );
+  each = adds_as (λ t. (t < length old) × (Found t ⊎ Found' t))
+      (λ t h. elim h [ inl k ↦ inr (k.0, inl k.1) | inr k ↦ let low = k.0 in inr (omega (arith, low, w.bits), inr k.1) ])
+      (λ t k. let low = k.0 in elim k.1 [ inl f ↦ inr (inl (low, f)) | inr f ↦ inr (inr (omega (arith, low, w.bits), f)) ])
+      (adds_then w.each v.each);
 }
 
 module _ (Finds : ℕ → ℕ → Type 0) (things : List ℕ) where
   -- and what the next one finds
   pub turns_more : (i : ℕ) (old mid new : List Bool) → i < length things → TurnsOn (FoundBy Finds (take i things)) old mid
       → TurnsOn (Finds (slice_index things i)) mid new → TurnsOn (FoundBy Finds (take (i + 1) things)) old new
-  turns_more i old mid new lt w v =
-      let both = turns_then _ _ old mid new w v in record {
-        bits = both.bits;
-        each = λ t h. (
-          (λ on. elim ((both.each t h).0 on) [
-            | inl was ↦ inl was
-            | inr found ↦ inr (elim found [
-              | inl f ↦ record { thing = f.thing; among = (taken f.thing).1 (inl f.among); finds = f.finds }
-              | inr f ↦ record { thing = slice_index things i; among = (taken (slice_index things i)).1 (inr refl); finds = f }
-            ])
-          ]),
-          (λ on. (both.each t h).1 (elim on [
-            | inl was ↦ inl was
-            | inr f ↦ inr (elim ((taken f.thing).0 f.among) [
-              | inl among ↦ inl (record { thing = f.thing; among = among; finds = f.finds })
-              | inr this ↦ inr (subst (λ n. Finds n t) this f.finds)
-            ])
-          ])),
-        );
-      }
+  turns_more i old mid new lt w v = turns_as _ (FoundBy Finds (take (i + 1) things)) old new
+      (λ t h. elim h [
+        | inl f ↦ record { thing = f.thing; among = (taken f.thing).1 (inl f.among); finds = f.finds }
+        | inr f ↦ record { thing = slice_index things i; among = (taken (slice_index things i)).1 (inr refl); finds = f }
+      ])
+      (λ t f. elim ((taken f.thing).0 f.among) [
+        | inl among ↦ inl (record { thing = f.thing; among = among; finds = f.finds })
+        | inr this ↦ inr (subst (λ n. Finds n t) this f.finds)
+      ])
+      (turns_then (FoundBy Finds (take i things)) (Finds (slice_index things i)) old mid new w v)
     where
       taken : (n : ℕ) → Contains (take (i + 1) things) n ↔ (Contains (take i things) n ⊎ (n ≡ slice_index things i))
       taken = contains_taken things i (slice_index things i) lt (get_or_default things i 0 (slice_index things i) lt)
@@ -72,9 +59,9 @@ module _ (Finds : ℕ → ℕ → Type 0) (things : List ℕ) where
 pub turns_own : (row : List Bool) (node : ℕ) → node < length row → TurnsOn (λ t. node ≡ t) row (slice_set row node true)
 turns_own row node lt = record {
   bits = length-set row node true;
-  each = λ t h. (
-    (λ on. elim ((bit_put row node lt t).0 on) [ inl was ↦ inl was | inr this ↦ inr (sym this) ]),
-    (λ on. (bit_put row node lt t).1 (elim on [ inl was ↦ inl was | inr this ↦ inr (sym this) ])),
+  each = λ t. (
+    (λ on. elim ((bit_put row node lt t).0 on) [ inl was ↦ inl was | inr this ↦ inr (omega (arith, this, lt), sym this) ]),
+    (λ on. (bit_put row node lt t).1 (elim on [ inl was ↦ inl was | inr this ↦ inr (sym this.1) ])),
   );
 }
 
@@ -87,12 +74,14 @@ module _ (numbers : List ℕ) (rows : List (List Bool)) (node : ℕ) where
       → length row ≡ length other → TurnsOn (IsInRow numbers rows node) row (union row other)
   turns_row row other lt is same = record {
     bits = length-union row other same;
-    each = λ t h. (
+    each = λ t. (
       (λ on. elim ((union_adds row other same t).0 on) [
         | inl was ↦ inl was
-        | inr new ↦ inr (record { earlier = lt; on = subst (λ l. IsOn l t) is new })
+        | inr new ↦
+            let low = within_from_get_or other t false (λ off. true≢false (sym new ∙ off)) in
+            inr (omega (arith, low, same), record { earlier = lt; on = subst (λ l. IsOn l t) is new })
       ]),
-      (λ on. (union_adds row other same t).1 (elim on [ inl was ↦ inl was | inr new ↦ inr (subst (λ l. IsOn l t) (sym is) new.on) ])),
+      (λ on. (union_adds row other same t).1 (elim on [ inl was ↦ inl was | inr new ↦ inr (subst (λ l. IsOn l t) (sym is) new.1.on) ])),
     );
   }
 

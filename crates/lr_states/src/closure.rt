@@ -8,7 +8,7 @@ ghost use Rattle.cfgrammar.specs.Numbered.{core};
 ghost use Rattle.cfgrammar.specs.Openings.{nth_production};
 ghost use Rattle.search.specs.Reachable.{Reaches};
 ghost use Rattle.lr_states.specs.Inner.Closure.{AddsTo, Begins, Enters, IsClosure, IsEntered, IsIn, IsOn, IsSeed};
-ghost use Rattle.lr_states.specs.Viable.{HasNext, IsViable, item_at};
+ghost use Rattle.lr_states.specs.Viable.{HasNext, IsUsed, IsViable, item_at};
 ghost use Rattle.lr_states.specs.declared.Item.{Item};
 
 use crate::Item;
@@ -59,7 +59,7 @@ impl<'a> Used<'a> {
         entered: &mut BTreeSet<usize>,
         rule: usize,
     ) -> Result<(), AllocError>
-        requires used { (p : ℕ) → IsOn self.now.bits p → p < length self.now.grammar.now.productions }
+        requires used { (p : ℕ) → IsOn self.now.bits p ↔ IsUsed (core self.now.grammar.now) p }
         requires rule { rule < length self.now.grammar.now.rules }
         requires nodes { length search.old.reachable ≡ length self.now.grammar.now.rules }
         ensures reaches { OnOk result (Reaches (Enters (core self.now.grammar.now) (IsOn self.now.bits) rule)
@@ -75,11 +75,11 @@ impl<'a> Used<'a> {
 
     /// The used productions that a state with these items has with nothing read.
     fn entered(&self, alloc: Global, kernel: &[Item]) -> Result<BTreeSet<usize>, AllocError>
-        requires used { (p : ℕ) → IsOn self.now.bits p → p < length self.now.grammar.now.productions }
+        requires used { (p : ℕ) → IsOn self.now.bits p ↔ IsUsed (core self.now.grammar.now) p }
         requires within { (item : Item) → Contains kernel.now item
             → item.production < length self.now.grammar.now.productions }
         ensures { IfOk result (λ entered. (p : ℕ) → IsIn entered p
-            ↔ IsEntered (core self.now.grammar.now) (IsOn self.now.bits) kernel.now (item_at p 0)) }
+            ↔ IsEntered (core self.now.grammar.now) (IsUsed (core self.now.grammar.now)) kernel.now (item_at p 0)) }
     {
         let mut entered = BTreeSet::new(alloc);
         let mut search = Search::through(alloc, usize::from(self.grammar.rules_len()))?;
@@ -92,10 +92,10 @@ impl<'a> Used<'a> {
 
     /// All items of a state, by those that have symbols read. Those come first, and then used productions in order.
     pub(crate) fn closure(&self, alloc: Global, kernel: &[Item]) -> Result<Vec<Item>, AllocError>
-        requires used { (p : ℕ) → IsOn self.now.bits p → p < length self.now.grammar.now.productions }
+        requires used { (p : ℕ) → IsOn self.now.bits p ↔ IsUsed (core self.now.grammar.now) p }
         requires within { (item : Item) → Contains kernel.now item
             → item.production < length self.now.grammar.now.productions }
-        ensures { IfOk result (λ items. IsClosure (core self.now.grammar.now) (IsOn self.now.bits)
+        ensures { IfOk result (λ items. IsClosure (core self.now.grammar.now) (IsUsed (core self.now.grammar.now))
             kernel.now items.items) }
     {
         let mut items = kernel.to_vec(alloc)?;
@@ -109,9 +109,9 @@ impl<'a> Used<'a> {
 
     /// Whether the empty prefix is viable.
     pub(crate) fn is_viable(&self, alloc: Global) -> Result<bool, AllocError>
-        requires { (p : ℕ) → IsOn self.now.bits p → p < length self.now.grammar.now.productions }
+        requires { (p : ℕ) → IsOn self.now.bits p ↔ IsUsed (core self.now.grammar.now) p }
         ensures { IfOk result (λ viable. IsTrue viable
-            ↔ IsViable (core self.now.grammar.now) (IsOn self.now.bits) []) }
+            ↔ IsViable (core self.now.grammar.now) (IsUsed (core self.now.grammar.now)) []) }
     {
         let none = Vec::new(alloc);
         Ok(!self.closure(alloc, &none)?.is_empty())

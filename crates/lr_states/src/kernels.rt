@@ -1,13 +1,14 @@
 //! Kernels, each of which has a number: the items of a state that have symbols read.
 
-ghost use Rattle.std.specs.Prelude.{◌≡◌, ◌<◌, ℕ, [], Contains, IfOk, MatchOption, OnOk, get_or, length, map};
+ghost use Rattle.std.specs.Prelude.{◌≡◌, ◌↔◌, ◌<◌, ℕ, [], Contains, IfOk, MatchOption, OnOk, get_or, length, map};
 ghost use Rattle.std.specs.List.Sorted.{IsNonDecreasingBy};
 ghost use Rattle.cfgrammar.specs.Numbered.{core};
 ghost use Rattle.lr_states.specs.Inner.Closure.{IsClosure, IsOn, items_after};
-ghost use Rattle.lr_states.specs.Inner.Kernels.{Adds, AreTargets, IsAmong, IsOne};
+ghost use Rattle.lr_states.specs.Inner.Kernels.{Adds, AreTargets, IsAmong, IsOne, automaton_of};
 ghost use Rattle.lr_states.specs.Inner.Steps.{IsFirstGroup, items_by, items_of};
-ghost use Rattle.lr_states.specs.Automaton.{AreGotos, HaveTargets};
-ghost use Rattle.lr_states.specs.Viable.{AreStates, IsViable};
+ghost use Rattle.lr_states.specs.Inner.Numbers.{place_of_symbol};
+ghost use Rattle.lr_states.specs.Automaton.{AreAscending, AreGotos, HaveTargets};
+ghost use Rattle.lr_states.specs.Viable.{AreStates, IsUsed};
 ghost use Rattle.lr_states.specs.declared.Item.{Item};
 
 use crate::Item;
@@ -28,6 +29,19 @@ pub struct Target {
     pub state: usize,
 }
 
+/// The index of the target for the symbol with this number.
+pub(crate) fn place_of_symbol(targets: &[Target], symbol: usize) -> Option<usize>
+    requires { AreAscending targets.now }
+    ensures { result ≡ place_of_symbol targets.now symbol }
+{
+    let place = targets.partition_point(|target| target.symbol < symbol);
+    if place < targets.len() && targets[place].symbol == symbol {
+        Some(place)
+    } else {
+        None
+    }
+}
+
 /// The items of a state, and the states that symbols lead to from it.
 #[derive(Drop)]
 pub(crate) struct Visited {
@@ -35,28 +49,25 @@ pub(crate) struct Visited {
     pub(crate) targets: Vec<Target>,
 }
 
-/// The states of all viable prefixes, if there is one.
+/// The states of all viable prefixes.
 ///
 /// # Errors
 ///
 /// Out of memory.
 pub(crate) fn explore(alloc: Global, used: &Used<'_>) -> Result<Vec<Visited>, AllocError>
-    requires used { (p : ℕ) → IsOn used.now.bits p → p < length used.now.grammar.now.productions }
-    requires viable { IsViable (core used.now.grammar.now) (IsOn used.now.bits) [] }
-    ensures states { IfOk result (λ states. AreStates (core used.now.grammar.now) (IsOn used.now.bits)
+    requires used { (p : ℕ) → IsOn used.now.bits p ↔ IsUsed (core used.now.grammar.now) p }
+    ensures states { IfOk result (λ states. AreStates (core used.now.grammar.now) (IsUsed (core used.now.grammar.now))
         (map (λ v. v.items.items) states.items)) }
-    ensures gotos { IfOk result (λ states. AreGotos (core used.now.grammar.now) (IsOn used.now.bits) (record {
-      rules = length used.now.grammar.now.rules;
-      states = map (λ v. v.items.items) states.items;
-      targets = map (λ v. v.targets.items) states.items;
-    })) }
-    ensures targets { IfOk result (λ states. HaveTargets (core used.now.grammar.now) (record {
-      rules = length used.now.grammar.now.rules;
-      states = map (λ v. v.items.items) states.items;
-      targets = map (λ v. v.targets.items) states.items;
-    })) }
+    ensures gotos { IfOk result (λ states. AreGotos (core used.now.grammar.now) (IsUsed (core used.now.grammar.now))
+        (automaton_of (length used.now.grammar.now.rules) states.items)) }
+    ensures targets { IfOk result (λ states. HaveTargets (core used.now.grammar.now)
+        (automaton_of (length used.now.grammar.now.rules) states.items)) }
 {
     used.grammar.invariant_holds();
+    let viable = used.is_viable(alloc)?;
+    if !viable {
+        return Ok(Vec::new(alloc));
+    }
     let mut kernels = IndexSet::new(alloc);
     kernels.insert(Vec::new(alloc))?;
     let mut states = Vec::new(alloc);
@@ -78,10 +89,10 @@ fn visit(
     number: usize,
 ) -> Result<Visited, AllocError>
     requires number { number < length kernels.old.keys }
-    requires used { (p : ℕ) → IsOn used.now.bits p → p < length used.now.grammar.now.productions }
+    requires used { (p : ℕ) → IsOn used.now.bits p ↔ IsUsed (core used.now.grammar.now) p }
     requires within { (item : Item) → Contains (get_or (map (λ key. key.items) kernels.old.keys) number []) item
         → item.production < length used.now.grammar.now.productions }
-    ensures closure { IfOk result (λ v. IsClosure (core used.now.grammar.now) (IsOn used.now.bits)
+    ensures closure { IfOk result (λ v. IsClosure (core used.now.grammar.now) (IsUsed (core used.now.grammar.now))
         (get_or (map (λ key. key.items) kernels.old.keys) number []) v.items.items) }
     ensures adds { IfOk result (λ v. Adds (IsAmong (items_after (core used.now.grammar.now) v.items.items))
         (map (λ key. key.items) kernels.old.keys) (map (λ key. key.items) kernels.new.keys)) }

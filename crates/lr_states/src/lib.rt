@@ -16,7 +16,7 @@ ghost use Rattle.lr_states.specs.Automaton.{AreAscending, AreGotos, HaveTargets,
 ghost use Rattle.lr_states.specs.Viable.{AreStates, IsUsed};
 
 use crate::closure::Used;
-use crate::kernels::{Visited, explore};
+use crate::kernels::{Visited, explore, place_of_symbol};
 use cfgrammar::yacc::YaccGrammar;
 use cfgrammar::{RIdx, Storage, Symbol};
 pub use kernels::Target;
@@ -71,11 +71,7 @@ impl States {
             grammar,
             bits: used_productions(alloc, grammar)?,
         };
-        let visited = if used.is_viable(alloc)? {
-            explore(alloc, &used)?
-        } else {
-            Vec::new(alloc)
-        };
+        let visited = explore(alloc, &used)?;
         Ok(States {
             rules: grammar.rules_len(),
             visited,
@@ -124,10 +120,8 @@ fn target_of(targets: &[Target], node: usize) -> Option<usize>
     requires { AreAscending targets.now }
     ensures { result ≡ target_of targets.now node }
 {
-    let place = targets.partition_point(|target| target.symbol < node);
-    if place < targets.len() && targets[place].symbol == node {
-        Some(targets[place].state)
-    } else {
-        None
+    match place_of_symbol(targets, node) {
+        Some(place) => Some(targets[place].state),
+        None => None,
     }
 }

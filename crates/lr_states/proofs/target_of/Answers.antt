@@ -1,24 +1,15 @@
-use Rattle.std.proofs.Common.{◌≡◌, ◌<◌, arith, get_or, length, ltb, rules}
-use Rattle.std.proofs.lemmas.List.Sorted.{IsPartitionPoint-from_clause}
-use Rattle.lr_states.specs.declared.kernels.Target.{Target}
-use Rattle.lr_states.proofs.Targets.{state_found, state_missing, targets_parted}
+use Rattle.std.proofs.Common.{Some, None, refl}
+use Rattle.std.proofs.lemmas.Option.{slice_get_within}
+use Rattle.lr_states.proofs.Places.{place_cases, state_placed}
 use Rattle.lr_states.proofs.target_of.Goals as goal
-use Rattle.lr_states.proofs.target_of.Goals.{else-place-targets-via-then-place-targets+else-targets-place, else-place-targets-via-else-place-targets}
 
-abbrev nothing : Target
-nothing = record { symbol = 0; state = 0 }
+pub bounds-targets-place : goal.bounds-targets-place
+bounds-targets-place c =
+    let (target, at, same) = place_cases c.args.targets.now c.args.node (Some c.in-Some.place) c.in-Some.ensures c.in-Some.place refl in
+    slice_get_within c.args.targets.now c.in-Some.place target at
 
-pub returns-then-targets-place : goal.returns-then-targets-place
-returns-then-targets-place c = state_found c.args.targets.now c.requires c.args.node c.partition_point-place.result nothing c.if-place-targets.true c.if-targets-place.true
+pub returns-in-Some : goal.returns-in-Some
+returns-in-Some c = state_placed c.args.targets.now c.requires c.args.node (Some c.in-Some.place) _ c.in-Some.ensures
 
-pub returns-else-place-targets : goal.returns-else-place-targets
-returns-else-place-targets c =
-    let all = c.args.targets.now in
-    let place = c.partition_point-place.result in
-    let point = IsPartitionPoint-from_clause (λ (target : Target). ltb target.symbol c.args.node) _ _ c.partition_point-place.ensures.partitioned (targets_parted all c.requires c.args.node)
-    (λ a r q k. search rules) in
-    let none : place < length all → (get_or all place nothing).symbol ≡ c.args.node → ⊥ = elim c.else-place-targets.branch [
-      | else-place-targets-via-then-place-targets+else-targets-place w ↦ λ within. w.if-targets-place.false
-      | else-place-targets-via-else-place-targets w ↦ λ within same. let past = w.if-place-targets.false in omega (arith, within, past)
-    ] in
-    state_missing all c.requires c.args.node place point nothing none
+pub returns-in-None : goal.returns-in-None
+returns-in-None c = state_placed c.args.targets.now c.requires c.args.node None (record { symbol = 0; state = 0 }) c.in-None.ensures

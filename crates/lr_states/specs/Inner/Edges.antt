@@ -3,15 +3,17 @@ use Rattle.std.specs.Prelude.{◌≡◌, ◌↔◌, ◌⊎◌, ◌<◌, ◌≤�
 use Rattle.cfgrammar.specs.Grammar.{Grammar, Sym}
 use Rattle.cfgrammar.specs.Derivation.{Derives}
 use Rattle.cfgrammar.specs.Firsts.{AreFirsts, FirstSets}
+use Rattle.cfgrammar.specs.Numbered.{core}
 use Rattle.cfgrammar.specs.Openings.{nth_production}
 use Rattle.lr_states.specs.declared.Item.{Item}
 use Rattle.lr_states.specs.declared.kernels.Target.{Target}
+use Rattle.lr_states.specs.declared.lookaheads.edges.Graph.{Graph}
 use Rattle.lr_states.specs.Automaton.{Automaton}
 use Rattle.lr_states.specs.Viable.{HasNext, IsUsed, item_at}
 use Rattle.lr_states.specs.Lookaheads.{HasUsed}
 use Rattle.lr_states.specs.Inner.Graph.{item_after, next, unread_of}
 use Rattle.lr_states.specs.Inner.Reached.{Leads}
-use Rattle.lr_states.specs.Inner.Numbers.{AreReady, Numbers, block_of, item_number, number, rest_number, shown_number}
+use Rattle.lr_states.specs.Inner.Numbers.{AreReady, Numbers, block_of, item_number, number, numbers_of, rest_number, shown_number}
 
 -- these edges are there too now, and nothing else changed
 pub record AddsEdges (Found : ℕ → ℕ → Type 0) (old new : List (List ℕ)) : Type 0 where
@@ -104,3 +106,13 @@ pub record IsGraph (g : Grammar) (x : Automaton) (n : Numbers) (sets : FirstSets
   pub firsts : AreFirsts g sets
   pub nullable_from : AreNullableFrom g from
   pub used : (p : ℕ) → IsTrue (slice_index_or bits p false) ↔ IsUsed g p
+
+-- what is said of a grammar, of its used productions, and of numbers and states, where edges are made from these
+abbrev pub in_graph : {A : Type 1} → ((g : Grammar) → (ℕ → Type 0) → Numbers → Automaton → A) → Graph → A
+in_graph says x = says (core x.grammar.now) (IsUsed (core x.grammar.now)) (numbers_of x.nodes.now) x.states.now
+
+abbrev pub rule_in : Graph → ℕ → ℕ → Target → Option ℕ
+rule_in x = rule_at (core x.grammar.now) (IsUsed (core x.grammar.now)) (numbers_of x.nodes.now) x.states.now
+
+abbrev pub IsMadeFrom : Graph → Type 0
+IsMadeFrom x = IsGraph (core x.grammar.now) x.states.now (numbers_of x.nodes.now) x.firsts.now x.nullable_from.now x.used.now

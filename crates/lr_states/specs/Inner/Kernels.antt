@@ -1,17 +1,17 @@
 -- Lists of items that are added to others, each if it isn't there.
-use Rattle.std.specs.Prelude.{◌≡◌, ◌<◌, ◌≤◌, ℕ, List, [], Contains, get_or, length}
+use Rattle.std.specs.Prelude.{◌≡◌, ◌<◌, ◌≤◌, ℕ, List, [], Contains, get_or, length, map}
 use Rattle.cfgrammar.specs.Grammar.{Grammar}
-use Rattle.lr_states.specs.Automaton.{AreAscending}
+use Rattle.lr_states.specs.Automaton.{AreAscending, Automaton}
 use Rattle.lr_states.specs.Inner.Closure.{items_after}
 use Rattle.lr_states.specs.declared.Item.{Item}
 use Rattle.lr_states.specs.declared.kernels.Target.{Target}
+use Rattle.lr_states.specs.declared.kernels.Visited.{Visited}
 
--- each of the lists that were found is there, and no others are new; those that were there stay where they were
+-- each new list was found; those that were there stay where they were
 pub record Adds (Found : List Item → Type 0) (old new : List (List Item)) : Type 0 where
   pub longer : length old ≤ length new
   pub kept : (q : ℕ) → q < length old → get_or new q [] ≡ get_or old q []
   pub fresh : (q : ℕ) → length old ≤ q → q < length new → Found (get_or new q [])
-  pub all : (list : List Item) → Found list → (q : ℕ) × (q < length new) × (get_or new q [] ≡ list)
 
 -- the list is this one, and isn't empty
 pub record IsOne (list other : List Item) : Type 0 where
@@ -40,3 +40,7 @@ pub record AreTargets (lists : ℕ → List Item) (kernels : List (List Item)) (
 pub record AreGoing (g : Grammar) (kernels states : List (List Item)) (targets : List (List Target)) : Type 0 where
   pub count : length targets ≡ length states
   pub each : (q : ℕ) → q < length states → AreTargets (items_after g (get_or states q [])) kernels (get_or targets q [])
+
+-- visited states, and how many rules there are
+abbrev pub automaton_of : ℕ → List Visited → Automaton
+automaton_of rules visited = record { rules = rules; states = map (λ (v : Visited). v.items.items) visited; targets = map (λ (v : Visited). v.targets.items) visited }

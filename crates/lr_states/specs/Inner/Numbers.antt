@@ -38,16 +38,16 @@ place_of_item items item = position_or_len (is_item item) items
 abbrev pub is_before : Item → Item → Bool
 is_before a b = nat_lt b.read a.read || ((a.read == b.read) && nat_lt a.production b.production)
 
--- the index of the target for the rule
-abbrev pub place_of_rule : List Target → ℕ → Option ℕ
-place_of_rule targets rule = position (λ target. target.symbol == rule) targets
+-- the index of the target for the symbol with this number
+abbrev pub place_of_symbol : List Target → ℕ → Option ℕ
+place_of_symbol targets symbol = position (λ target. target.symbol == symbol) targets
 
 abbrev pub at_place : ℕ → ℕ → Option ℕ → ℕ
 at_place other first None = other
 at_place other first (Some place) = first + place
 
 abbrev pub next_number : Numbers → Automaton → ℕ → ℕ → ℕ
-next_number n x q rule = at_place (n.tokens + n.rules) (block_of n q).rules (place_of_rule (get_or x.targets q []) rule)
+next_number n x q rule = at_place (n.tokens + n.rules) (block_of n q).rules (place_of_symbol (get_or x.targets q []) rule)
 
 -- the number of a symbol's node
 abbrev pub shown_number : Numbers → Sym → ℕ

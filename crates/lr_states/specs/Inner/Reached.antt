@@ -22,7 +22,7 @@ pub record HasReached (lists : List (List ℕ)) (bound node : ℕ) (row : List B
 -- those of the bits that were found were turned on
 pub record TurnsOn (Found : ℕ → Type 0) (old new : List Bool) : Type 0 where
   pub bits : length new ≡ length old
-  pub each : (t : ℕ) → t < length old → IsOn new t ↔ (IsOn old t ⊎ Found t)
+  pub each : (t : ℕ) → IsOn new t ↔ (IsOn old t ⊎ ((t < length old) × Found t))
 
 -- the node is of a component that has a row, in which the bit is on
 pub record IsInRow (numbers : List ℕ) (rows : List (List Bool)) (node t : ℕ) : Type 0 where

@@ -5,11 +5,10 @@ ghost use Rattle.std.specs.Prelude.{Contains, IfOk, IfSome, OnOk, get_or, length
 ghost use Rattle.cfgrammar.specs.Numbered.{core};
 ghost use Rattle.cfgrammar.specs.NumberedSymbols.{sym_of};
 ghost use Rattle.cfgrammar.specs.Openings.{nth_production};
-ghost use Rattle.lr_states.specs.Viable.{HasNext, IsUsed, item_at};
+ghost use Rattle.lr_states.specs.Viable.{HasNext, item_at};
 ghost use Rattle.lr_states.specs.declared.kernels.Target.{Target};
-ghost use Rattle.lr_states.specs.Inner.Edges.{AddsEdges, EndEdge, IsEdge, IsGraph, ItemEdge};
-ghost use Rattle.lr_states.specs.Inner.Edges.{ProductionEdge, RestEdge, StateEdge, TargetEdge, rule_at};
-ghost use Rattle.lr_states.specs.Inner.Numbers.{numbers_of};
+ghost use Rattle.lr_states.specs.Inner.Edges.{AddsEdges, EndEdge, IsEdge, IsMadeFrom, ItemEdge};
+ghost use Rattle.lr_states.specs.Inner.Edges.{ProductionEdge, RestEdge, StateEdge, TargetEdge, in_graph, rule_in};
 ghost use Rattle.lr_states.specs.Inner.Reached.{Leads};
 
 use crate::lookaheads::nodes::Nodes;
@@ -40,12 +39,9 @@ impl<'a> Graph<'a> {
     ///
     /// Out of memory.
     pub(crate) fn edges(&self, alloc: Global) -> Result<ListTable<usize>, AllocError>
-        requires graph { IsGraph (core self.now.grammar.now) self.now.states.now (numbers_of self.now.nodes.now)
-            self.now.firsts.now self.now.nullable_from.now self.now.used.now }
+        requires graph { IsMadeFrom self.now }
         ensures nodes { IfOk result (λ edges. length edges ≡ self.now.nodes.now.len) }
-        ensures edges { IfOk result (λ edges. (a b : ℕ) → Leads edges a b
-            ↔ IsEdge (core self.now.grammar.now) (IsUsed (core self.now.grammar.now)) (numbers_of self.now.nodes.now)
-            self.now.states.now a b) }
+        ensures edges { IfOk result (λ edges. (a b : ℕ) → Leads edges a b ↔ in_graph IsEdge self.now a b) }
     {
         let mut edges = ListTable::new(alloc, self.nodes.len)?;
         self.push_end(&mut edges)?;
@@ -60,11 +56,9 @@ impl<'a> Graph<'a> {
 
     /// The end token may come after the start rule in the first state.
     fn push_end(&self, edges: &mut ListTable<usize>) -> Result<(), AllocError>
-        requires graph { IsGraph (core self.now.grammar.now) self.now.states.now (numbers_of self.now.nodes.now)
-            self.now.firsts.now self.now.nullable_from.now self.now.used.now }
+        requires graph { IsMadeFrom self.now }
         requires nodes { length edges.old ≡ self.now.nodes.now.len }
-        ensures { OnOk result (AddsEdges (EndEdge (core self.now.grammar.now) (IsUsed (core self.now.grammar.now))
-            (numbers_of self.now.nodes.now) self.now.states.now) edges.old edges.new) }
+        ensures { OnOk result (AddsEdges (in_graph EndEdge self.now) edges.old edges.new) }
     {
         if self.states.len() == 0 {
             return Ok(());
@@ -80,13 +74,10 @@ impl<'a> Graph<'a> {
         edges: &mut ListTable<usize>,
         production: usize,
     ) -> Result<(), AllocError>
-        requires graph { IsGraph (core self.now.grammar.now) self.now.states.now (numbers_of self.now.nodes.now)
-            self.now.firsts.now self.now.nullable_from.now self.now.used.now }
+        requires graph { IsMadeFrom self.now }
         requires nodes { length edges.old ≡ self.now.nodes.now.len }
         requires production { production < length self.now.grammar.now.productions }
-        ensures { OnOk result (AddsEdges
-            (ProductionEdge (core self.now.grammar.now) (IsUsed (core self.now.grammar.now))
-            (numbers_of self.now.nodes.now) self.now.states.now production) edges.old edges.new) }
+        ensures { OnOk result (AddsEdges (in_graph ProductionEdge self.now production) edges.old edges.new) }
     {
         if !self.used.get(production).unwrap_or(false) {
             return Ok(());
@@ -111,12 +102,11 @@ impl<'a> Graph<'a> {
         item: Item,
         symbol: Symbol<u32>,
     ) -> Result<(), AllocError>
-        requires graph { IsGraph (core self.now.grammar.now) self.now.states.now (numbers_of self.now.nodes.now)
-            self.now.firsts.now self.now.nullable_from.now self.now.used.now }
+        requires graph { IsMadeFrom self.now }
         requires nodes { length edges.old ≡ self.now.nodes.now.len }
         requires next { HasNext (core self.now.grammar.now) item (sym_of (λ s. s) symbol) }
-        ensures { OnOk result (AddsEdges (RestEdge (core self.now.grammar.now) (IsUsed (core self.now.grammar.now))
-            (numbers_of self.now.nodes.now) self.now.states.now item (sym_of (λ s. s) symbol)) edges.old edges.new) }
+        ensures { OnOk result (AddsEdges (in_graph RestEdge self.now item (sym_of (λ s. s) symbol))
+            edges.old edges.new) }
     {
         let _len = self.nodes.len;
         let node = self.nodes.rest(item);
@@ -129,12 +119,10 @@ impl<'a> Graph<'a> {
 
     /// The edges of a state's items.
     fn push_state(&self, edges: &mut ListTable<usize>, state: usize) -> Result<(), AllocError>
-        requires graph { IsGraph (core self.now.grammar.now) self.now.states.now (numbers_of self.now.nodes.now)
-            self.now.firsts.now self.now.nullable_from.now self.now.used.now }
+        requires graph { IsMadeFrom self.now }
         requires nodes { length edges.old ≡ self.now.nodes.now.len }
         requires state { state < length self.now.states.now.states }
-        ensures { OnOk result (AddsEdges (StateEdge (core self.now.grammar.now) (IsUsed (core self.now.grammar.now))
-            (numbers_of self.now.nodes.now) self.now.states.now state) edges.old edges.new) }
+        ensures { OnOk result (AddsEdges (in_graph StateEdge self.now state) edges.old edges.new) }
     {
         for place in 0..self.states.targets(state).len() {
             self.push_target(edges, state, place)?;
@@ -149,13 +137,11 @@ impl<'a> Graph<'a> {
         state: usize,
         place: usize,
     ) -> Result<(), AllocError>
-        requires graph { IsGraph (core self.now.grammar.now) self.now.states.now (numbers_of self.now.nodes.now)
-            self.now.firsts.now self.now.nullable_from.now self.now.used.now }
+        requires graph { IsMadeFrom self.now }
         requires nodes { length edges.old ≡ self.now.nodes.now.len }
         requires state { state < length self.now.states.now.states }
         requires place { place < length (get_or self.now.states.now.targets state []) }
-        ensures { OnOk result (AddsEdges (TargetEdge (core self.now.grammar.now) (IsUsed (core self.now.grammar.now))
-            (numbers_of self.now.nodes.now) self.now.states.now state place) edges.old edges.new) }
+        ensures { OnOk result (AddsEdges (in_graph TargetEdge self.now state place) edges.old edges.new) }
     {
         let target = self.states.targets(state)[place];
         let next = self.next_at(state, place);
@@ -169,13 +155,11 @@ impl<'a> Graph<'a> {
 
     /// The node of the rule that a target is for.
     fn next_at(&self, state: usize, place: usize) -> Option<usize>
-        requires graph { IsGraph (core self.now.grammar.now) self.now.states.now (numbers_of self.now.nodes.now)
-            self.now.firsts.now self.now.nullable_from.now self.now.used.now }
+        requires graph { IsMadeFrom self.now }
         requires state { state < length self.now.states.now.states }
         requires place { place < length (get_or self.now.states.now.targets state []) }
         ensures { (target : Target) → slice_get (get_or self.now.states.now.targets state []) place ≡ Some target
-            → result ≡ rule_at (core self.now.grammar.now) (IsUsed (core self.now.grammar.now))
-            (numbers_of self.now.nodes.now) self.now.states.now state place target }
+            → result ≡ rule_in self.now state place target }
     {
         if self.states.targets(state)[place].symbol < self.nodes.rules {
             Some(self.nodes.block(state).rules + place)
@@ -194,8 +178,7 @@ impl<'a> Graph<'a> {
         after: usize,
         next: Option<usize>,
     ) -> Result<(), AllocError>
-        requires graph { IsGraph (core self.now.grammar.now) self.now.states.now (numbers_of self.now.nodes.now)
-            self.now.firsts.now self.now.nullable_from.now self.now.used.now }
+        requires graph { IsMadeFrom self.now }
         requires nodes { length edges.old ≡ self.now.nodes.now.len }
         requires state { state < length self.now.states.now.states }
         requires item { item.production < length self.now.grammar.now.productions }
@@ -205,8 +188,7 @@ impl<'a> Graph<'a> {
             (item_at item.production (item.read - 1)) }
         requires after { after < self.now.nodes.now.len }
         requires next { IfSome next (λ node. node < self.now.nodes.now.len) }
-        ensures { OnOk result (AddsEdges (ItemEdge (core self.now.grammar.now) (IsUsed (core self.now.grammar.now))
-            (numbers_of self.now.nodes.now) self.now.states.now state item after next) edges.old edges.new) }
+        ensures { OnOk result (AddsEdges (in_graph ItemEdge self.now state item after next) edges.old edges.new) }
     {
         let before = Item {
             production: item.production,

@@ -15,8 +15,9 @@ ghost use Rattle.lr_states.specs.Lookaheads.{is_item};
 ghost use Rattle.lr_states.specs.Inner.Graph.{next};
 ghost use Rattle.lr_states.specs.Inner.Numbers.{AreNumbers, AreOfGrammar, AreReady, AreRests, IsBlock, IsNode};
 ghost use Rattle.lr_states.specs.Inner.Numbers.{block_of, is_before, item_number, number, numbers_of};
-ghost use Rattle.lr_states.specs.Inner.Numbers.{place_of_rule, rest_number, shown_number};
+ghost use Rattle.lr_states.specs.Inner.Numbers.{rest_number, shown_number};
 
+use crate::kernels::place_of_symbol;
 use crate::tables::{rule_of, symbols_of};
 use crate::{Item, States, Target};
 use cfgrammar::Symbol;
@@ -131,7 +132,7 @@ impl Nodes {
         ensures { result ≡ number (numbers_of self.now) states.now (next state rule) }
     {
         let _len = self.len;
-        match place_of_rule(states.targets(state), rule) {
+        match place_of_symbol(states.targets(state), rule) {
             Some(place) => self.block(state).rules + place,
             None => self.tokens + self.rules,
         }
@@ -204,12 +205,7 @@ fn count_read(items: &[Item]) -> usize
     ensures within { result ≤ length items.now }
     ensures first { (i : ℕ) (item : Item) → slice_get items.now i ≡ Some item → (0 < item.read) ↔ (i < result) }
 {
-    for (index, item) in items.iter().enumerate() {
-        if item.read == 0 {
-            return index;
-        }
-    }
-    items.len()
+    items.partition_point(|item| 0 < item.read)
 }
 
 /// How many of a state's targets are for rules. They are the first ones.
@@ -219,12 +215,7 @@ fn count_next(targets: &[Target], rules: usize) -> usize
     ensures first { (i : ℕ) (target : Target) → slice_get targets.now i ≡ Some target
         → (target.symbol < rules) ↔ (i < result) }
 {
-    for (index, target) in targets.iter().enumerate() {
-        if rules <= target.symbol {
-            return index;
-        }
-    }
-    targets.len()
+    targets.partition_point(|target| target.symbol < rules)
 }
 
 /// The index of an item, if it is among these.
@@ -245,17 +236,4 @@ fn is_before(a: Item, b: Item) -> bool
     ensures { result ≡ is_before a b }
 {
     b.read < a.read || (a.read == b.read && a.production < b.production)
-}
-
-/// The index of the target for a rule.
-fn place_of_rule(targets: &[Target], rule: usize) -> Option<usize>
-    requires { AreAscending targets.now }
-    ensures { result ≡ place_of_rule targets.now rule }
-{
-    let place = targets.partition_point(|target| target.symbol < rule);
-    if place < targets.len() && targets[place].symbol == rule {
-        Some(place)
-    } else {
-        None
-    }
 }

@@ -6,8 +6,7 @@ use Rattle.lr_states.proofs.kernels.add_kernel.Goals as goal
 
 pub returns-clause-adds : goal.returns-clause-adds
 returns-clause-adds c =
-    key_added (λ (v : Vec Item Global). v.items) same_keys (λ x y. slice_eq-Decides items_Decide x.items y.items _ refl) c.args.kernels.now.keys c.args.kernel c.args.kernel.items refl
-    c.requires c.insert_full.new.self.keys c.in_ok-number.ensures.keys
+    key_added (λ (v : Vec Item Global). v.items) same_keys c.args.kernels.now.keys c.args.kernel c.args.kernel.items refl c.requires c.insert_full.new.self.keys c.in_ok-number.ensures.keys
 
 pub returns-clause-is : goal.returns-clause-is
 returns-clause-is c =

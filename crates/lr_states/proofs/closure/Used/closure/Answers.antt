@@ -1,8 +1,7 @@
 use Rattle.std.proofs.Common.{◌≡◌, ◌++◌, Global, Vec, ap, map, ◌∙◌}
 use Rattle.cfgrammar.specs.Numbered.{core}
 use Rattle.lr_states.specs.declared.Item.{Item}
-use Rattle.lr_states.specs.Inner.Closure.{IsOn}
-use Rattle.lr_states.specs.Viable.{item_at}
+use Rattle.lr_states.specs.Viable.{IsUsed, item_at}
 use Rattle.lr_states.proofs.Entered.{closed_entered, closed_kernel}
 use Rattle.lr_states.proofs.closure.Used.closure.Goals as goal
 use Rattle.lr_states.proofs.closure.Used.closure.Goals.{then-has_seed+in_ok-entered+in_ok-push_unread, else-has_seed}
@@ -10,7 +9,7 @@ use Rattle.lr_states.proofs.closure.Used.closure.Goals.{then-has_seed+in_ok-ente
 pub returns : goal.returns
 returns c =
     let g = core c.args.self.now.grammar.now in
-    let used = IsOn c.args.self.now.bits in
+    let used = IsUsed g in
     let kernel = c.args.kernel.now in
     let items = c.if-has_seed.items.items in
     let same : c.in_ok-items.items.items ≡ kernel = c.in_ok-items.ensures.items_if_clones_equal (λ x y h. h) in

@@ -1,8 +1,8 @@
-use Rattle.std.proofs.Common.{◌≡◌, ◌<◌, ℕ, arith, get_or, length, subst, sym}
-use Rattle.std.proofs.lemmas.List.{get_or_default, length-map}
+use Rattle.std.proofs.Common.{◌≡◌, ◌<◌, ℕ, arith, get_or, length, subst}
+use Rattle.std.proofs.lemmas.List.{get_or_default}
 use Rattle.search.specs.Reachable.{Reaches}
 use Rattle.search.proofs.Each.{each_all, each_more, each_none, found_mapped}
-use Rattle.cfgrammar.specs.Numbered.{core, production_core}
+use Rattle.cfgrammar.specs.Numbered.{core}
 use Rattle.lr_states.specs.Inner.Closure.{AddsTo, Begins, IsOn}
 use Rattle.lr_states.proofs.Entered.{adds_all, adds_begin, adds_more}
 use Rattle.lr_states.proofs.Rules.{enters_found, position_within}
@@ -38,7 +38,6 @@ returns-clause-reaches c = enters_found (core c.args.self.now.grammar.now) (IsOn
 
 pub returns-clause-adds : goal.returns-clause-adds
 returns-clause-adds c =
-    let g = c.args.self.now.grammar.now in
-    adds_all (IsOn c.args.self.now.bits) c.productions_of-production-items.result.now (core g) c.args.rule
-    (λ p on. subst (λ n. p < n) (sym (length-map g.productions production_core)) (c.requires.used p on)) c.productions_of-production-items.ensures _
+    adds_all (IsOn c.args.self.now.bits) c.productions_of-production-items.result.now (core c.args.self.now.grammar.now) c.args.rule
+    (λ p on. ((c.requires.used p).0 on).within) c.productions_of-production-items.ensures _
     (omega (arith, c.loop-production-test.false, c.loop-production.auto.production-index-end)) _ _ c.loop-production.invariant.1

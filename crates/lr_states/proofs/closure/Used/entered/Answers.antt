@@ -3,7 +3,7 @@ use Rattle.search.proofs.Reaching.{less_to_do, popped_within}
 use Rattle.search.specs.Reachable.{unsearched}
 use Rattle.cfgrammar.specs.Numbered.{core}
 use Rattle.lr_states.specs.Inner.Closure.{IsOn}
-use Rattle.lr_states.proofs.Entered.{entering_begins, entering_ends, entering_goes_on}
+use Rattle.lr_states.proofs.Entered.{entered_as, entering_begins, entering_ends, entering_goes_on}
 use Rattle.lr_states.proofs.closure.Used.entered.Goals as goal
 
 pub loop-rule-init : goal.loop-rule-init
@@ -27,4 +27,9 @@ loop-rule-preserved c = entering_goes_on (core c.args.self.now.grammar.now) (IsO
     c.in-Some.ensures.reachable c.in-Some.ensures.waiting c.in_ok-enter_rule.ensures.reaches _ c.in_ok-enter_rule.ensures.adds
 
 pub returns : goal.returns
-returns c = entering_ends (core c.args.self.now.grammar.now) (IsOn c.args.self.now.bits) c.args.kernel.now _ _ _ c.loop-rule.invariant c.in_default.ensures.waiting
+returns c p =
+    let g = core c.args.self.now.grammar.now in
+    let are = entering_ends g (IsOn c.args.self.now.bits) c.args.kernel.now _ _ _ c.loop-rule.invariant c.in_default.ensures.waiting p in (
+      (λ h. entered_as g (λ q. (c.requires.used q).0) (are.0 h)),
+      (λ e. are.1 (entered_as g (λ q. (c.requires.used q).1) e)),
+    )

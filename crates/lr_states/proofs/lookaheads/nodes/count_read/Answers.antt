@@ -1,24 +1,14 @@
-use Rattle.std.proofs.Common.{◌≡◌, ◌<◌, ℕ, arith, length, subst}
-use Rattle.std.proofs.lemmas.Option.{get_or_from_slice_get, slice_get_within}
+use Rattle.std.proofs.Common.{lt-ltb, ltb, rules}
+use Rattle.std.proofs.lemmas.Bool.{ltb-true}
+use Rattle.std.proofs.lemmas.List.Sorted.{IsPartitionPoint-from_clause}
 use Rattle.lr_states.specs.declared.Item.{Item}
-use Rattle.lr_states.proofs.Places.{below_at, reads_first}
+use Rattle.lr_states.proofs.Places.{reads_parted}
+use Rattle.lr_states.proofs.Targets.{first_passes}
 use Rattle.lr_states.proofs.lookaheads.nodes.count_read.Goals as goal
 
-abbrev nothing : Item
-nothing = record { production = 0; read = 0 }
-
-not_zero : (n : ℕ) → (n ≡ 0 → ⊥) → 0 < n
-not_zero n some = omega (arith, some)
-
-pub loop-index-preserved : goal.loop-index-preserved
-loop-index-preserved c = below_at (λ item. 0 < item.read) c.args.items.now c.loop-index.index nothing c.loop-index-test.true c.loop-index.invariant (not_zero _ c.if-item-eq0.false)
-
-pub returns-then-item-eq0-clause-first : goal.returns-then-item-eq0-clause-first
-returns-then-item-eq0-clause-first c = reads_first c.args.items.now c.requires c.loop-index.index c.loop-index.invariant
-    (λ item at. subst (λ (i : Item). i.read ≡ 0) (get_or_from_slice_get c.args.items.now c.loop-index.index item nothing at) c.if-item-eq0.true)
-
 pub returns-clause-first : goal.returns-clause-first
-returns-clause-first c =
-    let all = c.args.items.now in
-    reads_first all c.requires (length all) (λ i item low at. c.loop-index.invariant i item (omega (arith, low, c.loop-index-test.false)) at)
-    (λ item at. let within = slice_get_within all (length all) item at in absurd (omega (arith, within)))
+returns-clause-first c i item at =
+    let test = λ (item : Item). ltb 0 item.read in
+    let point = IsPartitionPoint-from_clause test _ _ c.partition_point.ensures.partitioned (reads_parted c.args.items.now c.requires) (λ a r q k. search rules) in
+    let first = first_passes test c.args.items.now c.partition_point.result point i item at in
+    ((λ some. first.0 (lt-ltb 0 item.read some)), (λ early. ltb-true 0 item.read (first.1 early)))

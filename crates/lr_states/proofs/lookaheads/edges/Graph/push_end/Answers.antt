@@ -1,4 +1,4 @@
-use Rattle.std.proofs.Common.{◌≡◌, ◌<◌, ℕ, length, arith, refl, sym, ◌∙◌}
+use Rattle.std.proofs.Common.{◌<◌, length, arith, refl, sym, ◌∙◌}
 use Rattle.cfgrammar.specs.Numbered.{core}
 use Rattle.lr_states.specs.Viable.{IsUsed}
 use Rattle.lr_states.specs.Inner.Edges.{EndEdge}
@@ -7,14 +7,11 @@ use Rattle.lr_states.proofs.Adds.{IsOne, adds_as, adds_one}
 use Rattle.lr_states.proofs.Ready.{next_low}
 use Rattle.lr_states.proofs.lookaheads.edges.Graph.push_end.Goals as goal
 
-not_none : (n m : ℕ) → n ≡ m → (n ≡ 0 → ⊥) → 0 < m
-not_none n m is some = omega (arith, is, some)
-
 pub push-requires : goal.push-requires
 push-requires c =
     let g = core c.args.self.now.grammar.now in
     let r = c.requires.graph.ready in
-    let some = not_none c.len.result (length c.args.self.now.states.now.states) c.len.ensures c.if-len-eq0.false in
+    let some : 0 < length c.args.self.now.states.now.states = omega (arith, c.len.ensures, c.if-len-eq0.false) in
     let low = next_low g c.args.self.now.states.now (numbers_of c.args.self.now.nodes.now) r 0 0 (some, r.grammar.start, at_start refl refl) in
     omega (arith, low, c.next.ensures, c.requires.nodes)
 
@@ -24,7 +21,7 @@ returns c =
     let n = numbers_of c.args.self.now.nodes.now in
     let x = c.args.self.now.states.now in
     let r = c.requires.graph.ready in
-    let some = not_none c.len.result (length x.states) c.len.ensures c.if-len-eq0.false in
+    let some : 0 < length x.states = omega (arith, c.len.ensures, c.if-len-eq0.false) in
     let low = next_low g x n r 0 0 (some, r.grammar.start, at_start refl refl) in
     let room : c.next.result < length c.args.edges.now = omega (arith, low, c.next.ensures, c.requires.nodes) in
     let last = c.eof_token_idx.ensures.value in

@@ -1,4 +1,4 @@
-use Rattle.std.proofs.Common.{◌≡◌, ◌⊎◌, ◌+◌, ◌<◌, ℕ, List, Some, ap, arith, get_or, length, map, option_map, slice_get, subst, sym, true≢false, ◌∙◌}
+use Rattle.std.proofs.Common.{◌≡◌, ◌+◌, ◌<◌, ℕ, List, Some, ap, arith, get_or, length, map, option_map, slice_get, subst, sym, true≢false, ◌∙◌}
 use Rattle.std.proofs.lemmas.List.{length-map}
 use Rattle.std.proofs.lemmas.Option.{slice_get-get_or, slice_get-map}
 use Rattle.cfgindex.specs.declared.idxnewtype.Symbol.{Symbol}
@@ -10,7 +10,7 @@ use Rattle.lr_states.specs.Viable.{IsUsed, item_at}
 use Rattle.lr_states.proofs.Bits.{bit_read}
 use Rattle.lr_states.specs.Inner.Edges.{AddsEdges, BeginEdge, Below, ProductionEdge, SymbolEdge}
 use Rattle.lr_states.specs.Inner.Numbers.{numbers_of, rest_number}
-use Rattle.lr_states.proofs.Adds.{IsOne, adds_as, adds_none, adds_one, either_more, either_none}
+use Rattle.lr_states.proofs.Adds.{IsOne, adds_as, adds_none, adds_one, adds_then, below_more, below_none}
 use Rattle.lr_states.proofs.Pushed.{symbol_one}
 use Rattle.lr_states.proofs.Ready.{begun_low, rest_low}
 use Rattle.lr_states.proofs.lookaheads.edges.Graph.push_production.Goals as goal
@@ -48,18 +48,7 @@ push-requires c =
     omega (arith, low, c.rule_of.ensures, c.begun-rule.ensures, c.requires.nodes)
 
 pub loop-read-init : goal.loop-read-init
-loop-read-init c =
-    let g = core c.args.self.now.grammar.now in
-    let n = numbers_of c.args.self.now.nodes.now in
-    let x = c.args.self.now.states.now in
-    let p = c.args.production in
-    let low = begun_low g x n c.requires.graph.ready p in
-    let from : c.begun-rule.result ≡ n.tokens + (nth_production g p).rule = omega (arith, c.begun-rule.ensures, c.rule_of.ensures) in
-    let room : c.begun-rule.result < length c.args.edges.now = omega (arith, low, from, c.requires.nodes) in
-    let one = adds_one c.args.edges.now c.push.new.self c.begun-rule.result c.rest.result room c.in_ok-push.ensures.ok in
-    either_none (SymbolEdge g (IsUsed g) n x p) (BeginEdge g (IsUsed g) n x p) c.args.edges.now c.push.new.self
-    (subst (λ m. AddsEdges (IsOne m (rest_number n (item_at p 0))) c.args.edges.now c.push.new.self) from
-    (subst (λ m. AddsEdges (IsOne c.begun-rule.result m) c.args.edges.now c.push.new.self) c.rest.ensures one))
+loop-read-init c = below_none _ _
 
 pub push_rest-requires-clause-next : goal.push_rest-requires-clause-next
 push_rest-requires-clause-next c = symbol_at c.symbols_of-symbols.result.now _ c.symbols_of-symbols.ensures.symbols c.loop-read.read _ c.loop-read-test.true
@@ -71,7 +60,7 @@ loop-read-preserved c =
     let x = c.args.self.now.states.now in
     let p = c.args.production in
     let at = symbol_at c.symbols_of-symbols.result.now _ c.symbols_of-symbols.ensures.symbols c.loop-read.read _ c.loop-read-test.true in
-    either_more (SymbolEdge g (IsUsed g) n x p) (BeginEdge g (IsUsed g) n x p) c.loop-read.read c.args.edges.now c.loop-read.edges c.push_rest.new.edges c.loop-read.invariant
+    below_more (SymbolEdge g (IsUsed g) n x p) c.loop-read.read _ c.loop-read.edges c.push_rest.new.edges c.loop-read.invariant
     (symbol_one g (IsUsed g) n x p c.loop-read.read _ at c.loop-read.edges c.push_rest.new.edges c.in_ok-push_rest.ensures)
 
 pub returns : goal.returns
@@ -85,6 +74,13 @@ returns c =
     let used = (c.requires.graph.used p).0 (sym read ∙ c.if-not-unwrap_or.false) in
     let long = sym (length-map c.symbols_of-symbols.result.now (sym_of (λ s. s))) ∙ ap length c.symbols_of-symbols.ensures.symbols in
     let end : c.loop-read.read ≡ length (nth_production g p).symbols = omega (arith, long, c.loop-read-test.false, c.loop-read.auto.read-end) in
-    adds_as (λ a b. BeginEdge g (IsUsed g) n x p a b ⊎ Below (SymbolEdge g (IsUsed g) n x p) (length (nth_production g p).symbols) a b) (ProductionEdge g (IsUsed g) n x p) c.args.edges.now c.loop-read.edges
+    let low = begun_low g x n c.requires.graph.ready p in
+    let from : c.begun-rule.result ≡ n.tokens + (nth_production g p).rule = omega (arith, c.begun-rule.ensures, c.rule_of.ensures) in
+    let room : c.begun-rule.result < length c.args.edges.now = omega (arith, low, from, c.requires.nodes) in
+    let one = adds_one c.args.edges.now c.push.new.self c.begun-rule.result c.rest.result room c.in_ok-push.ensures.ok in
+    adds_as _ (ProductionEdge g (IsUsed g) n x p) c.args.edges.now c.loop-read.edges
     (λ a b e. record { used = used; edge = e }) (λ a b e. e.edge)
-    (subst (λ m. AddsEdges (λ a b. BeginEdge g (IsUsed g) n x p a b ⊎ Below (SymbolEdge g (IsUsed g) n x p) m a b) c.args.edges.now c.loop-read.edges) end c.loop-read.invariant)
+    (adds_then (BeginEdge g (IsUsed g) n x p) _ c.args.edges.now c.push.new.self c.loop-read.edges
+    (subst (λ m. AddsEdges (IsOne m (rest_number n (item_at p 0))) c.args.edges.now c.push.new.self) from
+    (subst (λ m. AddsEdges (IsOne c.begun-rule.result m) c.args.edges.now c.push.new.self) c.rest.ensures one))
+    (subst (λ m. AddsEdges (Below (SymbolEdge g (IsUsed g) n x p) m) c.push.new.self c.loop-read.edges) end c.loop-read.invariant))
