@@ -12,21 +12,35 @@ use Rattle.cfgmarks.specs.declared.markmap.marked.Marked.{Marked}
 use Rattle.cfgmarks.specs.declared.markmap.fault.MergeFault.{MergeFault}
 use Rattle.cfgmarks.specs.Marks.{Marks, entry_at, stored_at}
 use Rattle.std.specs.Option.{ForSome}
-use Rattle.cfgmarks.specs.Merging.{expected, CallableOnExpected, MergedAt, Merged}
-use Rattle.cfgmarks.specs.MergeFaults.{MergesKey, IsFaultAt, StopsAt}
+use Rattle.cfgmarks.specs.Merging.{expected, CallableOnExpected, MergedAt}
+use Rattle.cfgmarks.specs.MergeFaults.{MergesKey, IsFaultAt}
 use Rattle.lemmas.proofs.Lookups.{found-lookup_key, lookup_after_none, lookup_before_none}
 use Rattle.lemmas.proofs.Entries.{lookup_congr, lookup_before, none_before, found_here}
 use Rattle.cfgmarks.proofs.StoredKeys.{lookup_key-append, option_or_absent}
+
+-- what merging makes of a key: the lemmas below rest only on what it makes of a key that theirs doesn't have
+abbrev pub MakesOf : {U V : Type 0} → (U → V → Type 0) → MergeBehavior → Option (Marked V) → Option (Marked U) → Option (Marked V) → Type 0
+MakesOf converts default mine theirs now = MergedAt converts default mine theirs now
 
 module _ {K U V : Type 0} (cmp : K → K → Ordering) (total : IsTotalOrder cmp) (converts : U → V → Type 0) where
   -- the entries so far are merged
   abbrev pub MergedSoFar : Marks K V → List (K × Marked U) → Marks K V → Type 0
   MergedSoFar mine done now = (now.behavior ≡ mine.behavior)
-      × ((q : K) → MergedAt converts mine.behavior (entry_at cmp mine q) (lookup (is_at (cmp q)) done) (entry_at cmp now q))
+      × ((q : K) → MakesOf converts mine.behavior (entry_at cmp mine q) (lookup (is_at (cmp q)) done) (entry_at cmp now q))
 
-  moved : {b c : MergeBehavior} {m n : Option (Marked V)} {s t : Option (Marked U)} {x y : Option (Marked V)} → b ≡ c → m ≡ n → s ≡ t → x ≡ y → MergedAt converts b m s x → MergedAt converts c n t y
+  -- theirs are merged at the keys below k, and all other keys are mine
+  abbrev pub MergedBelow : Marks K V → Marks K U → K → Marks K V → Type 0
+  MergedBelow mine theirs k now = (now.behavior ≡ mine.behavior)
+      × ((q : K) → MakesOf converts mine.behavior (entry_at cmp mine q) (if is_lt (cmp q k) then entry_at cmp theirs q else None) (entry_at cmp now q))
+
+  -- merging stops at the fault, as `StopsAt` says
+  abbrev pub StopsBelow : {E : Type 0} → (U → E → Type 0) → Marks K V → Marks K U → MergeFault K V E → Marks K V → Type 0
+  StopsBelow refuses mine theirs fault now = (k : K) × (x : Marked U) × (stored_at cmp theirs k ≡ Some k) × (entry_at cmp theirs k ≡ Some x)
+      × IsFaultAt converts refuses mine.behavior k (entry_at cmp mine k) x fault × MergedBelow mine theirs k now
+
+  moved : {b c : MergeBehavior} {m n : Option (Marked V)} {s t : Option (Marked U)} {x y : Option (Marked V)} → b ≡ c → m ≡ n → s ≡ t → x ≡ y → MakesOf converts b m s x → MakesOf converts c n t y
   moved {b} {c} {m} {n} {s} {t} {x} {y} e f h i merged =
-      subst (λ c. MergedAt converts c n t y) e (subst (λ n. MergedAt converts b n t y) f (subst (λ t. MergedAt converts b m t y) h (subst (MergedAt converts b m s) i merged)))
+      subst (λ c. MakesOf converts c n t y) e (subst (λ n. MakesOf converts b n t y) f (subst (λ t. MakesOf converts b m t y) h (subst (MakesOf converts b m s) i merged)))
 
   -- the walk over theirs is at k, and the entries in done are merged
   pub record Reached (mine now : Marks K V) (theirs : Marks K U) (done rest : List (K × Marked U)) (k : K) (x : Marked U) : Type 0 where
@@ -43,7 +57,7 @@ module _ {K U V : Type 0} (cmp : K → K → Ordering) (total : IsTotalOrder cmp
   module _ {mine now : Marks K V} {theirs : Marks K U} {done rest : List (K × Marked U)} {k : K} {x : Marked U} (at_key : Reached mine now theirs done rest k x) where
     -- a key that isn't reached yet has my entry
     still_mine : entry_at cmp now k ≡ entry_at cmp mine k
-    still_mine = subst (λ t. MergedAt converts mine.behavior (entry_at cmp mine k) t (entry_at cmp now k)) (none_before cmp total done rest k x at_key.ordered) (at_key.so_far.1 k)
+    still_mine = subst (λ t. MakesOf converts mine.behavior (entry_at cmp mine k) t (entry_at cmp now k)) (none_before cmp total done rest k x at_key.ordered) (at_key.so_far.1 k)
 
     -- the walk's entry is the key's
     theirs_here : entry_at cmp theirs k ≡ Some x
@@ -63,7 +77,7 @@ module _ {K U V : Type 0} (cmp : K → K → Ordering) (total : IsTotalOrder cmp
     merged_step after step = (
       step.0 ∙ at_key.so_far.0,
       λ q.
-          elim (is_at (cmp k) q) as (λ b. is_at (cmp k) q ≡ b → MergedAt converts mine.behavior (entry_at cmp mine q) (lookup (is_at (cmp q)) (done ++ (k, x) ∷ [])) (entry_at cmp after q)) [
+          elim (is_at (cmp k) q) as (λ b. is_at (cmp k) q ≡ b → MakesOf converts mine.behavior (entry_at cmp mine q) (lookup (is_at (cmp q)) (done ++ (k, x) ∷ [])) (entry_at cmp after q)) [
             | true ↦ λ is.
                 let same : cmp k q ≡ Equal = (Equal-is (cmp k q)).0 is in
                 let back : is_at (cmp q) k ≡ true = (eq_by_cmp_equiv total).symm q k ∙ is in
@@ -77,7 +91,7 @@ module _ {K U V : Type 0} (cmp : K → K → Ordering) (total : IsTotalOrder cmp
           ] refl,
     )
 
-    merged_below : Merged cmp converts mine theirs k now
+    merged_below : MergedBelow mine theirs k now
     merged_below = (
       at_key.so_far.0,
       λ q.
@@ -87,9 +101,9 @@ module _ {K U V : Type 0} (cmp : K → K → Ordering) (total : IsTotalOrder cmp
     )
 
     pub stops_at : {E : Type 0} (refuses : U → E → Type 0) (fault : MergeFault K V E) (after : Marks K V) → after ≡ now
-        → IsFaultAt converts refuses now.behavior k (entry_at cmp now k) x fault → StopsAt converts refuses cmp mine theirs fault after
+        → IsFaultAt converts refuses now.behavior k (entry_at cmp now k) x fault → StopsBelow refuses mine theirs fault after
     stops_at refuses fault after same fault_here =
-        subst (StopsAt converts refuses cmp mine theirs fault) (sym same) (
+        subst (StopsBelow refuses mine theirs fault) (sym same) (
           k,
           x,
           stored_here,
