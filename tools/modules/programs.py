@@ -135,6 +135,9 @@ def content(path):
 class Program:
     """A program, and what it is made of now."""
 
+    # files that it is made of beside its sources
+    OTHERS = ()
+
     def __init__(self, rt, kit, name, kind):
         self.rt, self.kit, self.name, self.kind = rt, kit, name, kind
         self.folder = f"{ROOT}/crates/{name}"
@@ -142,21 +145,30 @@ class Program:
         # what is held or has to be cleaned up while it is built
         self.held, self.locked, self.trying, self.room = [], None, None, None
 
+    def find(self):
+        """Finds the crates that it is made of, lowest first, and the folders that have their sources."""
+        self.crate = self.rt.Crate(self.folder, ROOT, {})
+        self.crates = [*self.crate.below(), self.crate]
+        self.folders = [it.folder for it in self.crates]
+
+    def room_for_try(self, _):
+        """The folder in which `rt try` compiles it."""
+        return self.folder
+
     def look(self):
         """Looks at the sources: their states, what crates.txt says of them, and their checksum. The state of a file or
         folder is taken before it is read, and some milliseconds pass between, in which the clock of files ticks: so the
         state of what changes later differs."""
         if not os.path.isdir(f"{self.folder}/src"):
-            raise Stopped(f"there is no program {self.name}: crates/{self.name}/src isn't there")
+            raise Stopped(f"there is no program {self.name}: {os.path.relpath(self.folder, ROOT)}/src isn't there")
         states = [(it, state(it)) for it in [self.kit.command, *self.kit.files()]]
-        states += [(it, state(f"{ROOT}/{it}")) for it in [*TOOLS, "HANDLES", "crates.txt"]]
+        states += [(it, state(f"{ROOT}/{it}")) for it in [*TOOLS, "HANDLES", "crates.txt", *self.OTHERS]]
         time.sleep(0.02)
         self.rt.rtlib.listed.cache_clear()
-        self.crate = self.rt.Crate(self.folder, ROOT, {})
-        self.crates = [*self.crate.below(), self.crate]
+        self.find()
         # definitions and proofs aren't compiled
         parts = PARTS[:1] if self.kind == "tried" else PARTS
-        own = (it for crate in self.crates for part in parts for it in files_below(f"{crate.folder}/{part}"))
+        own = (it for folder in self.folders for part in parts for it in files_below(f"{folder}/{part}"))
         self.states = states + [(os.path.relpath(it, ROOT), state(it)) for it in own]
         time.sleep(0.02)
         summed = hashlib.sha256(repr([self.kind, [(it.name, it.said) for it in self.crates]]).encode())
@@ -252,6 +264,43 @@ class Program:
             if os.path.isdir(to):
                 remove(to)
             os.replace(made, to)
+
+
+class Rows(Program):
+    """The program of rows, whose sources are in rows/src, and the libraries that it uses in rows/uses. It isn't proved.
+    rt refuses a .rt file outside a crate of crates.txt, so these end with .rt.txt, and are compiled in a copy."""
+
+    OTHERS = ("rows/uses",)
+
+    def __init__(self, rt, kit):
+        super().__init__(rt, kit, "rows", "tried")
+        self.folder = f"{ROOT}/rows"
+        self.kept = f"{self.folder}/out/tried"
+
+    def find(self):
+        self.line, known = content(f"{ROOT}/rows/uses").decode(), {}
+        used = [it for it in self.line.split()[1:] if os.path.isdir(f"{ROOT}/crates/{it}")]
+        for it in used:
+            self.rt.Crate(f"{ROOT}/crates/{it}", ROOT, known)
+        tops = [self.rt.Crate(f"{ROOT}/crates/{it}", ROOT, known) for it in used]
+        # each once
+        self.crates = [*{it.name: it for top in tops for it in [*top.below(), top]}.values()]
+        self.folders = [*(it.folder for it in self.crates), self.folder]
+
+    def room_for_try(self, folder):
+        names = {it.name for it in self.crates}
+        for it in names:
+            shutil.copytree(f"{ROOT}/crates/{it}/src", f"{folder}/copy/crates/{it}/src")
+        for it in files_below(f"{self.folder}/src"):
+            if it.endswith(".rt.txt"):
+                to = f"{folder}/copy/crates/rows/{os.path.relpath(it, self.folder)[:-len('.txt')]}"
+                os.makedirs(os.path.dirname(to), exist_ok=True)
+                shutil.copyfile(it, to)
+        shutil.copyfile(f"{ROOT}/HANDLES", f"{folder}/copy/HANDLES")
+        lines = content(f"{ROOT}/crates.txt").decode().splitlines()
+        listed = [it for it in lines if it.partition(":")[0].strip() in names]
+        write(f"{folder}/copy/crates.txt", "\n".join([*listed, self.line]).encode())
+        return f"{folder}/copy/crates/rows"
 
 
 def status_of(*words):
