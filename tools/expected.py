@@ -20,7 +20,7 @@ from modules.usage import usage
 
 HERE = os.path.dirname(os.path.realpath(__file__))
 LIST, RUNS = f"{HERE}/expected.txt", f"{HERE}/last_runs.txt"
-DATA = f"{os.path.dirname(HERE)}/crates/vectors"
+ROWS = f"{os.path.dirname(HERE)}/rows"
 CHECKERS = ("pages", "samples", "picture", "wrong_bodies", "surface", "reference", "words", "long_rows", "original_rows",
             "fuzz", "refuse", "real_runs", "large")
 HEAD = "# How many things each checker has to find, by 'tools/expected.py write'.\n"
@@ -47,11 +47,11 @@ def count_lines(file, pattern):
 
 
 def rows():
-    """How many worked rows each file has, and how many results are stored."""
-    with open(f"{DATA}/args", encoding="utf-8") as it:
+    """How many rows each file has, and how many results are stored."""
+    with open(f"{ROWS}/args", encoding="utf-8") as it:
         files = it.read().split()
-    found = {it: count_lines(f"{DATA}/data/{it}", "[a-z]") for it in files}
-    return {**found, "stdout": count_lines(f"{DATA}/stdout", "== ")}
+    found = {it: count_lines(f"{ROWS}/data/{it}", "[a-z]") for it in files}
+    return {**found, "stdout": count_lines(f"{ROWS}/stdout", "== ")}
 
 
 def counted():

@@ -17,7 +17,6 @@ from .explained import explained, normal, row_of
 ROOT = os.path.dirname(os.path.dirname(os.path.dirname(os.path.realpath(__file__))))
 CACHE = os.environ.get('XDG_CACHE_HOME') or os.path.expanduser('~/.cache')
 COPY = f'{CACHE}/cfgrammar-original'
-PROGRAM = f'{ROOT}/crates/vectors/out/vectors'
 
 
 def own_folder(path):
@@ -97,7 +96,7 @@ def written(command, rows):
 class Both:
     """The two programs."""
 
-    def __init__(self, original, program=PROGRAM, milliseconds=200):
+    def __init__(self, original, program, milliseconds=200):
         self.original, self.program, self.milliseconds = original, program, milliseconds
 
     def of_crate(self, rows, milliseconds=None):

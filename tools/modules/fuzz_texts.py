@@ -23,7 +23,7 @@ LONGEST = 1500
 def seeds(root, read_rows):
     """The texts of the rows and of the examples, each with the type and kind of its row, without the large ones."""
     found = []
-    for path in sorted(glob.glob(f'{root}/crates/vectors/data/vectors/*.rows')):
+    for path in sorted(glob.glob(f'{root}/rows/data/vectors/*.rows')):
         if os.path.basename(path) not in ('large.rows', 'limits.rows'):
             found += [(row.type, row.kind, row.text().decode()) for row in read_rows(path) if row.type in ('row', 'section')]
     for path in sorted(glob.glob(f'{root}/examples/*.y')):

@@ -22,7 +22,7 @@
 #include <time.h>
 #include <unistd.h>
 
-/* ROOM is that of crates/vectors_rows/src/files.rt. */
+/* ROOM is that of rows/src/rows/files.rt.txt. */
 enum { ROOM = 1048573, MOST_WRITTEN = 1 << 26, RUN_SECONDS = 60 };
 enum { REPORTED = 41, UNNEEDED = 42, WRONG = 43 };
 

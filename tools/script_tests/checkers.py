@@ -9,8 +9,8 @@ import sys
 from concurrent.futures import ThreadPoolExecutor
 
 ROOT = os.path.dirname(os.path.dirname(os.path.dirname(os.path.realpath(__file__))))
-TEXTS, ANSWERS = (f"crates/vectors/data/original/{it}" for it in ("texts.rows", "answers.txt"))
-LONG = "crates/vectors/data/long/beginnings"
+TEXTS, ANSWERS = (f"rows/data/original/{it}" for it in ("texts.rows", "answers.txt"))
+LONG = "rows/data/long/beginnings"
 # crates whose files are changed
 CRATES = {"vectors", "cfganalysis"}
 
@@ -163,11 +163,11 @@ def test_rows(room):
     copy = copied(room)
     passes(copy, "tools/expected.py", "check")
     for file, change, words in [
-        ("crates/vectors/data/vectors/worked.rows", without(r"^row .*?\n(?=row )"), "rows vectors/worked.rows"),
-        ("crates/vectors/data/lint/many.rows", emptied, "rows lint/many.rows: 0 found"),
-        ("crates/vectors/data/lint/json.rows", gone, "rows lint/json.rows: 0 found"),
-        ("crates/vectors/args", without(r"^values/marks.rows\n"), "rows values/marks.rows: 0 found"),
-        ("crates/vectors/stdout", without(r"^== .*?\n(?=== )"), "rows stdout"),
+        ("rows/data/vectors/worked.rows", without(r"^row .*?\n(?=row )"), "rows vectors/worked.rows"),
+        ("rows/data/lint/many.rows", emptied, "rows lint/many.rows: 0 found"),
+        ("rows/data/lint/json.rows", gone, "rows lint/json.rows: 0 found"),
+        ("rows/args", without(r"^values/marks.rows\n"), "rows values/marks.rows: 0 found"),
+        ("rows/stdout", without(r"^== .*?\n(?=== )"), "rows stdout"),
         ("tools/expected.txt", without(r"^rows lint/many.rows.*?\n"), "rows lint/many.rows"),
     ]:
         with changed(copy, file, change):
@@ -178,7 +178,7 @@ def test_nothing_to_find(room):
     """Nothing is found, and a list that expects nothing doesn't make that right."""
     copy = copied(room)
     none = lambda it: re.sub(r"(?<=^rows lint/many.rows: )\d+", "0", it, flags=re.M)
-    with changed(copy, "crates/vectors/data/lint/many.rows", emptied), changed(copy, "tools/expected.txt", none):
+    with changed(copy, "rows/data/lint/many.rows", emptied), changed(copy, "tools/expected.txt", none):
         fails(copy, "rows lint/many.rows: 0 found, 0 expected", "tools/expected.py", "check")
 
 
@@ -238,7 +238,7 @@ def test_no_texts(room):
     none = ["--program", "/bin/true", "--texts", "0"]
     fails(copy, "0 texts, 0 differences", "tools/fuzz", *none)
     fails(copy, "0 texts, 0 that differ", "tools/beside", "original", "--driver", "/bin/true", *none)
-    with changed(copy, "crates/vectors/data/vectors/pairs.rows", without(r"^row .*?\n(?=row )")):
+    with changed(copy, "rows/data/vectors/pairs.rows", without(r"^row .*?\n(?=row )")):
         fails(copy, "fuzz texts of rows and examples: ", "tools/fuzz", *none)
     for kind in ("texts", "costs", "lint"):
         fails(copy, "/dev/null has no rows", "tools/rules", kind, "/dev/null")

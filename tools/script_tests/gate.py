@@ -7,7 +7,7 @@ from toy import ROOT, Toy, path_without, read, write, write_script
 
 CHECKS = ["pages check", "picture check", "wrong_bodies --check", "surface check", "reference --check",
           "expected.py check"]
-RUNS = ["scripts_tests", "refuse", "long_rows", "original_rows", "fuzz 60", "real_runs", "samples"]
+RUNS = ["scripts_tests", "rows", "refuse", "long_rows", "original_rows", "fuzz 60", "real_runs", "samples"]
 
 
 def gate_of(room):

@@ -1,4 +1,4 @@
-"""The digests of the rows of values/sizes.rows and runs/sizes.rows in crates/vectors/data.
+"""The digests of the rows of values/sizes.rows and runs/sizes.rows in rows/data.
 
 The results of each row are made here from docs/BEHAVIOUR.md and docs/ROWS.md, by repeating lines as the text of the row does.
 """

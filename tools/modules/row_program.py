@@ -14,7 +14,7 @@ def files():
         return it.read().split()
 
 
-def program(tool):
+def path(tool):
     """The path of the program, which is compiled first if a source changed."""
     ran = subprocess.run([f"{ROOT}/tools/build_program", "--rows", tool], stdin=subprocess.DEVNULL, stdout=subprocess.PIPE, text=True)
     if ran.returncode:
