@@ -151,10 +151,6 @@ class Program:
         self.crates = [*self.crate.below(), self.crate]
         self.folders = [it.folder for it in self.crates]
 
-    def room_for_try(self, _):
-        """The folder in which `rt try` compiles it."""
-        return self.folder
-
     def look(self):
         """Looks at the sources: their states, what crates.txt says of them, and their checksum. The state of a file or
         folder is taken before it is read, and some milliseconds pass between, in which the clock of files ticks: so the
@@ -236,11 +232,15 @@ class Program:
         except OSError:
             pass
 
-    def clean(self):
-        """Ends `rt try`, and removes its folder."""
+    def end_try(self):
+        """Ends `rt try`."""
         if self.trying and self.trying.poll() is None:
             self.trying.terminate()
             self.wait_for_try(5)
+
+    def clean(self):
+        """Ends `rt try`, and removes its folder."""
+        self.end_try()
         if self.room:
             shutil.rmtree(self.room, ignore_errors=True)
 
@@ -287,20 +287,21 @@ class Rows(Program):
         self.crates = [*{it.name: it for top in tops for it in [*top.below(), top]}.values()]
         self.folders = [*(it.folder for it in self.crates), self.folder]
 
-    def room_for_try(self, folder):
+    def copied(self, folder):
+        """The program as a crate, in a copy of what it is made of, which is put into this folder."""
         names = {it.name for it in self.crates}
         for it in names:
-            shutil.copytree(f"{ROOT}/crates/{it}/src", f"{folder}/copy/crates/{it}/src")
+            shutil.copytree(f"{ROOT}/crates/{it}/src", f"{folder}/crates/{it}/src")
         for it in files_below(f"{self.folder}/src"):
             if it.endswith(".rt.txt"):
-                to = f"{folder}/copy/crates/rows/{os.path.relpath(it, self.folder)[:-len('.txt')]}"
+                to = f"{folder}/crates/rows/{os.path.relpath(it, self.folder)[:-len('.txt')]}"
                 os.makedirs(os.path.dirname(to), exist_ok=True)
                 shutil.copyfile(it, to)
-        shutil.copyfile(f"{ROOT}/HANDLES", f"{folder}/copy/HANDLES")
+        shutil.copyfile(f"{ROOT}/HANDLES", f"{folder}/HANDLES")
         lines = content(f"{ROOT}/crates.txt").decode().splitlines()
         listed = [it for it in lines if it.partition(":")[0].strip() in names]
-        write(f"{folder}/copy/crates.txt", "\n".join([*listed, self.line]).encode())
-        return f"{folder}/copy/crates/rows"
+        write(f"{folder}/crates.txt", "\n".join([*listed, self.line]).encode())
+        return self.rt.Crate(f"{folder}/crates/rows", folder, {})
 
 
 def status_of(*words):
