@@ -174,6 +174,30 @@ def test_rows(room):
             fails(copy, words, "tools/expected.py", "check")
 
 
+def test_printed_rows(room):
+    """The program prints other results, fails, or doesn't compile."""
+    copy, program = copied(room), f"{room}/program"
+    prints = '#!/bin/sh\n[ "$1" != vectors/worked.rows ] || cat ../stdout\n'
+    os.remove(f"{copy}/tools/build_program")
+    write(f"{copy}/tools/build_program", f"#!/bin/sh\necho {program}\n", 0o755)
+    write(program, prints, 0o755)
+    passes(copy, "tools/rows")
+    for text, words in [
+        (prints.replace("cat", "sed '0,/lines/s//line/'"), "1 failed"),
+        (prints.replace("cat", "sed '0,/^== [a-z]*/s//== other/'"), "+== other"),
+        (prints + "exit 3\n", "values/marks.rows: status 3"),
+        (prints + "echo fault >&2\n", "fault"),
+        (prints.replace("worked", "none"), "failed"),
+    ]:
+        write(program, text, 0o755)
+        fails(copy, words, "tools/rows")
+    write(program, prints, 0o755)
+    with changed(copy, "rows/data/lint/many.rows", emptied):
+        fails(copy, "rows lint/many.rows: 0 found", "tools/rows")
+    write(f"{copy}/tools/build_program", "#!/bin/sh\nexit 126\n", 0o755)
+    fails(copy, "", "tools/rows", status=126)
+
+
 def test_nothing_to_find(room):
     """Nothing is found, and a list that expects nothing doesn't make that right."""
     copy = copied(room)
