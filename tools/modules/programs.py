@@ -6,7 +6,7 @@ that it was made of: the sources of its crate and of those below it, by name and
 crates, HANDLES, the kit, and the tools that build it. It is put there in one step, after every check of it. Beside it
 are its own checksum, and a list of the times, sizes and inodes of all these files and their folders. While that list
 is right, tools/modules/run_unchanged.c runs the program at once. If anything differs, the checksum decides. The file
-out/proved/now has the SUM of the program that ran last.
+out/proved/now has the SUM of the program that ran last. The program of rows is kept so in rows/out/tried.
 """
 import fcntl
 import hashlib
@@ -278,11 +278,9 @@ class Rows(Program):
         self.kept = f"{self.folder}/out/tried"
 
     def find(self):
-        self.line, known = content(f"{ROOT}/rows/uses").decode(), {}
+        self.line = (content(f"{ROOT}/rows/uses") or b"").decode()
         used = [it for it in self.line.split()[1:] if os.path.isdir(f"{ROOT}/crates/{it}")]
-        for it in used:
-            self.rt.Crate(f"{ROOT}/crates/{it}", ROOT, known)
-        tops = [self.rt.Crate(f"{ROOT}/crates/{it}", ROOT, known) for it in used]
+        tops = [self.rt.Crate(f"{ROOT}/crates/{it}", ROOT, {}) for it in used]
         # each once
         self.crates = [*{it.name: it for top in tops for it in [*top.below(), top]}.values()]
         self.folders = [*(it.folder for it in self.crates), self.folder]
