@@ -1,171 +1,177 @@
-//! Rows on runs of the two programs.
+//! Runs and reports of the two programs, also on outputs that take little.
 
 use crate::narrow::Narrow;
-use crate::rooms::{Run, write_rooms};
+use crate::page::Page;
 use cfglint::{ReadError, SourceWithReasons, lint};
-use cfgtool::{Counted, Input, Sink, Source, run};
-use std::alloc::{AllocError, Global};
-use vectors_rows::page::Page;
-use vectors_rows::row::Row;
-use vectors_rows::text::{of_turn, write_text};
+use cfgrammar::yacc::YaccKind;
+use cfgtool::arguments::command_of;
+use cfgtool::{Counted, Input, KindArg, Sink, Source, report, report_lex, run};
+use std::alloc::Global;
+use std::io::ErrorKind;
 
-/// Two files; the first one requested is `first`, whatever its name.
+/// The text of row `one-rule`.
+const RULE: &str = "%start R %token T %% R: 'T';";
+
+/// Two files, whatever they are named: the one that is fetched first, and the next one.
 #[derive(Drop)]
-struct TwoFiles {
-    first: Option<Input>,
-    second: Option<Input>,
+struct Files<'a> {
+    alloc: Global,
+    texts: [Option<&'a str>; 2],
 }
 
-impl Source for TwoFiles {
+impl Source for Files<'_> {
     fn fetch(&mut self, _name: &str) -> Input {
-        let next = self.second.take();
-        let input = self.first.take();
-        self.first = next;
-        input.unwrap_or(Input::Unreadable)
+        let [text, next] = self.texts;
+        self.texts = [next, None];
+        match text {
+            Some(text) => match text.as_bytes().to_vec(self.alloc) {
+                Ok(bytes) => Input::Bytes(bytes),
+                Err(_) => Input::OutOfMemory,
+            },
+            None => Input::Unreadable,
+        }
     }
 }
 
-impl SourceWithReasons for TwoFiles {
+impl SourceWithReasons for Files<'_> {
     fn reason(&self) -> ReadError {
         ReadError::Other
     }
 }
 
-/// Runs the row's program on its arguments, where its file contains the text or what the row gives instead. Writes the
-/// status, what was written to the two outputs, and how many faults these had.
-pub(crate) fn print(out: &mut Page, row: &Row<'_>, text: &str) {
-    let words = row.first("words").unwrap_or("");
-    let mut output = Narrow::of_row(out.alloc, row, "out");
-    let mut errors = Narrow::of_row(out.alloc, row, "err");
-    let Ok(status) = run_over(out.alloc, row, text, &mut output, &mut errors) else {
-        return out.tear();
-    };
-    writeln!(out, "{} {words}", program_of(row));
-    writeln!(out, "status {status}");
-    write_taken(out, "output", &output);
-    write_taken(out, "errors", &errors);
-    write_requested_rooms(out, row, text, (output.bytes(), errors.bytes()))
-}
-
-/// The program that a row runs.
-pub(crate) fn program_of(row: &Row<'_>) -> &'static str {
-    match row.tries {
-        "lint" | "lint-program" => "cfglint",
-        _ => "cfgtool",
-    }
-}
-
-/// Writes how the program ends on outputs of every room, if the row requests this for one of the two.
-fn write_requested_rooms(
-    out: &mut Page,
-    row: &Row<'_>,
-    text: &str,
-    (output, errors): (&[u8], &[u8]),
-) {
-    let is_errors = row.first("rooms") == Some("err");
-    let run = OneOutput {
-        alloc: out.alloc,
-        row,
-        text,
-        is_errors,
-    };
-    match row.first("rooms") {
-        Some(_) => write_rooms(out, &run, if is_errors { errors } else { output }),
-        None => {}
-    }
-}
-
-/// A run of the program in which one of the two outputs is a given writer.
-#[derive(Drop)]
-struct OneOutput<'a> {
-    alloc: Global,
-    row: &'a Row<'a>,
-    text: &'a str,
-    is_errors: bool,
-}
-
-impl Run for OneOutput<'_> {
-    fn ended(&self, writer: &mut Narrow) -> Result<&'static str, AllocError> {
-        let mut other = Narrow::wide(self.alloc);
-        let status = if self.is_errors {
-            run_over(self.alloc, self.row, self.text, &mut other, writer)?
-        } else {
-            run_over(self.alloc, self.row, self.text, writer, &mut other)?
-        };
-        Ok(word_of(status))
-    }
-}
-
-/// A word for a status.
-fn word_of(status: u8) -> &'static str {
-    match status {
-        0 => "0",
-        1 => "1",
-        2 => "2",
-        _ => "3",
-    }
-}
-
-/// Runs the program over two writers, and returns its status. The writers then know their faults.
-fn run_over(
-    alloc: Global,
-    row: &Row<'_>,
-    text: &str,
+/// Writes what a run of a program over two files and two outputs writes, and its status.
+fn write_ended(
+    page: &mut Page,
+    (program, args): (&str, &[&str]),
+    texts: [Option<&str>; 2],
     output: &mut Narrow,
     errors: &mut Narrow,
-) -> Result<u8, AllocError> {
-    let words = row.first("words").unwrap_or("");
-    let args: Vec<&str> = words.split_whitespace().collect(alloc)?;
-    let first = Some(input(alloc, row, text)?);
-    let second = second_input(alloc, row)?;
-    let mut source = TwoFiles { first, second };
+) {
+    let (alloc, mut files) = (
+        page.alloc,
+        Files {
+            alloc: page.alloc,
+            texts,
+        },
+    );
     let mut to_output = Counted::new(&mut *output);
     let mut to_errors = Counted::new(&mut *errors);
-    let status = match row.tries {
-        "lint" => lint(alloc, &args, &mut source, &mut to_output, &mut to_errors),
-        _ => run(alloc, &args, &mut source, &mut to_output, &mut to_errors),
+    let status = match program {
+        "cfglint" => lint(alloc, args, &mut files, &mut to_output, &mut to_errors),
+        _ => run(alloc, args, &mut files, &mut to_output, &mut to_errors),
     };
-    let (faults, more_faults) = (to_output.faults(), to_errors.faults());
-    output.faults = faults;
-    errors.faults = more_faults;
-    if output.is_selected(status, errors, row.first("input") == Some("memory")) {
-        return Err(AllocError);
+    let (faults, more) = (to_output.faults(), to_errors.faults());
+    writeln!(
+        page,
+        "{program} {args:?}: status {status}, {faults} and {more} faults"
+    );
+    write_taken(page, "output", output);
+    write_taken(page, "errors", errors);
+}
+
+/// Writes what a run whose outputs take all bytes writes, and its status.
+pub(crate) fn write_run(
+    page: &mut Page,
+    program: (&str, &[&str]),
+    text: &str,
+    names: Option<&str>,
+) {
+    let (mut output, mut errors) = (Narrow::wide(page.alloc), Narrow::wide(page.alloc));
+    write_ended(page, program, [Some(text), names], &mut output, &mut errors);
+}
+
+/// Writes the bytes that a writer took.
+fn write_taken(page: &mut Page, name: &str, taken: &Narrow) {
+    match std::str::from_utf8(taken.taken.as_slice()) {
+        Ok(_) if taken.wants_memory => page.tear(),
+        Ok("") => {}
+        Ok(text) => writeln!(page, "{name}:\n{text}|"),
+        Err(_) => writeln!(page, "{name}: no text"),
     }
-    Ok(status)
 }
 
-/// The content of the row's file.
-fn input(alloc: Global, row: &Row<'_>, text: &str) -> Result<Input, AllocError> {
-    Ok(match row.first("input") {
-        Some("unreadable") => Input::Unreadable,
-        Some("memory") => Input::OutOfMemory,
-        Some("latin") => Input::Bytes([0x41, 0xff].to_vec(alloc)?),
-        _ => Input::Bytes(text.as_bytes().to_vec(alloc)?),
-    })
+/// Row `lexer-lines`: what is written of the names in a second file.
+pub(crate) fn write_lexer_lines(page: &mut Page) {
+    let program = (
+        "cfgtool",
+        ["original-genericparsetree", "lex", "-", "names"].as_slice(),
+    );
+    let tail = "%start S %% S: B C 'd'; B: 'b'; C: 'c' | ;";
+    writeln!(page, "\n== lexer-lines");
+    write_run(page, program, tail, Some("b\nq\nd"));
+    write_run(page, program, RULE, Some("T\r\n\r\n T\nU\nU"));
 }
 
-/// The content of the second file, if the row gives it: a lexer's names, or a grammar.
-fn second_input(alloc: Global, row: &Row<'_>) -> Result<Option<Input>, AllocError> {
-    match row.first("names") {
-        Some(line) => {
-            let names = of_turn(alloc, line, 0)?;
-            Ok(Some(Input::Bytes(names.into_bytes())))
-        }
-        None => Ok(None),
+/// Writes reports and runs on outputs that take few bytes, or few at a time, and then fail or take nothing.
+pub(crate) fn write_failing(page: &mut Page) {
+    for end in [
+        (5, 1000, Some(ErrorKind::BrokenPipe)),
+        (5, 4, Some(ErrorKind::Interrupted)),
+        (5, 1000, None),
+        (0, 1000, Some(ErrorKind::StorageFull)),
+        (1000, 1, None),
+    ] {
+        let (room, step, fault) = end;
+        writeln!(
+            page,
+            "\n== outputs of {room} bytes, {step} at a time, then {fault:?}"
+        );
+        write_reports(page, end);
+        write_failing_runs(page, end);
     }
 }
 
-/// Writes what an output accepted.
-pub(crate) fn write_taken(out: &mut Page, name: &str, taken: &Narrow) {
-    let (bytes, faults) = (taken.bytes(), taken.faults);
-    writeln!(out, "{name} of {} bytes, {faults} faults", bytes.len());
-    write_bytes(out, bytes);
+/// Writes how `report` and `report_lex` end on such an output.
+fn write_reports(page: &mut Page, end: (usize, usize, Option<ErrorKind>)) {
+    for (command, text) in [("grammar", RULE), ("firsts", "%% A: C;"), ("lex", RULE)] {
+        let mut output = Narrow::new(page.alloc, end);
+        write_report(page, command, text, &mut output);
+        write_taken(page, "output", &output);
+    }
 }
 
-/// Writes bytes as the text that they are in UTF-8.
-pub(crate) fn write_bytes(out: &mut Page, bytes: &[u8]) {
-    match std::str::from_utf8(bytes) {
-        Ok(text) => write_text(out, text),
-        Err(_) => out.push_str("    no text\n"),
+/// Writes how a report on a text ends, and how many faults its output had.
+fn write_report(page: &mut Page, command: &str, text: &str, output: &mut Narrow) {
+    let (kind, mut counted) = (KindArg::Named(YaccKind::Eco), Counted::new(output));
+    let ended = match command_of(command) {
+        Some(command) => report(page.alloc, kind, command, text, &mut counted),
+        None => report_lex(page.alloc, kind, text, "U", &mut counted),
+    };
+    writeln!(
+        page,
+        "report {command}: {ended:?}, {} faults",
+        counted.faults()
+    );
+}
+
+/// Writes the beginning of what `sentences` writes, which may be long.
+pub(crate) fn write_beginning(page: &mut Page, kind: &str, text: &str) {
+    let args = [kind, "sentences", "-"];
+    let end = (62, 1000, Some(ErrorKind::BrokenPipe));
+    write_narrow_run(page, ("cfgtool", &args), Some(text), end);
+}
+
+/// Writes how runs of both programs end if one of their outputs is such a one.
+fn write_failing_runs(page: &mut Page, end: (usize, usize, Option<ErrorKind>)) {
+    let tool = ("cfgtool", ["eco", "grammar", "a.y"].as_slice());
+    let linter = ("cfglint", ["a.y"].as_slice());
+    for (program, text) in [
+        (tool, Some(RULE)),
+        (tool, None),
+        (linter, Some("%% A: A;")),
+        (linter, None),
+    ] {
+        write_narrow_run(page, program, text, end);
     }
+}
+
+/// Writes how a run ends if both of its outputs are such ones.
+fn write_narrow_run(
+    page: &mut Page,
+    program: (&str, &[&str]),
+    text: Option<&str>,
+    end: (usize, usize, Option<ErrorKind>),
+) {
+    let (mut output, mut errors) = (Narrow::new(page.alloc, end), Narrow::new(page.alloc, end));
+    write_ended(page, program, [text, None], &mut output, &mut errors);
 }

@@ -3,9 +3,12 @@
 //! consumers. Nothing here runs. What calls make is returned, since a function that drops it proves how.
 
 pub mod bison;
+pub mod grammars;
+pub mod maps;
 pub mod own;
 pub mod paths;
 pub mod programs;
+pub mod sections;
 pub mod sets;
 pub mod texts;
 pub mod traits;

@@ -1,12 +1,11 @@
 //! Callers of the library, as docs/GUIDE.md shows them. None of them has a proof of its own.
 
 mod added;
-mod bison;
-mod errors;
-mod findings;
-mod keys;
-mod nullable;
-mod productions;
-mod repairs;
-pub(crate) mod results;
-mod tables;
+pub(crate) mod bison;
+pub(crate) mod errors;
+pub(crate) mod findings;
+pub(crate) mod keys;
+pub(crate) mod nullable;
+pub(crate) mod productions;
+pub(crate) mod repairs;
+pub(crate) mod tables;

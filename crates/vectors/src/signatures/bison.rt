@@ -1,12 +1,12 @@
 //! What is read of Yacc and Bison files.
 
+use cfgrammar::Span;
 use cfgrammar::bison::{
     Associativity, BisonFault, BisonFile, Error, ErrorKind, Expected, WordFaultKind,
 };
 use cfgrammar::yacc::YaccGrammar;
 use cfgrammar::yacc::ast::GrammarAST;
-use cfgrammar::{Span, SpansKind};
-use std::alloc::{AllocError, Global};
+use std::alloc::Global;
 use std::error;
 use std::fmt::{Debug, Display};
 
@@ -26,16 +26,6 @@ pub fn grammar_of(alloc: Global, file: &BisonFile) -> Result<YaccGrammar<u32>, B
     file.grammar(alloc)
 }
 
-/// The places of an error, and what they mean.
-pub fn places_of(alloc: Global, error: &Error) -> (Result<Vec<Span>, AllocError>, SpansKind) {
-    (error.spans(alloc), error.spanskind())
-}
-
-/// What an error is.
-pub fn kind_of(error: &Error) -> ErrorKind {
-    error.kind
-}
-
 /// The word of a kind of errors.
 pub fn word_of(kind: ErrorKind) -> &'static str {
     kind.word()
@@ -44,23 +34,6 @@ pub fn word_of(kind: ErrorKind) -> &'static str {
 /// Where an error is, the other place, and its offset.
 pub fn where_is(error: &Error) -> (Span, Option<Span>, usize) {
     (error.span, error.other, error.offset())
-}
-
-/// Whether a fault is that of a file.
-pub fn is_of_file(fault: &BisonFault) -> bool {
-    match fault {
-        BisonFault::Errors(_) | BisonFault::StorageTooSmall => true,
-        BisonFault::OutOfMemory => false,
-    }
-}
-
-/// Whether operators of a level may follow each other.
-pub fn may_follow(associativity: Associativity) -> Option<bool> {
-    match associativity {
-        Associativity::Left | Associativity::Right => Some(true),
-        Associativity::Nonassoc => Some(false),
-        Associativity::OnlyPrecedence => None,
-    }
 }
 
 /// Whether an error is one of the text, and not one of its names.

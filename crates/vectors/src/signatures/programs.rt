@@ -4,8 +4,9 @@ ghost use Rattle.std.specs.Prelude.{◌-◌, ◌^◌, ◌<◌};
 
 use cfgrammar::yacc::YaccKind;
 use cfgrammar::{Storage, TIdx};
-use cfgtool::{Command, Input, KindArg, Sink, SinkFault, Source};
+use cfgtool::{Command, KindArg, Outcome, ReportFault, Sink, SinkFault, Source, run_over};
 use lexcheck::LexReport;
+use std::rt::{Clock, Env, Files};
 
 /// Where a lexer's names and those of a grammar's tokens differ.
 pub fn differences<S: Storage>(report: &LexReport<S>) -> (&Vec<usize>, &Vec<TIdx<S>>) {
@@ -26,8 +27,22 @@ pub fn requests(kind: YaccKind) -> ([Command; 5], [KindArg; 2]) {
     )
 }
 
+/// How a report ended.
+pub fn is_done(ended: &Result<Outcome, ReportFault>) -> Option<bool> {
+    match ended {
+        Ok(Outcome::Done) => Some(true),
+        Ok(Outcome::Refused) | Err(ReportFault::Write) => Some(false),
+        Err(ReportFault::OutOfMemory) => None,
+    }
+}
+
+/// The status of the whole program.
+pub fn whole<R: Env + Files + Input + Print + Eprint + Clock + AllocGlobal>(rt: &R) -> u8 {
+    run_over(rt).status()
+}
+
 /// What a source has under a name.
-pub fn fetched<S: Source>(source: &mut S, name: &str) -> Input {
+pub fn fetched<S: Source>(source: &mut S, name: &str) -> cfgtool::Input {
     source.fetch(name)
 }
 

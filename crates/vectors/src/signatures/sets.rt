@@ -3,18 +3,10 @@
 ghost use Rattle.std.specs.Prelude.{◌-◌, ◌^◌, ◌<◌, length};
 
 use cfgrammar::yacc::SentenceGenerator;
-use cfgrammar::yacc::firsts::YaccFirsts;
 use cfgrammar::yacc::grammar::Productions;
+use cfgrammar::yacc::sentences::SentenceError;
 use cfgrammar::{PIdx, RIdx, Storage, Symbol, TIdx};
 use std::alloc::{AllocError, Global};
-
-/// A bit that is set in FIRST sets.
-pub fn set<S: Storage>(firsts: &mut YaccFirsts<S>, rule: RIdx<S>, token: TIdx<S>) -> bool
-    requires rule { S.number rule.0 < length firsts.old.firsts.rows }
-    requires token { S.number token.0 < firsts.old.firsts.columns }
-{
-    firsts.set(rule, token)
-}
 
 /// A production of any grammar, which is opened.
 pub fn opened<S: Storage, P: Productions<S>>(
@@ -30,10 +22,36 @@ pub fn opened<S: Storage, P: Productions<S>>(
     (rule, symbols.len())
 }
 
+/// How many rules, tokens and productions there are, and how many productions were opened.
+pub fn counts<S: Storage, P: Productions<S>>(productions: &P) -> (RIdx<S>, TIdx<S>, PIdx<S>, u128) {
+    (
+        productions.rules_len(),
+        productions.tokens_len(),
+        productions.prods_len(),
+        productions.opened_all(),
+    )
+}
+
 /// The cheapest sentences of each rule.
 pub fn cheapest(
     alloc: Global,
     generator: &SentenceGenerator<'_, u32>,
 ) -> Result<Vec<Vec<Vec<TIdx<u32>>>>, AllocError> {
     generator.all_min_sentences(alloc)
+}
+
+/// The production that a rule's cheapest sentence begins with, and its number.
+pub fn choice(generator: &SentenceGenerator<'_, u32>, rule: RIdx<u32>) -> Option<(PIdx<u32>, u32)>
+    requires { rule.0 < generator.now.grammar.rules }
+{
+    generator.choice(rule)
+}
+
+/// Whether a rule has a sentence, if that is known.
+pub fn is_productive(error: &SentenceError) -> Option<bool> {
+    match error {
+        SentenceError::NoSentence => Some(false),
+        SentenceError::CostTooLarge => Some(true),
+        SentenceError::OutOfMemory => None,
+    }
 }

@@ -1,11 +1,14 @@
 //! What is read of texts.
 
-use cfgrammar::header::{HeaderErrorKind, HeaderFault, KindFault, Setting, Value, kind_if_named};
+use cfgrammar::header::{HeaderErrorKind, KindFault, Setting, Value};
 use cfgrammar::yacc::ast::{ASTModificationError, ASTWithValidityInfo, KindSource};
 use cfgrammar::yacc::{
-    AssocKind, Precedence, YaccGrammarErrorKind, YaccGrammarResult, YaccGrammarWarning, YaccKind,
+    AssocKind, Precedence, YaccGrammarError, YaccGrammarErrorKind, YaccGrammarResult,
+    YaccGrammarWarning, YaccGrammarWarningKind, YaccKind,
 };
-use cfgrammar::{ColumnUnit, Location, Positions, Source, Span, Spanned, SpansKind};
+use cfgrammar::{
+    ColumnUnit, FeedError, Location, NewlineCache, Source, Span, Spanned, SpansKind, render,
+};
 use std::alloc::{AllocError, Global};
 
 /// Whether a file named its kind.
@@ -25,11 +28,6 @@ pub fn read_or(
     ASTWithValidityInfo::from_str_or(alloc, default, text)
 }
 
-/// The kind that a text names, if it names one, and what follows its section.
-pub fn named_in(alloc: Global, text: &str) -> Result<(Option<YaccKind>, &str), HeaderFault> {
-    kind_if_named(alloc, text)
-}
-
 /// The level of a precedence whose tokens associate.
 pub fn level_of(precedence: Precedence) -> Option<u64> {
     let number: u64 = precedence.level;
@@ -39,12 +37,16 @@ pub fn level_of(precedence: Precedence) -> Option<u64> {
     }
 }
 
-/// What spans of a warning mean, and why a tree can't have another start.
+/// What spans of a warning mean and whether it is on a rule, and why a tree can't have another start.
 pub fn kinds_of<'a>(
     warning: &YaccGrammarWarning,
     error: &'a ASTModificationError,
-) -> (SpansKind, &'a YaccGrammarErrorKind) {
-    (warning.spanskind(), error.kind())
+) -> (SpansKind, bool, &'a YaccGrammarErrorKind) {
+    let is_rule = match warning.kind() {
+        YaccGrammarWarningKind::UnusedRule => true,
+        YaccGrammarWarningKind::UnusedToken => false,
+    };
+    (warning.spanskind(), is_rule, error.kind())
 }
 
 /// What an error's kind holds besides names: a character, or what is wrong with a section.
@@ -92,13 +94,14 @@ pub fn located<'a>(
     )
 }
 
-/// The line and the column of an offset in each unit.
-pub fn columns(positions: &Positions<'_>, offset: usize) -> [Option<(usize, u128)>; 3] {
-    [
-        ColumnUnit::Bytes.line_and_column(positions, offset),
-        ColumnUnit::Characters.line_and_column(positions, offset),
-        ColumnUnit::Display.line_and_column(positions, offset),
-    ]
+/// An error as people read it.
+pub fn rendered(alloc: Global, text: &str, error: &YaccGrammarError) -> Result<String, AllocError> {
+    render(alloc, "a.y", text, error)
+}
+
+/// The newlines of the lines of a text.
+pub fn newlines(alloc: Global, text: &str) -> Result<NewlineCache, FeedError> {
+    NewlineCache::from_pieces(alloc, text.split_inclusive('\n'))
 }
 
 /// A text whose columns are those of a unit, or count characters.

@@ -6,6 +6,7 @@ use cfgrammar::yacc::YaccGrammarError;
 use cfgrammar::{
     FeedError, Hint, Location, PIdx, Positions, RIdx, SIdx, Span, Storage, TIdx, hint_for,
 };
+use std::alloc::AllocError;
 use std::hash::{Hash, Hasher};
 
 /// Indices as they are stored, twice each.
@@ -28,18 +29,63 @@ pub fn stored<S: Storage, H: Hasher>(
     )
 }
 
-/// A stored number and the greatest one, and a number as each type stores it.
+/// The numbers of indices.
+pub fn widened<S: Storage>(
+    rule: RIdx<S>,
+    production: PIdx<S>,
+    symbol: SIdx<S>,
+    token: TIdx<S>,
+) -> ([usize; 4], [u32; 4]) {
+    (
+        [
+            usize::from(rule),
+            usize::from(production),
+            usize::from(symbol),
+            usize::from(token),
+        ],
+        [
+            u32::from(rule),
+            u32::from(production),
+            u32::from(symbol),
+            u32::from(token),
+        ],
+    )
+}
+
+/// A stored number and the greatest one, and a number as a type stores it, and as each of three does.
 pub fn numbers<S: Storage>(
     stored: S,
     number: usize,
-) -> (usize, usize, Option<u8>, Option<u16>, Option<u32>) {
+) -> (
+    usize,
+    usize,
+    Option<S>,
+    Option<u8>,
+    Option<u16>,
+    Option<u32>,
+) {
     (
         stored.to_usize(),
         S::MAX,
+        S::from_usize(number),
         <u8 as Storage>::from_usize(number),
         <u16 as Storage>::from_usize(number),
         <u32 as Storage>::from_usize(number),
     )
+}
+
+/// The bytes of a span, whether it is empty, and its location.
+pub fn parts_of(span: Span) -> (usize, bool, Location) {
+    (span.len(), span.is_empty(), Location::from(span))
+}
+
+/// The span of a location, if it is one, and a copy of the location.
+pub fn span_of(location: &Location) -> (Option<Span>, Result<Location, AllocError>) {
+    let span = match location {
+        Location::Span(span) => Some(*span),
+        Location::CommandLine | Location::Other(_) => None,
+    };
+    (span, location.clone())
 }
 
 /// Whether a text is too long.
