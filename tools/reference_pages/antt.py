@@ -7,7 +7,7 @@ from modules.programs import ROOT
 from .sources import KIT, is_file, read, source
 
 MARKS = {"pub", "abbrev", "unfoldable", "pattern"}
-NO_DECLARATION = {"infix", "infixl", "infixr", "unfolding", "ruleset"}
+NO_DECLARATION = {"infix", "infixl", "infixr", "unfolding"}
 # what the toolchain makes from Rattle's code, and what is part of the logic
 MADE = re.compile(r"\.(declared|contracts)\.|^Prim\b")
 FOLLOWED = ("Rattle.", "mathlib.", "lib.", "native.")
@@ -120,12 +120,13 @@ class Module:
                 current = self.read_declaration(begin, end, parameters, current)
 
     def read_declaration(self, begin, end, parameters, current):
-        """Reads a signature, a record or a data type; another statement is an equation of the current definition."""
+        """Reads a signature, a record, a data type or a ruleset; another statement is an equation of the current
+        definition."""
         tokens = self.source.tokens
         at = begin
         while tokens[at].text in MARKS:
             at += 1
-        kind = tokens[at].text if tokens[at].text in ("record", "data") else "definition"
+        kind = tokens[at].text if tokens[at].text in ("record", "data", "ruleset") else "definition"
         at += kind != "definition"
         name = tokens[at].text
         if kind == "definition" and not self.is_signature(at, end):
@@ -136,7 +137,7 @@ class Module:
         made.parameters = parameters
         self.definitions.append(made)
         self.named[name] = made
-        if kind != "definition":
+        if kind in ("record", "data"):
             self.read_members(made, at, end)
         return made
 

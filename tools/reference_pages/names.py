@@ -199,7 +199,8 @@ def names_of(library, imports, own):
 
 def read_definition(library, definition, names):
     """Finds what a definition cites."""
-    if not definition.module.path.startswith(FOLLOWED):
+    # what a ruleset lists is for proofs, and no part of what a definition says
+    if not definition.module.path.startswith(FOLLOWED) or definition.kind == "ruleset":
         return
     module, tokens = definition.module, definition.module.source.tokens
     walk = Walk(tokens, names, set())

@@ -338,6 +338,17 @@ def test_reference(room):
             fails(copy, words, "tools/reference", "--check")
 
 
+def test_pages_of_the_reference(room):
+    """What only the pages show: a name of the kit that isn't known there, and a link that leads nowhere."""
+    copy, made = copied(room), f"{room}/pages"
+    with changed(copy, "tools/reference_pages/antt.py", replaced(', "ruleset"', "")):
+        passes(copy, "tools/reference", "--check")
+        fails(copy, "names arith, which nothing defines", "tools/reference", made)
+    with changed(copy, "crates/cfganalysis/src/firsts.rt", replaced("    /// ", "    /// See [`nothing`]. ")):
+        fails(copy, "the doc comment's link nothing leads nowhere", "tools/reference", made)
+    assert not os.path.exists(made)
+
+
 def test_wrong_bodies(room):
     copy = copied(room)
     for name in CRATES:

@@ -1,11 +1,12 @@
 """Tests of the gate's scripts, .ci/run and tools/gate_runs, and of the programs that it leaves."""
 import os
+import re
 import shutil
 import subprocess
 
 from toy import ROOT, Toy, path_without, read, write, write_script
 
-CHECKS = ["pages check", "picture check", "wrong_bodies --check", "surface check", "reference --check",
+CHECKS = ["pages check", "picture check", "wrong_bodies --check", "surface check", "reference PAGES",
           "expected.py check"]
 RUNS = ["scripts_tests", "rows", "refuse", "long_rows", "original_rows", "fuzz 60", "real_runs", "samples"]
 
@@ -23,10 +24,12 @@ def gate_of(room):
 
 
 def run_gate(room, path=None):
-    """The status of the gate, its output, and what it writes to standard error."""
-    environment = {**os.environ, "PATH": path or f"{room}/bin:{os.environ['PATH']}"}
+    """The status of the gate, its output, and what it writes to standard error. It leaves nothing."""
+    os.makedirs(f"{room}/temporary", exist_ok=True)
+    environment = {**os.environ, "PATH": path or f"{room}/bin:{os.environ['PATH']}", "TMPDIR": f"{room}/temporary"}
     ran = subprocess.run([f"{room}/gate"], cwd="/", env=environment, capture_output=True, text=True)
-    return ran.returncode, ran.stdout, ran.stderr
+    assert os.listdir(f"{room}/temporary") == []
+    return ran.returncode, re.sub(rf"{room}/temporary/\S+", "PAGES", ran.stdout), ran.stderr
 
 
 def test_gate_by_a_symlink(room):
