@@ -126,8 +126,8 @@ def stop_if_held_back(machine, paths):
         for moment in sorted(at for at in moments if ready <= at < it.began):
             at_work = [other for other in machine.proofs if other.began <= moment < other.ended]
             assert len(at_work) == machine.lanes, f"{it.crate.name} could begin at {moment:.0f}, and waits"
-            begin = [other for other in at_work if other.began == moment and paths[other.crate.name] < paths[it.crate.name]]
-            assert not begin, f"{begin[0].crate.name} begins at {moment:.0f}, before {it.crate.name}"
+            begin = [other.crate.name for other in at_work if other.began == moment]
+            assert all(paths[name] >= paths[it.crate.name] for name in begin), f"{it.crate.name} waits for one of {begin}"
 
 
 def stop_if_late(machine, paths, program):
