@@ -1,12 +1,13 @@
 """What a program of this repository is made of, and where a built one is kept. tools/run_program and
 tools/build_program use it.
 
-A program is kept in crates/NAME/out/proved/SUM, or in out/tried/SUM if it is unproved. SUM is the checksum of all
-that it was made of: the sources of its crate and of those below it, by name and byte, what crates.txt says of these
-crates, HANDLES, the kit, and the tools that build it. It is put there in one step, after every check of it. Beside it
-are its own checksum, and a list of the times, sizes and inodes of all these files and their folders. While that list
-is right, tools/modules/run_unchanged.c runs the program at once. If anything differs, the checksum decides. The file
-out/proved/now has the SUM of the program that ran last. The program of rows is kept so in rows/out/tried.
+A program is kept in crates/NAME/out/proved/SUM, or in out/tried/SUM if it is unproved. SUM is the checksum of a list of
+checksums, of all that it was made of: the sources of its crate and of those below it, by name and byte, what crates.txt
+says of these crates, HANDLES, the kit, and the tools that build it. It is put there in one step, after every check of
+it. Beside it are its own checksum, and a list of the times, sizes and inodes of all these files and their folders.
+While that list is right, tools/modules/run_unchanged.c runs the program at once. If anything differs, the checksum
+decides. The file out/proved/now has the SUM of the program that ran last. The program of rows is kept so in
+rows/out/tried.
 """
 import fcntl
 import hashlib
@@ -20,6 +21,8 @@ import subprocess
 import time
 
 ROOT = os.path.dirname(os.path.dirname(os.path.dirname(os.path.realpath(__file__))))
+# those that people call, each made by a crate of its own
+PROGRAMS = ("cfgtool", "cfglint")
 KITS, LOGIC = "the Rattle kit rattle-kit-13b or rattle-kit-13f", "dac8208d650f15bf"
 TOOLS = [f"tools/{it}" for it in ("build_program", "modules/programs.py", "modules/run_unchanged.c")]
 PARTS = ("src", "specs", "proofs")
@@ -75,12 +78,16 @@ class Kit:
 
     def other_logic(self):
         """What to say of a kit whose logic isn't that of the README's proofs."""
-        with open(f"{self.folder}/KIT-ID", encoding="utf-8", errors="replace") as it:
-            identity = it.read().strip()
+        identity = self.identity()
         if LOGIC in identity.split():
             return None
         made = f"README's proofs were made with {KITS}, logic {LOGIC}"
         return f"{made}; this one is {identity}, and may refuse some of them"
+
+    def identity(self):
+        """What the kit says that it is."""
+        with open(f"{self.folder}/KIT-ID", encoding="utf-8", errors="replace") as it:
+            return it.read().strip()
 
     def load(self):
         """The command rt as a module, for its crates and for the lanes in which its gate proves them."""
@@ -132,6 +139,10 @@ def content(path):
         return None
 
 
+def checksum(made):
+    return hashlib.sha256(made).hexdigest()
+
+
 class Program:
     """A program, and what it is made of now."""
 
@@ -167,15 +178,23 @@ class Program:
         own = (it for folder in self.folders for part in parts for it in files_below(f"{folder}/{part}"))
         self.states = states + [(os.path.relpath(it, ROOT), state(it)) for it in own]
         time.sleep(0.02)
-        summed = hashlib.sha256(repr([self.kind, [(it.name, it.said) for it in self.crates]]).encode())
-        for it, _ in self.states:
-            # what crates.txt says of other crates doesn't matter, and KIT-ID and WHAT say which kit it is, wherever it
-            # is
-            if it not in ("crates.txt", self.kit.command):
-                name = os.path.basename(it) if os.path.isabs(it) else it
-                summed.update(repr((name, content(os.path.join(ROOT, it)))).encode())
-        self.sum = summed.hexdigest()
+        self.made_of = "".join(f"{it}\n" for it in self.checksums())
+        self.sum = checksum(self.made_of.encode())
         return self
+
+    def checksums(self):
+        """The kind and the name of the program, and for each thing that it is made of a line with its checksum and its
+        name. What crates.txt says of other crates doesn't matter, and KIT-ID and WHAT say which kit it is, wherever it
+        is."""
+        yield f"{self.kind} {self.name}"
+        for it in self.crates:
+            yield f"{checksum(repr(it.said).encode())}  {it.name} in crates.txt"
+        for it, _ in self.states:
+            if it not in ("crates.txt", self.kit.command):
+                made = content(os.path.join(ROOT, it))
+                name = f"{os.path.basename(it)} of the kit" if os.path.isabs(it) else it
+                # (names have no line breaks so)
+                yield f"{'absent' if made is None else checksum(made)}  {repr(name)[1:-1]}"
 
     def is_changed(self):
         """Whether anything changed since the last look, even if it was put back."""
@@ -188,7 +207,7 @@ class Program:
     def is_kept(self):
         """Whether the program is kept, and undamaged."""
         made = os.access(self.path(), os.X_OK) and content(self.path())
-        return bool(made) and content(f"{self.path()}.sum") == hashlib.sha256(made).hexdigest().encode()
+        return bool(made) and content(f"{self.path()}.sum") == checksum(made).encode()
 
     def room_for_build(self):
         return f"{self.folder}/out/making-{self.kind}"
@@ -196,7 +215,7 @@ class Program:
     def keep(self):
         """Puts the program that was built in its place, with its checksum."""
         room = self.room_for_build()
-        write(f"{room}/program.sum", hashlib.sha256(content(f"{room}/program")).hexdigest().encode())
+        write(f"{room}/program.sum", checksum(content(f"{room}/program")).encode())
         if os.path.isfile(self.kept):
             os.remove(self.kept)
         os.makedirs(self.kept, exist_ok=True)
@@ -300,6 +319,12 @@ class Rows(Program):
         listed = [it for it in lines if it.partition(":")[0].strip() in names]
         write(f"{folder}/crates.txt", "\n".join([*listed, self.line]).encode())
         return self.rt.Crate(f"{folder}/crates/rows", folder, {})
+
+
+def proved(kit):
+    """The proved programs by the names by which people call them, as what they are made of is now."""
+    rt = kit.load()
+    return {it: Program(rt, kit, f"{it}_main", "proved").look() for it in PROGRAMS}
 
 
 def status_of(*words):
