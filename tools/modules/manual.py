@@ -1,5 +1,5 @@
-"""The manual pages and the completions of cfglint and cfgtool, made of what they say of themselves: of 'cfglint -h' and
-what it answers to a wrong value, and of packaging/cfgtool.txt, which has the same form."""
+"""The manual pages and the completions of cfglint and cfgtool, made of what they say of themselves: of 'cfglint -h', of
+the values that it lists if one is wrong, and of packaging/cfgtool.txt, which has the form of 'cfglint -h'."""
 import re
 import subprocess
 
@@ -45,8 +45,8 @@ class Usage:
         self.statuses = [Entry(*it.partition(" ")[::2]) for it in statuses]
 
     def entries_in(self, part):
-        """The entries of a paragraph: each begins with two spaces, and what is said of it comes after two or more, or in
-        the next lines, which are indented more."""
+        """The entries of a paragraph: each begins with two spaces, and what is said of it comes after two or more, or
+        in the next lines, which are indented more."""
         for entry in re.split(r"\n(?=  \S)", part):
             head, says = re.match(r"  (\S+(?: \S+)*)\s*(.*)", entry, re.S).groups()
             yield Entry(head, " ".join(says.split()))
@@ -147,7 +147,8 @@ def zsh_of_cfglint(usage, choices):
             found = choices.get(name)
             value = f":{it.value.lower()}:{f'({chr(32).join(found)})' if found else ''}" if it.value else ""
             lines.append(f"    {quoted(f'*{name}{chr(61) * bool(it.value)}[{special(it.brief())}]{value}')}")
-    return "\n".join(["#compdef cfglint", "_arguments -s \\", *(f"{it} \\" for it in lines), "    '*:file:_files'", ""]).encode()
+    lines = ["#compdef cfglint", "_arguments -s \\", *(f"{it} \\" for it in lines), "    '*:file:_files'", ""]
+    return "\n".join(lines).encode()
 
 
 def fish_of_cfglint(usage, choices):

@@ -1,7 +1,7 @@
 """The archive of what a build keeps, which tools/package makes and bin/install --from reads.
 
-In the folder cfgrammar-VERSION-proved it has KIT-ID, which is that of the kit that proved the programs; for each crate of
-a program a folder with the program, its checksum (program.sum) and the list of checksums of all that it was made of
+In the folder cfgrammar-VERSION-proved it has KIT-ID, which is that of the kit that proved the programs; for each crate
+of a program a folder with the program, its checksum (program.sum) and the list of checksums of all that it was made of
 (made-of), whose own checksum is the SUM under which a build keeps it; and SHA256SUMS, the checksums of all these. It is
 the same, byte for byte, for the same programs.
 """

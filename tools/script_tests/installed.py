@@ -135,9 +135,9 @@ def test_the_usage_of_install(room):
     toy = Toy(room)
     for it in ("-h", "--help"):
         status, out, said = toy.call("install", it)
-        assert (status, said) == (0, "") and out.startswith("install [--from ARCHIVE] [FOLDER]\n"), f"{status} {out} {said}"
-    for it in (["--prefix=/x"], ["a", "b"], [""], ["--from"], ["--from", ""], ["--from", "a", ""], ["--from", "a", "-b"],
-               ["--from", "a", "b", "c"], ["a", "--from", "b"]):
+        assert (status, said) == (0, "") and out.startswith("install [--from ARCHIVE] [FOLDER]\n"), f"{out} {said}"
+    for it in (["--prefix=/x"], ["a", "b"], [""], ["--from"], ["--from", ""], ["--from", "a", ""],
+               ["--from", "a", "-b"], ["--from", "a", "b", "c"], ["a", "--from", "b"]):
         status, out, said = toy.call("install", *it)
         assert (status, out) == (2, "") and said.startswith("install [--from ARCHIVE]"), f"{it}: {status} {out} {said}"
     assert sorted(os.listdir(room)) == ["kit", "repository"], os.listdir(room)

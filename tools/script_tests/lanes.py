@@ -127,7 +127,8 @@ def stop_if_held_back(machine, paths):
             at_work = [other for other in machine.proofs if other.began <= moment < other.ended]
             assert len(at_work) == machine.lanes, f"{it.crate.name} could begin at {moment:.0f}, and waits"
             begin = [other.crate.name for other in at_work if other.began == moment]
-            assert all(paths[name] >= paths[it.crate.name] for name in begin), f"{it.crate.name} waits for one of {begin}"
+            least = min((paths[name] for name in begin), default=paths[it.crate.name])
+            assert least >= paths[it.crate.name], f"{it.crate.name} waits, and one of {begin} begins"
 
 
 def stop_if_late(machine, paths, program):

@@ -15,7 +15,7 @@ sys.path.insert(0, f"{ROOT}/tools")
 from modules import manual, packages
 
 ARCHIVE, TOP = "cfgrammar-0.15.0-proved.tar.gz", "cfgrammar-0.15.0-proved"
-USAGE = "cfglint reports errors.\n\nusage: cfglint [OPTION..] FILE..\n\n  --kind KIND  a kind\n\nstatus: 0 without errors; 1 with errors\n"
+USAGE = "cfglint reports errors.\n\nusage: cfglint [OPTION..] FILE..\n\n  --kind KIND  a kind\n\nstatus: 0\n"
 SOURCES = {"cfglint_main/src/main.rt": f"{USAGE}\ncfglint 0.15.0\nlint 1\n"}
 
 
@@ -141,7 +141,7 @@ def test_a_damaged_archive(room):
     refuses(toy, room, "it can't be read: Is a directory")
     with open(f"{made}/{ARCHIVE}", "rb") as it:
         whole = it.read()
-    texts = [b"", b"text", whole[:-1], whole[:len(whole) // 2], whole + b"x", gzip.compress(b""), gzip.compress(b"x" * 5000)]
+    texts = [b"", b"text", whole[:-1], whole[:len(whole) // 2], whole + b"x", *map(gzip.compress, (b"", b"x" * 5000))]
     texts += [whole[:at] + bytes([whole[at] ^ 1]) + whole[at + 1:] for at in range(20, len(whole), 7)]
     for text in texts:
         with open(damaged, "wb") as it:
@@ -267,7 +267,7 @@ def test_each_option_is_in_the_page_and_in_the_completions(room):
 def completed(file, *words):
     """What bash proposes for the last word."""
     listed = " ".join(f"'{it}'" for it in words)
-    script = f". '{file}'; COMP_WORDS=({listed}); COMP_CWORD={len(words) - 1}; _{words[0]}; printf '%s\\n' \"${{COMPREPLY[@]}}\""
+    script = f". '{file}'; COMP_WORDS=({listed}); COMP_CWORD={len(words) - 1}; _{words[0]}; echo \"${{COMPREPLY[@]}}\""
     return subprocess.run(["bash", "-c", script], capture_output=True, text=True, check=True).stdout.split()
 
 
