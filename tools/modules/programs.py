@@ -321,12 +321,6 @@ class Rows(Program):
         return self.rt.Crate(f"{folder}/crates/rows", folder, {})
 
 
-def proved(kit):
-    """The proved programs by the names by which people call them, as what they are made of is now."""
-    rt = kit.load()
-    return {it: Program(rt, kit, f"{it}_main", "proved").look() for it in PROGRAMS}
-
-
 def status_of(*words):
     """The status of a command, or None if it doesn't start."""
     try:
@@ -334,6 +328,12 @@ def status_of(*words):
         return subprocess.run(words, **streams).returncode
     except OSError:
         return None
+
+
+def proved(kit):
+    """The proved programs by the names by which people call them, as what they are made of is now."""
+    rt = kit.load()
+    return {it: Program(rt, kit, f"{it}_main", "proved").look() for it in PROGRAMS}
 
 
 def list_of(states):
