@@ -1,5 +1,12 @@
--- What the laws of this crate rest on.
+-- What the laws of this crate and its Bison files rest on.
 pub mod SentenceLaws
+mod BisonErrorSpans
+mod BisonFiles
+mod BisonItemSpans
+mod BisonResolved
+mod BisonSpans
+mod BisonTreeSpans
+mod BisonWordSpans
 -- Lemmas about lists and about the results of calls, for users' proofs.
 pub use Rattle.lemmas.proofs.Contained
 pub use Rattle.lemmas.proofs.Elements

@@ -166,10 +166,10 @@ pub use Rattle.bison_errors.specs.ErrorSpans as BisonErrorSpans
 pub use Rattle.bison_errors.specs.ErrorTexts as BisonErrorTexts
 pub use Rattle.bison_errors.specs.ErrorWords as BisonErrorWords
 pub use Rattle.bison_errors.specs.Reading as BisonReading
-pub use Rattle.bison_grammar.specs.File as BisonParsedFile
-pub use Rattle.bison_grammar.specs.ErrorSpans as BisonErrorPlaces
-pub use Rattle.bison_grammar.specs.Answer as BisonAnswer
-pub use Rattle.bison_grammar.specs.FaultTexts as BisonFaultTexts
+pub mod BisonParsedFile
+pub mod BisonErrorPlaces
+pub mod BisonAnswer
+pub mod BisonFaultTexts
 -- Lists.
 pub use Rattle.lemmas.specs.Lists
 -- Types.
@@ -224,5 +224,5 @@ pub use Rattle.bison_reader.specs.declared.item.Associativity
 pub use Rattle.bison_reader.specs.declared.item.Expected as BisonExpected
 pub use Rattle.bison_errors.specs.declared.error.ErrorKind as BisonErrorKind
 pub use Rattle.bison_errors.specs.declared.error.Error as BisonError
-pub use Rattle.bison_grammar.specs.declared.fault.BisonFault
-pub use Rattle.bison_grammar.specs.declared.file.BisonFile
+pub use Rattle.cfgrammar.specs.declared.bison.fault.BisonFault
+pub use Rattle.cfgrammar.specs.declared.bison.file.BisonFile

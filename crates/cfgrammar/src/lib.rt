@@ -1,5 +1,5 @@
 //! Yacc grammars: read from the text of a Yacc file, validated, and turned into numbered tables. This crate exports all
-//! that its users call, under the paths of the Rust crate; the code is in the crates below.
+//! that its users call, under the paths of the Rust crate; the code is in the crates below, except that of Bison files.
 //!
 //! Lists the productions of a text's grammar, one per line, as the GUIDE's caller writes it:
 //!

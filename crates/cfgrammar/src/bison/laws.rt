@@ -9,7 +9,7 @@ ghost use Rattle.cfgnumbers.specs.Resolved.{IsResolved};
 ghost use Rattle.bison_reader.specs.Sorts.{items_in, words_in};
 ghost use Rattle.bison_errors.specs.Reading.{name_errors_of, text_errors_of, tree_of};
 ghost use Rattle.bison_tree.specs.Tree.{tree_items};
-ghost use Rattle.bison_grammar.specs.ErrorSpans.{IsErrorAt};
+ghost use Rattle.cfgrammar.specs.BisonErrorPlaces.{IsErrorAt};
 
 /// Each span of a text's tree is a piece of the text, whatever follows the second `%%`; an action's lies within it.
 /// Each span of an error is a piece of the text too.

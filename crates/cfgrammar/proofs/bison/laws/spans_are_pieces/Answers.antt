@@ -1,5 +1,5 @@
-use Rattle.bison_grammar.proofs.Spans.{name_errors_of_at, syntax_at, text_errors_of_at}
-use Rattle.bison_grammar.proofs.laws.spans_are_pieces.Goals as goal
+use Rattle.cfgrammar.proofs.BisonSpans.{name_errors_of_at, syntax_at, text_errors_of_at}
+use Rattle.cfgrammar.proofs.bison.laws.spans_are_pieces.Goals as goal
 
 pub returns-clause-tree : goal.returns-clause-tree
 returns-clause-tree c = λ text programs utf8. syntax_at text utf8 programs

@@ -2,9 +2,9 @@ use Rattle.std.proofs.Common.{subst, sym}
 use Rattle.cfgitems.specs.Syntax.{EachSpan}
 use Rattle.cfgnumbers.specs.Numberable.{IsNumberable}
 use Rattle.cfgwords.specs.TextSpans.{IsPiece, IsWithin}
-use Rattle.bison_grammar.proofs.Files.{errors_at, numberable}
-use Rattle.bison_grammar.proofs.Spans.{tree_at}
-use Rattle.bison_grammar.proofs.file.read.Goals as goal
+use Rattle.cfgrammar.proofs.BisonFiles.{errors_at, numberable}
+use Rattle.cfgrammar.proofs.BisonSpans.{tree_at}
+use Rattle.cfgrammar.proofs.bison.file.read.Goals as goal
 
 pub invariant_of-result : goal.invariant_of-result
 invariant_of-result c = λ none.

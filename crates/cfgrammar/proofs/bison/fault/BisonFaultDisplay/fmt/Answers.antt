@@ -3,8 +3,8 @@ use Rattle.std.proofs.Output.{has_written_of_eq, has_written_styled_of_eq}
 use Rattle.std.specs.List.{join_by}
 use Rattle.bison_errors.specs.declared.error.Error.{Error}
 use Rattle.bison_errors.specs.ErrorTexts.{error_text}
-use Rattle.bison_grammar.specs.FaultTexts.{fault_text}
-use Rattle.bison_grammar.proofs.fault.BisonFaultDisplay.fmt.Goals as goal
+use Rattle.cfgrammar.specs.BisonFaultTexts.{fault_text}
+use Rattle.cfgrammar.proofs.bison.fault.BisonFaultDisplay.fmt.Goals as goal
 
 pub returns-in-Errors : goal.returns-in-Errors
 returns-in-Errors g c =

@@ -6,9 +6,9 @@ use Rattle.cfgkinds.specs.declared.kind.YaccKind.TheVariants.{Original}
 use Rattle.cfgkinds.specs.declared.kind.YaccOriginalActionKind.TheVariants.{UserAction}
 use Rattle.cfgnumbers.specs.Fits.{Fits}
 use Rattle.cfgnumbers.specs.Numbered.{Numbered, numbered}
-use Rattle.bison_grammar.specs.File.{ParsedFile}
-use Rattle.bison_grammar.specs.declared.fault.BisonFault.{BisonFault}
-use Rattle.bison_grammar.specs.declared.fault.BisonFault.TheVariants as faults
+use Rattle.cfgrammar.specs.BisonParsedFile.{ParsedFile}
+use Rattle.cfgrammar.specs.declared.bison.fault.BisonFault.{BisonFault}
+use Rattle.cfgrammar.specs.declared.bison.fault.BisonFault.TheVariants as faults
 
 -- the kind of which such files are trees
 abbrev pub bison_kind : YaccKind

@@ -1,8 +1,8 @@
 //! Why a Yacc or Bison file has no grammar.
 
 ghost use Rattle.std.specs.Prelude.{◌≡◌, Some};
-ghost use Rattle.bison_grammar.specs.FaultTexts.{fault_text};
-ghost use Rattle.bison_grammar.specs.declared.fault.BisonFault.TheVariants.{OutOfMemory};
+ghost use Rattle.cfgrammar.specs.BisonFaultTexts.{fault_text};
+ghost use Rattle.cfgrammar.specs.declared.bison.fault.BisonFault.TheVariants.{OutOfMemory};
 
 use bison_errors::Error;
 use cfgerrors::write_lines;

@@ -22,7 +22,7 @@ use Rattle.bison_tree.specs.Names.{name_at, names_of}
 use Rattle.bison_tree.specs.Tokens.{lexeme_at, nowhere, span_at, token_names, tokens_of}
 use Rattle.bison_tree.specs.Productions.{action_of, code_at, code_in, code_of, end_after, inner_production, is_code, is_followed, pieces_after, precedence_of, precedences_of, production_items, span_of, symbol_of, word_at}
 use Rattle.bison_tree.specs.Tree.{counts_items, expected_unused, first_start, inners_with, is_unneeded, last_expected, listed, named_rule, printed_form, programs_items, rule_in, rules_items, said, said_after, text_in, token_quoted, tree_items}
-use Rattle.bison_grammar.proofs.ItemSpans.{EachItemSpan}
+use Rattle.cfgrammar.proofs.BisonItemSpans.{EachItemSpan}
 
 module _ (text : List ℕ) (words : List Word) (utf8 : IsUtf8 text) (each : All (IsWordAt text) words) where
   abbrev IsItemAt : tree.Item → Type 0

@@ -4,11 +4,11 @@ ghost use Rattle.std.specs.Prelude.{◌≡◌, [], All, IfOk, IsTrue, ◌↔◌}
 ghost use Rattle.cfgast.specs.TreeView.{syntax};
 ghost use Rattle.cfgitems.specs.Syntax.{EachSpan};
 ghost use Rattle.cfgwords.specs.TextSpans.{IsPiece, IsWithin};
-ghost use Rattle.bison_grammar.specs.Answer.{IsBisonAnswer};
-ghost use Rattle.bison_grammar.specs.ErrorSpans.{IsErrorAt};
-ghost use Rattle.bison_grammar.specs.File.{IsParsedFile};
+ghost use Rattle.cfgrammar.specs.BisonAnswer.{IsBisonAnswer};
+ghost use Rattle.cfgrammar.specs.BisonErrorPlaces.{IsErrorAt};
+ghost use Rattle.cfgrammar.specs.BisonParsedFile.{IsParsedFile};
 
-use crate::fault::BisonFault;
+use super::fault::BisonFault;
 use bison_errors::{Error, FileTree};
 use bison_reader::Associativity;
 use cfgast::GrammarAST;
@@ -28,7 +28,7 @@ impl Model for BisonFile {
     ghost use Rattle.std.specs.Prelude.{◌≡◌, []};
     ghost use Rattle.cfgast.specs.TreeView.{syntax};
     ghost use Rattle.cfgnumbers.specs.Numberable.{IsNumberable};
-    ghost use Rattle.bison_grammar.specs.File.{ParsedFile};
+    ghost use Rattle.cfgrammar.specs.BisonParsedFile.{ParsedFile};
 
     ghost Value = { ParsedFile };
 

@@ -30,8 +30,8 @@ use Rattle.bison_errors.specs.Errors.{declaration_errors, error_at, error_beside
 use Rattle.bison_tree.specs.Names.{name_at, with_one}
 use Rattle.bison_tree.specs.Tokens.{lexeme_at, nowhere, span_at}
 use Rattle.bison_tree.specs.Tree.{first_start, number_in}
-use Rattle.bison_grammar.specs.ErrorSpans.{IsErrorAt}
-use Rattle.bison_grammar.proofs.TreeSpans.{nowhere_at, word_span}
+use Rattle.cfgrammar.specs.BisonErrorPlaces.{IsErrorAt}
+use Rattle.cfgrammar.proofs.BisonTreeSpans.{nowhere_at, word_span}
 
 module _ (text : List ℕ) (words : List Word) (utf8 : IsUtf8 text) (each : All (IsWordAt text) words) where
   abbrev AreAt : List Error → Type 0

@@ -9,9 +9,9 @@ use Rattle.bison_tree.proofs.RuleNames.{rule_names_free}
 use Rattle.bison_errors.specs.declared.error.Error.{Error}
 use Rattle.bison_errors.specs.Errors.{AreErrors}
 use Rattle.bison_errors.specs.Reading.{name_errors_of, programs_of, text_errors_of, tree_of}
-use Rattle.bison_grammar.specs.ErrorSpans.{IsErrorAt}
-use Rattle.bison_grammar.proofs.Resolved.{tree_is_resolved, tree_is_well_formed}
-use Rattle.bison_grammar.proofs.Spans.{name_errors_of_at, text_errors_of_at}
+use Rattle.cfgrammar.specs.BisonErrorPlaces.{IsErrorAt}
+use Rattle.cfgrammar.proofs.BisonResolved.{tree_is_resolved, tree_is_well_formed}
+use Rattle.cfgrammar.proofs.BisonSpans.{name_errors_of_at, text_errors_of_at}
 
 module _ (of_text of_names errors : List Error) (are : AreErrors of_text of_names errors) where
   none_of_text : errors ≡ [] → of_text ≡ []

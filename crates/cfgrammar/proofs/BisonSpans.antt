@@ -7,11 +7,11 @@ use Rattle.bison_reader.specs.Sorts.{items_in, words_in}
 use Rattle.bison_tree.specs.Names.{names_of}
 use Rattle.bison_errors.specs.Reading.{faults_in, name_errors_of, programs_of, text_errors_of, tree_of}
 use Rattle.bison_tree.specs.Tree.{tree_items}
-use Rattle.bison_grammar.specs.ErrorSpans.{IsErrorAt}
-use Rattle.bison_grammar.proofs.ErrorSpans.{name_errors_at, text_errors_at}
-use Rattle.bison_grammar.proofs.ItemSpans.{syntax_spans}
-use Rattle.bison_grammar.proofs.TreeSpans.{tree_items_at}
-use Rattle.bison_grammar.proofs.WordSpans.{faults_at, words_at}
+use Rattle.cfgrammar.specs.BisonErrorPlaces.{IsErrorAt}
+use Rattle.cfgrammar.proofs.BisonErrorSpans.{name_errors_at, text_errors_at}
+use Rattle.cfgrammar.proofs.BisonItemSpans.{syntax_spans}
+use Rattle.cfgrammar.proofs.BisonTreeSpans.{tree_items_at}
+use Rattle.cfgrammar.proofs.BisonWordSpans.{faults_at, words_at}
 
 module _ (text : List ℕ) (utf8 : IsUtf8 text) where
   pub syntax_at : (programs : Option (List ℕ)) → EachSpan (IsPiece text) (IsWithin text) (syntax_of (tree_items (words_in text) (items_in text) programs))

@@ -2,8 +2,8 @@
 use Rattle.std.specs.Prelude.{ℕ, List, codes}
 use Rattle.std.specs.List.{join_by}
 use Rattle.bison_errors.specs.ErrorTexts.{error_text}
-use Rattle.bison_grammar.specs.declared.fault.BisonFault.{BisonFault}
-use Rattle.bison_grammar.specs.declared.fault.BisonFault.TheVariants as faults
+use Rattle.cfgrammar.specs.declared.bison.fault.BisonFault.{BisonFault}
+use Rattle.cfgrammar.specs.declared.bison.fault.BisonFault.TheVariants as faults
 
 -- the text of each error, in order, with a line end between two of them
 abbrev pub fault_text : BisonFault → List ℕ

@@ -1,4 +1,0 @@
-pub mod Answer
-pub mod ErrorSpans
-pub mod FaultTexts
-pub mod File
