@@ -122,7 +122,9 @@ pub use Rattle.cfgnumbers.specs.Numbered
 pub use Rattle.cfgnumbers.specs.Accessors
 pub use Rattle.cfgnumbers.specs.TablesView
 pub use Rattle.cfgnumbers.specs.WellNumbered
-pub use Rattle.cfgsyntax.specs.EveryError
+pub use Rattle.cfgvalidation.specs.EveryError
+pub use Rattle.cfgfaults.specs.FaultErrors
+pub use Rattle.cfgfaults.specs.StartFaultTexts
 pub use Rattle.cfgsyntax.specs.Faults
 pub use Rattle.cfgsyntax.specs.SelfNamed
 pub use Rattle.cfgsyntax.specs.Parsed
@@ -215,9 +217,9 @@ pub use Rattle.cfgitems.specs.declared.precedence.AssocKind
 pub use Rattle.cfgitems.specs.declared.precedence.Precedence
 pub use Rattle.cfgast.specs.declared.ast.GrammarAST
 pub use Rattle.cfgsyntax.specs.declared.yacc.ast.ASTWithValidityInfo
-pub use Rattle.cfgsyntax.specs.declared.yacc.ast.source.KindSource
-pub use Rattle.cfgsyntax.specs.declared.yacc.ast.start.ASTModificationError
-pub use Rattle.cfgsyntax.specs.declared.yacc.ast.start.StartFault
+pub use Rattle.cfgfaults.specs.declared.source.KindSource
+pub use Rattle.cfgfaults.specs.declared.start.ASTModificationError
+pub use Rattle.cfgfaults.specs.declared.start.StartFault
 pub use Rattle.cfgyacc.specs.declared.grammar.tables.YaccGrammar
 pub use Rattle.bison_words.specs.declared.words.WordFaultKind as BisonWordFaultKind
 pub use Rattle.bison_reader.specs.declared.item.Associativity

@@ -70,6 +70,7 @@ pub use cfgerrors::laws::{
     error_kinds_are_what_they_show, header_error_kinds_are_what_they_show,
     header_errors_are_cloned, warning_kinds_are_distinct,
 };
+pub use cfgfaults::laws::kind_sources_are_distinct;
 pub use cfgheader::laws::parsers_are_cloned;
 pub use cfgindex::laws::{
     positions_are_their_numbers, productions_are_their_numbers, rules_are_their_numbers,
@@ -83,5 +84,4 @@ pub use cfgkinds::laws::{
     action_kinds_are_distinct, values_are_compared_whole, yacc_kinds_are_distinct,
 };
 pub use cfgmarks::laws::{merge_behaviors_are_bits, merge_behaviors_are_distinct};
-pub use cfgsyntax::laws::kind_sources_are_distinct;
 pub use derivation::errors::cost_errors_are_distinct;

@@ -28,7 +28,8 @@ use Rattle.cfgsection.proofs.SectionOne.{section_answered}
 use Rattle.cfgsection.proofs.SectionOffsets.{IsSectionAt, section_at}
 use Rattle.cfgerrors.specs.Errors.{ErrorKind, GrammarError, header_error, InvalidStartRule, UnknownRuleRef, UnknownToken, NoPrecForToken, UnknownEPP, NoStartRule, error_at}
 use Rattle.cfgast.specs.Check.{nowhere, first_error, start_error, symbol_error, precedence_error, production_error, printed_error, locate_error, rule_error, check_of}
-use Rattle.cfgsyntax.specs.Faults.{kind_of, error_of, duplicate_error, stop_errors, errors_of}
+use Rattle.cfgfaults.specs.FaultErrors.{kind_of, error_of}
+use Rattle.cfgsyntax.specs.Faults.{duplicate_error, stop_errors, errors_of}
 use Rattle.cfgwords.specs.TextSpans.{IsPiece, IsWithin}
 use Rattle.cfgsyntax.specs.Reads.{Stop, InSection, InFile, ReadsFile, ReadsAfter, Reads}
 use Rattle.cfgsyntax.specs.ErrorSpans.{EachErrorSpan}

@@ -1,6 +1,5 @@
 mod After
 pub mod ErrorOffsets
-pub mod FirstOfEvery
 pub mod SelfNamedLemmas
 pub mod OneReading
 pub mod SoundLemmas

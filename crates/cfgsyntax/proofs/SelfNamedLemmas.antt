@@ -14,9 +14,9 @@ use Rattle.cfgsection.specs.SectionRefusal.{ListsErrors}
 use Rattle.cfgerrors.specs.Errors.{header_error}
 use Rattle.cfgerrors.specs.declared.error.YaccFault.{YaccFault}
 use Rattle.cfgerrors.specs.declared.error.YaccFault.TheVariants as faults
-use Rattle.cfgsyntax.specs.declared.yacc.ast.source.KindSource.{KindSource}
-use Rattle.cfgsyntax.specs.declared.yacc.ast.source.KindSource.TheVariants as sources
-use Rattle.cfgsyntax.specs.Inner.Steps.{IsFaultOf}
+use Rattle.cfgfaults.specs.declared.source.KindSource.{KindSource}
+use Rattle.cfgfaults.specs.declared.source.KindSource.TheVariants as sources
+use Rattle.cfgfaults.specs.FaultErrors.{IsFaultOf}
 use Rattle.cfgsyntax.specs.SelfNamed.{IsParsedAs, ReturnsNaming, ReturnsNamedOr}
 use Rattle.cfgsyntax.specs.Parsed.{Parsed}
 use Rattle.cfgsyntax.specs.ErrorSpans.{EachErrorSpan, EachFaultSpan}

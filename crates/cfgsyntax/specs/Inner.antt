@@ -1,3 +1,2 @@
 -- Definitions for the crate's private clauses, of its loops and helpers. No public call depends on them.
 pub mod Steps
-pub mod ValidationError

@@ -1,5 +1,4 @@
 -- Users of this crate's calls have to read these files; those in Inner define what private clauses use.
-pub mod EveryError
 pub mod Faults
 pub mod Inner
 pub mod SelfNamed

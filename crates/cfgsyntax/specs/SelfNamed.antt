@@ -7,8 +7,8 @@ use Rattle.cfgsection.specs.Named.{Names, NamesNoKind, Naming}
 use Rattle.cfgerrors.specs.Errors.{GrammarError, header_error}
 use Rattle.cfgerrors.specs.declared.error.YaccFault.{YaccFault}
 use Rattle.cfgerrors.specs.declared.error.YaccFault.TheVariants as faults
-use Rattle.cfgsyntax.specs.declared.yacc.ast.source.KindSource.{KindSource}
-use Rattle.cfgsyntax.specs.declared.yacc.ast.source.KindSource.TheVariants as sources
+use Rattle.cfgfaults.specs.declared.source.KindSource.{KindSource}
+use Rattle.cfgfaults.specs.declared.source.KindSource.TheVariants as sources
 use Rattle.cfgsyntax.specs.Faults.{errors_of}
 use Rattle.cfgsyntax.specs.Parsed.{Parsed}
 use Rattle.cfgsyntax.specs.Reads.{Stop, Reads, HasOneReading}

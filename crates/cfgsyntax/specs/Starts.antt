@@ -1,14 +1,13 @@
 -- What was parsed, with another start, or why it isn't given one.
-use Rattle.std.specs.Prelude.{◌≡◌, ℕ, List, true, false, codes}
+use Rattle.std.specs.Prelude.{◌≡◌, ℕ, List, true, false}
 use Rattle.cfgwords.specs.FileWords.{Word}
 use Rattle.cfgitems.specs.Building.{has_rule}
 use Rattle.cfgitems.specs.Syntax.{Syntax}
 use Rattle.cfgast.specs.Writing.{started_at}
 use Rattle.cfgerrors.specs.Errors.{InvalidStartRule}
-use Rattle.cfgerrors.specs.ErrorTexts.{error_text}
 use Rattle.cfgsyntax.specs.Parsed.{Parsed}
-use Rattle.cfgsyntax.specs.declared.yacc.ast.start.StartFault.{StartFault}
-use Rattle.cfgsyntax.specs.declared.yacc.ast.start.StartFault.TheVariants as faults
+use Rattle.cfgfaults.specs.declared.start.StartFault.{StartFault}
+use Rattle.cfgfaults.specs.declared.start.StartFault.TheVariants as faults
 
 -- the same kind and the same errors
 abbrev pub restarted : Parsed → Word → Parsed
@@ -18,7 +17,3 @@ restarted parsed word = record parsed { syntax = started_at parsed.syntax word }
 abbrev pub IsStartFault : Syntax → List ℕ → StartFault → Type 0
 IsStartFault s name (faults.Modification error) = (error ≡ InvalidStartRule name) × (has_rule name s.rules ≡ false)
 IsStartFault s name faults.OutOfMemory = has_rule name s.rules ≡ true
-
-abbrev pub start_fault_text : StartFault → List ℕ
-start_fault_text (faults.Modification error) = error_text error
-start_fault_text faults.OutOfMemory = codes "out of memory"

@@ -9,7 +9,8 @@ use Rattle.cfgerrors.specs.Errors.{GrammarError, header_error}
 use Rattle.cfgerrors.specs.Refusal.{ListsErrors}
 use Rattle.cfgerrors.specs.declared.error.YaccFault.{YaccFault}
 use Rattle.cfgerrors.specs.declared.error.YaccFault.TheVariants as faults
-use Rattle.cfgyacc.specs.Answer.{Found, Unnamed, WasRead, IsAnswer, IsReadRefused, IsTooSmall, in_numbers}
+use Rattle.cfgfaults.specs.FaultErrors.{IsTooSmall}
+use Rattle.cfgyacc.specs.Answer.{Found, Unnamed, WasRead, IsAnswer, IsReadRefused, in_numbers}
 use Rattle.cfgyacc.specs.GrammarOf.{IsFoundAs, IsFoundNamed, IsGrammarOf, IsGrammarOfItself}
 use Rattle.cfgnumbers.specs.Numbered.{Numbered}
 

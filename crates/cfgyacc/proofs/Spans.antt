@@ -15,7 +15,7 @@ use Rattle.cfgsyntax.specs.ErrorSpans.{EachErrorSpan, EachFaultSpan}
 use Rattle.cfgkinds.specs.declared.kind.YaccKind.{YaccKind}
 use Rattle.cfgerrors.specs.declared.error.YaccFault.{YaccFault}
 use Rattle.cfgerrors.specs.declared.error.YaccFault.TheVariants as faults
-use Rattle.cfgyacc.specs.Answer.{IsTooSmall}
+use Rattle.cfgfaults.specs.FaultErrors.{IsTooSmall}
 use Rattle.cfgnumbers.specs.Numbered.{implicit_of, numbered, numbered_by, added_rules, file_rule, added_productions, file_production, end_token, file_token}
 use Rattle.cfgyacc.specs.GrammarSpans.{EachGrammarSpan}
 use Rattle.cfgnumbers.proofs.Added.{All-added_rules, All-added_productions}

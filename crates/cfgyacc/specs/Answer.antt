@@ -1,9 +1,9 @@
 -- What a constructor of a grammar returns.
 use Rattle.std.specs.Prelude.{◌≡◌, ℕ, List, [], ◌∷◌, Result, Ok, Err}
-use Rattle.cfgast.specs.Check.{nowhere}
-use Rattle.cfgerrors.specs.Errors.{GrammarError, StorageTooSmall, error_at}
+use Rattle.cfgerrors.specs.Errors.{GrammarError}
 use Rattle.cfgerrors.specs.declared.error.YaccFault.{YaccFault}
 use Rattle.cfgerrors.specs.declared.error.YaccFault.TheVariants as faults
+use Rattle.cfgfaults.specs.FaultErrors.{too_small}
 use Rattle.cfgsyntax.specs.Parsed.{Parsed}
 use Rattle.cfgnumbers.specs.Numbered.{Numbered, numbered}
 use Rattle.cfgnumbers.specs.Fits.{Fits}
@@ -16,14 +16,6 @@ pub data Found : Type 0 where
 -- what was read, in numbers
 abbrev pub in_numbers : Parsed → Numbered
 in_numbers parsed = numbered parsed.kind parsed.syntax
-
--- the single error that the index type is too small
-abbrev pub too_small : List GrammarError
-too_small = error_at StorageTooSmall nowhere ∷ []
-
-abbrev pub IsTooSmall : YaccFault → Type 0
-IsTooSmall faults.OutOfMemory = ⊥
-IsTooSmall (faults.Errors reported) = reported.items ≡ too_small
 
 -- Why there is no grammar for what was read: its errors or, if it has none, the single error that the index type is too small.
 abbrev pub IsReadRefused : ℕ → List GrammarError → Numbered → List GrammarError → Type 0

@@ -1,5 +1,5 @@
 -- What the steps of reading a text do, given its section.
-use Rattle.std.specs.Prelude.{◌≡◌, ℕ, false, List, map, Option, option_map, Result, Ok, Err}
+use Rattle.std.specs.Prelude.{◌≡◌, ℕ, false, List, Option, option_map, Result, Ok, Err}
 use denote.Ref.{Bor}
 use Rattle.constructs.specs.Construct.{computes}
 use Rattle.constructs.specs.Read.{stop_of}
@@ -10,9 +10,6 @@ use Rattle.cfgkinds.specs.declared.kind.YaccKind.{YaccKind}
 use Rattle.cfgsection.specs.declared.section.header_fault.HeaderFault.{HeaderFault}
 use Rattle.cfgsection.specs.declared.section.header_fault.HeaderFault.TheVariants as header
 use Rattle.cfgsection.specs.SectionReads.{IsAfterSection, section_of, errors_view}
-use Rattle.cfgerrors.specs.Errors.{header_error}
-use Rattle.cfgerrors.specs.declared.error.YaccFault.{YaccFault}
-use Rattle.cfgerrors.specs.declared.error.YaccFault.TheVariants as faults
 use Rattle.cfgreader.specs.FileGrammar.{file}
 use Rattle.cfgsyntax.specs.Reads.{Stop, InSection, InFile}
 use Rattle.cfgsyntax.specs.declared.read.Stopped.{Stopped}
@@ -33,9 +30,3 @@ IsReadSection text (Err header.OutOfMemory) = Unit {0}
 abbrev pub IsReadAfter : YaccKind → ℕ → List ℕ → GrammarAST × Option Stopped → Type 0
 IsReadAfter kind len rest (tree, stop) = (syntax tree ≡ syntax_of (computes (file kind len) rest).items)
     × (option_map stop_view stop ≡ option_map InFile (stop_of (computes (file kind len) rest).outcome))
-
--- the errors of a section, as those of a grammar
-abbrev pub IsFaultOf : HeaderFault → YaccFault → Type 0
-IsFaultOf fault faults.OutOfMemory = Unit {0}
-IsFaultOf (header.Errors errors) (faults.Errors shown) = shown.items ≡ map header_error (errors_view errors.items)
-IsFaultOf header.OutOfMemory (faults.Errors shown) = ⊥

@@ -1,10 +1,6 @@
 //! The syntax of a Yacc file, and whether it is valid.
 
 mod errors;
-mod every_check;
-mod fault;
-mod source;
-mod start;
 
 ghost use Rattle.std.specs.Prelude.{◌≡◌, ◌↔◌, [], true, List, Option, string_bytes, IsTrue, IfOk, IfErr};
 ghost use Rattle.std.specs.Prelude.{OnOk};
@@ -25,18 +21,18 @@ ghost use Rattle.cfgsyntax.specs.ErrorSpans.{EachFaultSpan, EachParsedSpan};
 ghost use Rattle.cfgsyntax.specs.Starts.{restarted, IsStartFault};
 
 use crate::read::{after_section, read};
-use crate::validation::has_rule;
 pub use cfgast::GrammarAST;
 use cfgast::{clone_with_start, tree_with};
-use cfgerrors::{YaccGrammarError, YaccGrammarErrorKind, YaccGrammarResult};
+use cfgerrors::{YaccGrammarError, YaccGrammarResult};
+use cfgfaults::{fault_of, invalid_start};
+pub use cfgfaults::{ASTModificationError, KindSource, StartFault};
 pub use cfgitems::{Production, Rule, Settings, Symbol};
 use cfgkinds::YaccKind;
 use cfgsection::HeaderFault;
 use cfgsection::named::{kind_if_named, kind_named};
-use errors::{errors_found, fault_of};
-pub use every_check::every_error;
-pub use source::KindSource;
-pub use start::{ASTModificationError, StartFault};
+pub use cfgvalidation::every_error;
+use cfgvalidation::has_rule;
+use errors::errors_found;
 use std::alloc::{AllocError, Global};
 use std::marker::Model;
 
@@ -196,8 +192,7 @@ impl ASTWithValidityInfo {
     {
         let name = rule.name;
         if !has_rule(&self.ast, &name.0) {
-            let kind = YaccGrammarErrorKind::InvalidStartRule(name.0);
-            return Err(StartFault::Modification(ASTModificationError { kind }));
+            return Err(StartFault::Modification(invalid_start(name.0)));
         }
         let errors = self.errors.to_vec(alloc)?;
         let ast = clone_with_start(&self.ast, name)?;

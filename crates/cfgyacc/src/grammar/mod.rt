@@ -1,7 +1,6 @@
 //! Grammars in numbers: rules, productions and tokens by index.
 
 mod analysed;
-mod fault;
 mod iter;
 mod printed;
 mod tables;

@@ -22,9 +22,9 @@ ghost use Rattle.cfgnumbers.specs.Accessors.{IsSymbolWithin, has_token_name, pro
 ghost use Rattle.cfgyacc.specs.GrammarSpans.{EachAnswerSpan};
 ghost use Rattle.cfgnumbers.specs.WellNumbered.{IsWellNumbered};
 
-use super::fault::storage_too_small;
 use super::iter::{PIdxIter, RIdxIter, TIdxIter};
 use cfgbase::Span;
+use cfgfaults::storage_too_small;
 use cfgindex::{PIdx, RIdx, SIdx, Storage, Symbol, TIdx, to_storage};
 use cfgitems::{Precedence, Settings};
 use cfgnumbers::{Numbering, ProductionRows, RuleRow, TokenRow, tokens_by_name};

@@ -1,0 +1,2 @@
+pub mod FaultErrors
+pub mod StartFaultTexts

@@ -1,0 +1,2 @@
+pub mod EveryError
+pub mod ValidationError
