@@ -116,7 +116,7 @@ def test_pages(room):
         ("tools/expected.txt", gone, "expected.txt is gone"),
         ("crates/cfganalysis/src/paths.rt", replaced("cfganalysis.specs.Paths.", "cfgcycles.specs.Inner.Layers."),
          "paths.rt cites specs/Inner of cfgcycles"),
-        ("crates/cfganalysis/specs/Follows.antt", replaced("cfganalysis.specs.Table.", "cfganalysis.specs.Inner.Flat."),
+        ("crates/cfganalysis/specs/Follows.antt", replaced("cfgsets.specs.Table.", "cfganalysis.specs.Inner.Visits."),
          "Follows.antt is outside specs/Inner, and cites it"),
         ("crates/cfganalysis/src/productive.rt", replaced("specs.ProductiveRules.", "specs.Inner.ProductiveRules."),
          "what callers see of productive_rules cites AreProductiveRules of specs/Inner"),

@@ -10,24 +10,14 @@ use Rattle.derivation.specs.First.{First, Nullable}
 use Rattle.derivation.proofs.Firsts.{nullable_map, begins_map, closed_first, closed_empty, derived_closed, nullable_parts, nullable_both, begins_parts}
 use Rattle.search.proofs.Bits.{bit_put, bits_on-fewer, bits_on-set}
 use Rattle.cfgtables.proofs.Located.{owner}
-use Rattle.cfganalysis.specs.Firsts.{FirstSets, AreFirsts, IsAmongFirsts, IsNullableRule, nullable_bit}
-use Rattle.cfganalysis.specs.Inner.GrowingFirsts.{AreNullableBy, is_nullable_symbol, AreSoundFirsts, CoverFirstsOf, BeginsBy, no_firsts, with_nullable, HasNoMoreFirsts, ProductionRefers, count_firsts}
-use Rattle.cfganalysis.specs.Table.{IsTable, Joins, bits_on}
-use Rattle.cfganalysis.specs.Inner.Growth.{CoversEach, AddsProduction}
-use Rattle.cfganalysis.proofs.Joins.{bit-no_bits, IsTable-no_bits, count_of-fewer}
-use Rattle.cfganalysis.specs.Inner.Waiting.{Waits, NoneWaits}
-
-module _ (E : ℕ → Type 0) (F : ℕ → ℕ → Type 0) where
-  pub begins_prefix : (a b : List Sym) (t : ℕ) → Begins E F a t → Begins E F (a ++ b) t
-  begins_prefix [] b t h = absurd h
-  begins_prefix (Token u ∷ a) b t h = h
-  begins_prefix (Rule r ∷ a) b t (inl h) = inl h
-  begins_prefix (Rule r ∷ a) b t (inr h) = inr (h.0, begins_prefix a b t h.1)
-
-  pub begins_past : (a b : List Sym) (t : ℕ) → AreNullable E a → Begins E F b t → Begins E F (a ++ b) t
-  begins_past [] b t v h = h
-  begins_past (Token u ∷ a) b t v h = absurd v
-  begins_past (Rule r ∷ a) b t v h = inr (v.0, begins_past a b t v.1 h)
+use Rattle.cfgsets.specs.FirstSets.{FirstSets, IsAmongFirsts, IsNullableRule, nullable_bit, AreNullableBy, is_nullable_symbol, AreSoundFirsts, BeginsBy, count_firsts}
+use Rattle.cfganalysis.specs.Firsts.{AreFirsts}
+use Rattle.cfganalysis.specs.Inner.GrowingFirsts.{CoverFirstsOf, no_firsts, with_nullable, HasNoMoreFirsts, ProductionRefers}
+use Rattle.cfgsets.specs.Table.{IsTable, Joins, bits_on}
+use Rattle.cfgsets.specs.Growth.{CoversEach, AddsProduction}
+use Rattle.cfgsets.proofs.Beginnings.{begins_past, begins_prefix, nullable_alone, stays_alone}
+use Rattle.cfgsets.proofs.Joins.{bit-no_bits, IsTable-no_bits, count_of-fewer}
+use Rattle.cfgsets.specs.Waiting.{Waits, NoneWaits}
 
 -- what is in a list's rest is in the list
 contains_rest : (s : Sym) (a : List Sym) (x : Sym) → Contains a x → Contains (s ∷ a) x
@@ -48,15 +38,6 @@ begins_among E E' F F' (Rule r ∷ a) t f k (inr h) = inr (
   f r (0, omega arith, refl) h.0,
   begins_among E E' F F' a t (λ q j. f q (contains_rest (Rule r) a (Rule q) j)) (λ q j. k q (contains_rest (Rule r) a (Rule q) j)) h.1,
 )
-
--- the tests say what is true
-pub nullable_alone : (x : FirstSets) (s : Sym) → is_nullable_symbol x s ≡ true → AreNullableBy x (s ∷ [])
-nullable_alone x (Rule r) e = (e, tt)
-nullable_alone x (Token u) e = absurd (true≢false (sym e))
-
-pub stays_alone : (x : FirstSets) (s : Sym) → is_nullable_symbol x s ≡ false → AreNullableBy x (s ∷ []) → ⊥
-stays_alone x (Rule r) e h = true≢false (sym h.0 ∙ e)
-stays_alone x (Token u) e h = h
 
 -- sets to which a production adds what it gives
 module _ (g : Grammar) (rule : ℕ) (symbols : List Sym) (has : HasProduction g rule symbols) where

@@ -3,7 +3,7 @@ use Rattle.std.proofs.Common.{◌≡◌, ℕ, ◌+◌, ◌*◌, ◌<◌, ◌≤�
 use Rattle.std.proofs.lemmas.Nat.{mul-le}
 use Rattle.derivation.specs.Grammar.{Grammar, IsGrammar}
 use Rattle.cfgtables.specs.Openings.{AreOpenedAtMost, most_openings}
-use Rattle.cfganalysis.specs.Inner.Growth.{CanVisit}
+use Rattle.cfganalysis.specs.Inner.Visits.{CanVisit}
 
 pub openings_fit : (g : Grammar) (rules tokens most : ℕ) → rules ≡ g.rules → tokens ≡ g.tokens → rules ≤ most → tokens ≤ most → most < 4294967296
     → most_openings g < 18446744073709551615

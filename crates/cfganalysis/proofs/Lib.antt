@@ -1,12 +1,6 @@
-pub mod Stacking
-pub mod Linking
-pub mod Noting
 pub mod Visiting
 pub mod FirstVisits
-pub mod Joins
-pub mod Flat
-pub mod FollowVisits
+pub mod FollowsFound
 pub mod ProductiveVisits
-pub mod Gathering
 pub mod Fitting
 pub mod References

@@ -10,11 +10,11 @@ use Rattle.derivation.specs.Grammar.{Sym, Rule, Token, Grammar, Production, HasP
 use Rattle.derivation.specs.Tree.{Yields, empty, token, opened}
 use Rattle.derivation.specs.Productive.{Productive}
 use Rattle.derivation.proofs.Trees.{derivation_from_trees, trees_from_derivation, trees_join}
-use Rattle.cfganalysis.specs.Inner.Growth.{CoversEach, AddsProduction}
+use Rattle.cfgsets.specs.Growth.{CoversEach, AddsProduction}
 use Rattle.cfganalysis.specs.Inner.GrowingFirsts.{ProductionRefers}
-use Rattle.cfganalysis.specs.Inner.Waiting.{NoneWaits, Waits}
+use Rattle.cfgsets.specs.Waiting.{NoneWaits, Waits}
 use Rattle.cfganalysis.specs.ProductiveRules.{AreProductiveRules, AreProductiveSymbols, is_productive, is_productive_symbol}
-use Rattle.cfganalysis.specs.Table.{bits_on}
+use Rattle.cfgsets.specs.Table.{bits_on}
 use Rattle.search.proofs.Bits.{bit_put, bits_on-set}
 use Rattle.cfganalysis.specs.Inner.GrowingProductive.{AreSoundProductive, CoverProductiveOf, IsNoMoreProductive}
 

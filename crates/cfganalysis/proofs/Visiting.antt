@@ -7,13 +7,14 @@ use Rattle.std.proofs.lemmas.List.Sums.{count_by-le-length}
 use Rattle.lemmas.proofs.Elements.{get_or-replicate_default, within_from_get_or}
 use Rattle.derivation.specs.Grammar.{Grammar, Production, IsGrammar}
 use Rattle.cfgtables.specs.Openings.{AreOpenedAtMost, nth_production, OpensOne}
-use Rattle.cfganalysis.specs.Inner.Growth.{CoversEach, AddsProduction, AddsInto, Visited, left_to_do}
-use Rattle.cfganalysis.specs.Table.{bits_on}
-use Rattle.cfganalysis.specs.Inner.Waiting.{waits, Waits, NoneWaits, WaitsNoMore}
-use Rattle.cfganalysis.specs.Inner.Work.{dependents_of, Notes, Queues}
+use Rattle.cfgsets.specs.Growth.{CoversEach, AddsInto}
+use Rattle.cfganalysis.specs.Inner.Visits.{Visited, left_to_do}
+use Rattle.cfgsets.specs.Table.{bits_on}
+use Rattle.cfgsets.specs.Waiting.{waits, Waits, NoneWaits, WaitsNoMore}
+use Rattle.cfgsets.specs.Work.{dependents_of, Notes}
 use Rattle.cfgtables.proofs.Located.{same_production, at_position}
 use Rattle.lemmas.proofs.Contained.{contains_none}
-use Rattle.cfganalysis.proofs.Stacking.{bits_on-clear, bits_on-none}
+use Rattle.cfgsets.proofs.Stacking.{bits_on-clear, bits_on-none}
 
 -- a bit can't be both on and off
 both : {b : Bool} → b ≡ true → b ≡ false → ⊥
@@ -64,31 +65,6 @@ left_less most positions m m' w w' top le (inl lt) =
 left_less most positions m m' w w' top le (inr h) = subst (λ k. left most positions k w' < left most positions m w) h.0 (omega (arith, h.1))
 
 module _ {X : Type 0} (holds : Grammar → X → Type 0) (covers : X → Production → Type 0) (bits : X → ℕ) (depends_on : Production → ℕ → Type 0) where
-  pub takes_into : (no_more : ℕ → X → X → Type 0) (p : Production) (dependents : List (List ℕ)) (old new : X) (grown waiting waiting' : List Bool)
-      → AddsProduction holds covers bits depends_on no_more p old new (Waits grown) → Queues dependents (Waits grown) waiting waiting'
-      → AddsInto holds covers bits depends_on no_more p dependents old new waiting waiting'
-  takes_into no_more p dependents old new grown waiting waiting' w v = record {
-    sound = w.sound;
-    no_less = w.no_less;
-    shape = v.shape;
-    more = λ r unless. w.more r ((w.gains r).1 unless);
-    again = λ q. (
-      (λ h. elim ((v.waits q).0 h) [
-        | inl i ↦ inl i
-        | inr i ↦ inr (record { rule = i.rule; gains = (w.gains i.rule).0 i.gains; noted = i.noted })
-      ]),
-      (λ h. (v.waits q).1 (elim h [
-        | inl i ↦ inl i
-        | inr i ↦ inr (record { rule = i.rule; gains = (w.gains i.rule).1 i.gains; noted = i.noted })
-      ])),
-    );
-    closed = λ n noted off. w.closed (λ r depends gains. none n off r (noted r depends) gains);
-    stays = λ q n noted off. w.stays q (λ r depends gains. none n off r (noted r depends) gains);
-  }
-    where
-      none : (n : ℕ) → waits waiting' n ≡ false → (r : ℕ) → Contains (dependents_of dependents r) n → Waits grown r → ⊥
-      none n off r h gains = both ((v.waits n).1 (inr (record { rule = r; gains = gains; noted = h }))) off
-
   -- production p is open: the others are covered, or wait
   record Open (g : Grammar) (n p : ℕ) (x : X) (dependents : List (List ℕ)) (waiting : List Bool) (opened : ℕ → ℕ) (all : ℕ) : Type 0 where
     sound : holds g x

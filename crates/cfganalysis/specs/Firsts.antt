@@ -1,27 +1,9 @@
 -- FIRST sets: the tokens that rules begin with, and the rules that are nullable.
-use Rattle.std.specs.Prelude.{◌≡◌, ◌↔◌, ℕ, Bool, false, List, length, IsTrue, slice_index_or}
+use Rattle.std.specs.Prelude.{◌↔◌, ℕ}
 use Rattle.derivation.specs.Grammar.{Grammar, HasProduction}
 use Rattle.derivation.specs.First.{First, Nullable}
-use Rattle.cfganalysis.specs.Table.{Table, IsTable, HasBit, with_bit}
-
--- for each rule, a row of bits that says which tokens it may begin with, and a bit that says whether it is nullable
-pub record FirstSets : Type 0 where
-  pub firsts : Table
-  pub nullable : List Bool
-
-abbrev pub IsAmongFirsts : FirstSets → ℕ → ℕ → Type 0
-IsAmongFirsts x r t = HasBit x.firsts r t
-
-abbrev pub nullable_bit : FirstSets → ℕ → Bool
-nullable_bit x r = slice_index_or x.nullable r false
-
-abbrev pub IsNullableRule : FirstSets → ℕ → Type 0
-IsNullableRule x r = IsTrue (nullable_bit x r)
-
--- the table has a row for each rule and a column for each token, and the list a bit for each rule
-pub record FitsGrammar (g : Grammar) (x : FirstSets) : Type 0 where
-  pub table : IsTable g.rules g.tokens x.firsts
-  pub nullable : length x.nullable ≡ g.rules
+use Rattle.cfgsets.specs.Table.{with_bit}
+pub use Rattle.cfgsets.specs.FirstSets.{FirstSets, FitsGrammar, IsAmongFirsts, IsNullableRule, nullable_bit}
 
 -- the sets contain exactly what derivations show
 pub record AreFirsts (g : Grammar) (x : FirstSets) : Type 0 where

@@ -2,7 +2,7 @@
 use Rattle.std.specs.Prelude.{◌↔◌, ℕ}
 use Rattle.derivation.specs.Grammar.{Grammar}
 use Rattle.derivation.specs.Follow.{MayFollow}
-use Rattle.cfganalysis.specs.Table.{Table, IsTable, HasBit}
+use Rattle.cfgsets.specs.Table.{Table, IsTable, HasBit}
 
 -- the sets contain exactly what derivations show
 pub record AreFollows (g : Grammar) (x : Table) : Type 0 where

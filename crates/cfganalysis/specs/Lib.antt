@@ -1,5 +1,4 @@
 -- Contracts of public calls use these definitions; only private contracts use those in Inner.
-pub mod Table
 pub mod Firsts
 pub mod Follows
 pub mod Paths

@@ -1,10 +1,10 @@
 //! Tables of bits.
 
 ghost use Rattle.std.specs.Prelude.{◌≡◌, ◌<◌, false, true, length, IfOk, MatchBool};
-ghost use Rattle.cfganalysis.specs.Table.{bit, row_of, with_bit};
+ghost use Rattle.cfgsets.specs.Table.{bit, row_of, with_bit};
 
-use crate::words::WordTable;
 use cfgindex::Vob;
+use cfgsets::WordTable;
 use std::alloc::{AllocError, Global};
 use std::marker::Model;
 
@@ -17,7 +17,7 @@ pub struct BitTable {
 
 impl Model for BitTable {
     ghost use Rattle.std.specs.Prelude.{◌≡◌, length, All};
-    ghost use Rattle.cfganalysis.specs.Table.{Table};
+    ghost use Rattle.cfgsets.specs.Table.{Table};
 
     ghost Value = { Table };
 
@@ -48,6 +48,13 @@ impl BitTable {
         ensures { result ≡ self.now.columns }
     {
         self.columns
+    }
+
+    /// The bits of each row.
+    pub(crate) fn rows(&self) -> &[Vob]
+        ensures { result.now ≡ self.now.rows }
+    {
+        self.rows.as_slice()
     }
 
     /// The bits of a row.

@@ -3,26 +3,23 @@
 ghost use Rattle.std.specs.Prelude.{◌≡◌, ◌<◌, ◌^◌, ◌↔◌, ℕ, [], ◌∷◌, All, Contains, false};
 ghost use Rattle.std.specs.Prelude.{true, length, map, IfOk, IsTrue, MatchBool};
 ghost use Rattle.derivation.specs.Grammar.{Grammar, IsGrammar, IsSymbolOf, Rule};
-ghost use Rattle.cfganalysis.specs.Firsts.{AreFirsts, FitsGrammar, IsAmongFirsts, IsNullableRule};
-ghost use Rattle.cfganalysis.specs.Firsts.{nullable_bit, with_first};
-ghost use Rattle.cfganalysis.specs.Inner.GrowingFirsts.{BeginsBy, HasNoMoreFirsts, CoverFirstsOf};
-ghost use Rattle.cfganalysis.specs.Inner.GrowingFirsts.{AreSoundFirsts, ProductionRefers};
-ghost use Rattle.cfganalysis.specs.Inner.GrowingFirsts.{count_firsts, is_nullable_symbol, no_firsts, with_nullable};
+ghost use Rattle.cfganalysis.specs.Firsts.{AreFirsts, with_first};
+ghost use Rattle.cfgsets.specs.FirstSets.{FitsGrammar, IsAmongFirsts, IsNullableRule, nullable_bit, BeginsBy};
+ghost use Rattle.cfganalysis.specs.Inner.GrowingFirsts.{HasNoMoreFirsts, CoverFirstsOf, ProductionRefers};
+ghost use Rattle.cfgsets.specs.FirstSets.{AreSoundFirsts, count_firsts, is_nullable_symbol};
+ghost use Rattle.cfganalysis.specs.Inner.GrowingFirsts.{no_firsts, with_nullable};
 ghost use Rattle.cfgtables.specs.Openings.{AreOpenedAtMost, most_openings};
-ghost use Rattle.cfganalysis.specs.Inner.Growth.{CanNote, CanAddProduction, AddsProduction, shown};
+ghost use Rattle.cfgsets.specs.Growth.{CanNote, CanAddProduction, AddsProduction, shown};
 ghost use Rattle.cfgtables.specs.NumberedSymbols.{sym_of};
-ghost use Rattle.cfganalysis.specs.Table.{Joins, row_of};
-ghost use Rattle.cfganalysis.specs.Inner.Bounds.{firsts_bounded};
-ghost use Rattle.cfganalysis.specs.Inner.Waiting.{Waits};
-ghost use Rattle.cfganalysis.specs.Inner.Work.{Notes};
+ghost use Rattle.cfgsets.specs.Table.{Joins, row_of};
+ghost use Rattle.cfgsets.specs.Bounds.{firsts_bounded};
+ghost use Rattle.cfgsets.specs.Waiting.{Waits};
+ghost use Rattle.cfgsets.specs.Work.{Notes};
 
 use crate::bits::BitTable;
-use crate::dependents::Dependents;
-use crate::growth::Analysis;
 use crate::visits::visit_all;
-use crate::waiting::Waiting;
-use crate::words::WordTable;
 use cfgindex::{RIdx, Storage, Symbol, TIdx, Vob};
+use cfgsets::{Analysis, Dependents, FirstRows, Waiting, WordTable};
 use cfgtables::{CountedTables, Productions, Tables};
 use std::alloc::{AllocError, Global};
 use std::marker::{Model, PhantomData};
@@ -36,7 +33,7 @@ pub struct YaccFirsts<S: Storage> {
 }
 
 impl<S: Storage> Model for YaccFirsts<S> {
-    ghost use Rattle.cfganalysis.specs.Firsts.{FirstSets};
+    ghost use Rattle.cfgsets.specs.FirstSets.{FirstSets};
 
     ghost Value = { FirstSets };
 
@@ -95,14 +92,11 @@ impl<S: Storage> YaccFirsts<S> {
         self.nullable.get(rule).unwrap_or(false)
     }
 
-    /// Whether the symbol is a nullable rule.
-    pub(crate) fn is_nullable_symbol(&self, symbol: Symbol<S>) -> bool
-        ensures { result ≡ is_nullable_symbol self.now (sym_of S.number symbol) }
+    /// The sets, as FOLLOW reads them.
+    pub(crate) fn rows(&self) -> FirstRows<'_, S>
+        ensures { result ≡ self.now }
     {
-        match symbol {
-            Symbol::Rule(rule) => self.is_empty(usize::from(rule)),
-            Symbol::Token(_) => false,
-        }
+        FirstRows::new(self.firsts.columns(), self.firsts.rows(), &self.nullable)
     }
 }
 
@@ -151,7 +145,7 @@ struct GrowingFirsts<S: Storage> {
 }
 
 impl<S: Storage> Model for GrowingFirsts<S> {
-    ghost use Rattle.cfganalysis.specs.Firsts.{FirstSets};
+    ghost use Rattle.cfgsets.specs.FirstSets.{FirstSets};
 
     ghost Value = { FirstSets };
 

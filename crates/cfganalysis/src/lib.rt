@@ -2,16 +2,11 @@
 #![tactic(auto)]
 
 pub mod bits;
-mod dependents;
 pub mod firsts;
 pub mod follows;
-mod growth;
 pub mod paths;
 mod productive;
 mod visits;
-mod waiting;
-mod words;
-mod work;
 
 pub use bits::BitTable;
 pub use cfgtables::{CountedTables, Productions, Tables};

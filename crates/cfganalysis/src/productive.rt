@@ -2,21 +2,19 @@
 
 ghost use Rattle.std.specs.Prelude.{◌≡◌, IfOk, MatchBool, length, map};
 ghost use Rattle.cfgtables.specs.NumberedSymbols.{sym_of};
-ghost use Rattle.cfganalysis.specs.Inner.Growth.{CanNote, CanAddProduction, AddsProduction, shown};
+ghost use Rattle.cfgsets.specs.Growth.{CanNote, CanAddProduction, AddsProduction, shown};
 ghost use Rattle.cfganalysis.specs.Inner.GrowingFirsts.{ProductionRefers};
 ghost use Rattle.cfganalysis.specs.Inner.GrowingProductive.{AreSoundProductive, CoverProductiveOf};
 ghost use Rattle.cfganalysis.specs.Inner.GrowingProductive.{IsNoMoreProductive, productive_bounded};
-ghost use Rattle.cfganalysis.specs.Inner.Waiting.{Waits};
-ghost use Rattle.cfganalysis.specs.Inner.Work.{Notes};
+ghost use Rattle.cfgsets.specs.Waiting.{Waits};
+ghost use Rattle.cfgsets.specs.Work.{Notes};
 ghost use Rattle.cfganalysis.specs.ProductiveRules.{AreProductiveRules, AreProductiveSymbols, is_productive_symbol};
-ghost use Rattle.cfganalysis.specs.Table.{bits_on};
+ghost use Rattle.cfgsets.specs.Table.{bits_on};
 
-use crate::dependents::Dependents;
 use crate::firsts::note_rules;
-use crate::growth::Analysis;
 use crate::visits::visit_all;
-use crate::waiting::Waiting;
 use cfgindex::{RIdx, Storage, Symbol, Vob};
+use cfgsets::{Analysis, Dependents, Waiting};
 use cfgtables::{CountedTables, Productions, Tables};
 use std::alloc::{AllocError, Global};
 use std::marker::Model;

@@ -3,13 +3,13 @@
 
 ghost use Rattle.std.specs.Prelude.{◌≡◌, ℕ, ◌+◌, ◌-◌, ◌^◌, ◌<◌, length, IfOk, MatchBool, OnErr, OnOk};
 ghost use Rattle.derivation.specs.Grammar.{IsGrammar};
-ghost use Rattle.cfganalysis.specs.Inner.Growth.{CanVisit, CoversEach, Visited, left_to_do};
+ghost use Rattle.cfganalysis.specs.Inner.Visits.{CanVisit, Visited, left_to_do};
+ghost use Rattle.cfgsets.specs.Growth.{CoversEach};
 ghost use Rattle.cfgtables.specs.Openings.{AreOpenedAtMost, OpensOne, most_openings};
-ghost use Rattle.cfganalysis.specs.Inner.Waiting.{NoneWaits};
+ghost use Rattle.cfgsets.specs.Waiting.{NoneWaits};
 
-use crate::growth::{Analysis, add_production};
-use crate::work::Work;
 use cfgindex::{PIdx, Storage, to_storage};
+use cfgsets::{Analysis, Work, add_production};
 use cfgtables::Productions;
 use std::alloc::{AllocError, Global};
 

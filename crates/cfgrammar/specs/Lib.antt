@@ -45,7 +45,7 @@ pub use Rattle.cfgcycles.specs.CyclicGroups
 pub use Rattle.cfgcycles.specs.StepLists
 pub use Rattle.cfgcycles.specs.StepPaths
 pub use Rattle.cfgcycles.specs.UnitSteps
-pub use Rattle.cfganalysis.specs.Table
+pub use Rattle.cfgsets.specs.Table
 pub use Rattle.cfganalysis.specs.Firsts
 pub use Rattle.cfganalysis.specs.Follows
 pub use Rattle.cfganalysis.specs.Paths

@@ -5,7 +5,7 @@ use Rattle.std.proofs.lemmas.List.Sums.{count_by-le-length}
 use Rattle.derivation.specs.Grammar.{Grammar, Production, HasProduction}
 use Rattle.derivation.specs.Productive.{Productive}
 use Rattle.cfganalysis.specs.ProductiveRules.{AreProductiveSymbols, is_productive}
-use Rattle.cfganalysis.specs.Table.{bits_on}
+use Rattle.cfgsets.specs.Table.{bits_on}
 
 -- the list has a bit for each rule, and rules whose bits are on are productive
 pub record AreSoundProductive (g : Grammar) (bits : List Bool) : Type 0 where

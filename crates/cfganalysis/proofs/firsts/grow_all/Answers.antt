@@ -1,5 +1,5 @@
 use Rattle.std.proofs.Common.{sym, subst, ◌∙◌}
-use Rattle.cfganalysis.specs.Inner.GrowingFirsts.{AreSoundFirsts}
+use Rattle.cfgsets.specs.FirstSets.{AreSoundFirsts}
 use Rattle.cfganalysis.proofs.Fitting.{openings_fit, still_few}
 use Rattle.cfganalysis.proofs.FirstVisits.{are_firsts, say_none}
 use Rattle.cfganalysis.proofs.firsts.grow_all.Goals as goal

@@ -3,7 +3,7 @@ use Rattle.std.proofs.lemmas.List.{length-map}
 use Rattle.derivation.specs.Grammar.{IsSymbolOf}
 use Rattle.cfgtables.specs.NumberedSymbols.{sym_of}
 use Rattle.cfgtables.proofs.Slices.{mapped_within, mapped_at, mapped_all}
-use Rattle.cfganalysis.proofs.Noting.{prefix_more, prefix_all}
+use Rattle.cfgsets.proofs.Noting.{prefix_more, prefix_all}
 use Rattle.cfganalysis.proofs.firsts.note_rules.Goals as goal
 
 pub note_symbol-requires : goal.note_symbol-requires

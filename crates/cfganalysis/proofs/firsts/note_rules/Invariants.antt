@@ -1,6 +1,6 @@
 use Rattle.std.proofs.Common.{map}
 use Rattle.cfgtables.specs.NumberedSymbols.{sym_of}
-use Rattle.cfganalysis.proofs.Noting.{NotesLookahead}
+use Rattle.cfgsets.proofs.Noting.{NotesLookahead}
 use Rattle.cfganalysis.proofs.firsts.note_rules.Given as goal
 
 abbrev pub invariant-loop-held : goal.invariant-loop-held

@@ -1,6 +1,6 @@
 use Rattle.std.proofs.Common.{ap}
 use Rattle.cfgtables.specs.NumberedSymbols.{sym_of}
-use Rattle.cfganalysis.proofs.Noting.{rule_noted}
+use Rattle.cfgsets.proofs.Noting.{rule_noted}
 use Rattle.cfganalysis.proofs.firsts.note_symbol.Goals as goal
 
 pub returns-in-Rule : goal.returns-in-Rule

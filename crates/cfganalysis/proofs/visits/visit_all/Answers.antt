@@ -1,7 +1,8 @@
 use Rattle.std.proofs.Common.{MatchBool, length, subst, refl, sym, ap, arith, ◌<◌, ◌∙◌}
 use Rattle.cfgtables.specs.Openings.{AreOpenedAtMost, most_openings}
-use Rattle.cfganalysis.specs.Inner.Growth.{CanVisit, CoversEach, Visited, left_to_do}
-use Rattle.cfganalysis.specs.Inner.Waiting.{NoneWaits}
+use Rattle.cfganalysis.specs.Inner.Visits.{CanVisit, Visited, left_to_do}
+use Rattle.cfgsets.specs.Growth.{CoversEach}
+use Rattle.cfgsets.specs.Waiting.{NoneWaits}
 use Rattle.cfganalysis.proofs.Fitting.{can_visit, still_few}
 use Rattle.cfganalysis.proofs.Visiting.{visited_all, visited_none, few_opened}
 use Rattle.cfganalysis.proofs.visits.visit_all.Goals as goal

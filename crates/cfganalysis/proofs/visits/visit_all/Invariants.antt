@@ -1,5 +1,5 @@
 use Rattle.std.proofs.Common.{◌≡◌, length}
-use Rattle.cfganalysis.specs.Inner.Growth.{Visited, left_to_do}
+use Rattle.cfganalysis.specs.Inner.Visits.{Visited, left_to_do}
 use Rattle.cfganalysis.proofs.visits.visit_all.Given as goal
 
 abbrev pub invariant-loop : goal.invariant-loop

@@ -1,6 +1,6 @@
 use Rattle.std.proofs.Common.{◌<◌, length, arith, refl, sym, subst, ◌∙◌, Result, Ok, Err, OnErr}
 use Rattle.cfgtables.specs.Openings.{AreOpenedAtMost, most_openings}
-use Rattle.cfganalysis.specs.Inner.Growth.{CanVisit}
+use Rattle.cfganalysis.specs.Inner.Visits.{CanVisit}
 use Rattle.cfganalysis.proofs.Visiting.{few_refused}
 use Rattle.cfganalysis.proofs.visits.visit_each.Goals as goal
 

@@ -1,5 +1,5 @@
 use Rattle.std.proofs.Common.{◌≡◌}
-use Rattle.cfganalysis.specs.Inner.Growth.{Visited}
+use Rattle.cfganalysis.specs.Inner.Visits.{Visited}
 use Rattle.cfganalysis.proofs.visits.visit_each.Given as goal
 
 abbrev pub invariant-loop-number : goal.invariant-loop-number

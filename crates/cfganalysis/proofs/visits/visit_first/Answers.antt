@@ -1,6 +1,6 @@
 use Rattle.std.proofs.Common.{arith, ◌∙◌}
 use Rattle.cfgtables.proofs.Located.{at_position}
-use Rattle.cfganalysis.specs.Inner.Growth.{shown}
+use Rattle.cfgsets.specs.Growth.{shown}
 use Rattle.cfganalysis.proofs.Visiting.{all_below, noted_within, visited_first}
 use Rattle.cfganalysis.proofs.visits.visit_first.Goals as goal
 

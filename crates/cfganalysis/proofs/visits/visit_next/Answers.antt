@@ -1,6 +1,7 @@
 use Rattle.std.proofs.Common.{◌<◌, length, arith, refl, sym, subst, ap, length-set, false}
 use Rattle.cfgtables.proofs.Located.{at_position}
-use Rattle.cfganalysis.specs.Inner.Growth.{left_to_do, shown}
+use Rattle.cfganalysis.specs.Inner.Visits.{left_to_do}
+use Rattle.cfgsets.specs.Growth.{shown}
 use Rattle.cfganalysis.proofs.Visiting.{all_again, few_opened, visited_next, visited_less}
 use Rattle.cfganalysis.proofs.visits.visit_next.Goals as goal
 

@@ -1,7 +1,7 @@
 use Rattle.std.proofs.Common.{◌≡◌, false, [], get_or, ap, ◌∙◌}
 use Rattle.std.proofs.lemmas.Option.{unwrap_or-slice_get}
 use Rattle.std.specs.Option.{unwrap_or}
-use Rattle.cfganalysis.specs.Table.{row_of}
+use Rattle.cfgsets.specs.Table.{row_of}
 use Rattle.cfganalysis.proofs.bits.BitTable.is_set.Goals as goal
 
 pub returns-in-Some : goal.returns-in-Some

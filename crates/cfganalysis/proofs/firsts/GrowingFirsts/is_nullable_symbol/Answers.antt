@@ -2,8 +2,7 @@ use Rattle.std.proofs.Common.{◌≡◌, false, get_or, subst, sym, ap, ◌∙�
 use Rattle.std.proofs.lemmas.Option.{unwrap_or-slice_get}
 use Rattle.std.specs.Option.{unwrap_or}
 use Rattle.cfgtables.specs.NumberedSymbols.{sym_of}
-use Rattle.cfganalysis.specs.Firsts.{nullable_bit}
-use Rattle.cfganalysis.specs.Inner.GrowingFirsts.{is_nullable_symbol}
+use Rattle.cfgsets.specs.FirstSets.{nullable_bit, is_nullable_symbol}
 use Rattle.cfganalysis.proofs.firsts.GrowingFirsts.is_nullable_symbol.Goals as goal
 
 pub returns-in-Rule : goal.returns-in-Rule

@@ -1,5 +1,5 @@
 use Rattle.std.proofs.Common.{◌≡◌, IfOk, subst}
-use Rattle.cfganalysis.specs.Inner.Work.{Notes}
+use Rattle.cfgsets.specs.Work.{Notes}
 use Rattle.cfganalysis.proofs.follows.FollowAnalysisAnalysis.note.Goals as goal
 
 pub returns : goal.returns

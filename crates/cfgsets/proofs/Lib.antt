@@ -1,0 +1,9 @@
+pub mod Stacking
+pub mod Linking
+pub mod Noting
+pub mod Queueing
+pub mod Joins
+pub mod Flat
+pub mod Beginnings
+pub mod FollowVisits
+pub mod Gathering
