@@ -1,6 +1,7 @@
 """A package of Debian, made without Debian's tools: the same, byte for byte, for the same files."""
 import gzip
 import hashlib
+import re
 
 from .packages import tar
 
@@ -13,6 +14,13 @@ def architecture(program):
     if program[:4] != b"\x7fELF":
         return "all"
     return MACHINES[int.from_bytes(program[18:20], "little")]
+
+
+def needs(program):
+    """The packages of Debian that a program needs, by the names of libraries and versions in it."""
+    versions = [tuple(map(int, it)) for it in re.findall(rb"\0GLIBC_(\d+)\.(\d+)", program)]
+    libraries = [f"libc6 (>= {'.'.join(map(str, max(versions)))})"] if versions else []
+    return ", ".join(libraries + ["libgcc-s1"] * (b"\0libgcc_s.so.1\0" in program))
 
 
 def archived(members):
@@ -31,7 +39,8 @@ def compressed(text):
 def package(fields, files):
     """The package: fields, and files by the paths at which they are installed, each with its bytes and its mode."""
     size = sum(len(made) for made, _ in files.values())
-    control = "".join(f"{name}: {value}\n" for name, value in {**fields, "Installed-Size": -(-size // 1024)}.items())
+    fields = {**fields, "Installed-Size": -(-size // 1024)}
+    control = "".join(f"{name}: {value}\n" for name, value in fields.items() if value)
     sums = "".join(f"{hashlib.md5(files[it][0]).hexdigest()}  {it}\n" for it in sorted(files))
     about = {"control": (control.encode(), 0o644), "md5sums": (sums.encode(), 0o644)}
     return archived({

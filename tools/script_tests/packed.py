@@ -12,7 +12,7 @@ import tarfile
 from toy import ROOT, Toy, path_without, read, write, write_script
 
 sys.path.insert(0, f"{ROOT}/tools")
-from modules import manual, packages
+from modules import debian, manual, packages
 
 ARCHIVE, TOP = "cfgrammar-0.15.0-proved.tar.gz", "cfgrammar-0.15.0-proved"
 USAGE = "cfglint reports errors.\n\nusage: cfglint [OPTION..] FILE..\n\n  --kind KIND  a kind\n\nstatus: 0\n"
@@ -142,12 +142,21 @@ def test_a_damaged_archive(room):
     with open(f"{made}/{ARCHIVE}", "rb") as it:
         whole = it.read()
     texts = [b"", b"text", whole[:-1], whole[:len(whole) // 2], whole + b"x", *map(gzip.compress, (b"", b"x" * 5000))]
-    texts += [whole[:at] + bytes([whole[at] ^ 1]) + whole[at + 1:] for at in range(20, len(whole), 7)]
     for text in texts:
         with open(damaged, "wb") as it:
             it.write(text)
         is_refused(damaged, "it ")
     refuses(toy, damaged, "it is damaged, or no archive of tools/package")
+    files, refused = packages.Archive(f"{made}/{ARCHIVE}").files, 0
+    for at in range(0, len(whole), 7):
+        with open(damaged, "wb") as it:
+            it.write(whole[:at] + bytes([whole[at] ^ 1]) + whole[at + 1:])
+        try:
+            # (some bits of a compressed file mean nothing)
+            assert packages.Archive(damaged).files == files, f"damage at {at}"
+        except packages.Refused:
+            refused += 1
+    assert refused > len(whole) // 8, f"{refused} of {len(whole) // 7}"
     files = members(f"{made}/{ARCHIVE}")
     for name in files:
         for changed in ({it: text for it, text in files.items() if it != name}, {**files, name: files[name] + b"x"}):
@@ -230,6 +239,13 @@ def test_what_is_packed(room):
         assert read(f"{room}/unpacked/usr/bin/cfgtool") == read(f"{toy.room}/bin/cfgtool")
         fields = subprocess.run(["dpkg-deb", "-f", f"{made}/{deb}"], capture_output=True, text=True, check=True).stdout
         assert "Package: cfgrammar\nVersion: 0.15.0\n" in fields, fields
+
+
+def test_what_a_program_needs_of_debian(room):
+    program = b"\x7fELF" + bytes(14) + b"\x3e\0\0GLIBC_2.4\0GLIBC_2.34\0GLIBC_2.17\0libgcc_s.so.1\0"
+    assert debian.needs(program) == "libc6 (>= 2.34), libgcc-s1"
+    assert debian.architecture(program) == "amd64"
+    assert (debian.needs(b"#!/bin/sh\n"), debian.architecture(b"#!/bin/sh\n")) == ("", "all")
 
 
 # ---------------------------------------------------------------- what the programs say of themselves
