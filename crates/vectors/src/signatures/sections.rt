@@ -1,6 +1,6 @@
 //! Sections and their values.
 
-ghost use Rattle.cfgrammar.specs.TextSpans.{IsCharBoundary};
+ghost use Rattle.std.specs.Str.{IsCharBoundary};
 
 use cfgrammar::header::{
     GrmtoolsSectionParser, HeaderError, HeaderErrorKind, HeaderFault, HeaderValue, KindFault,
