@@ -56,7 +56,7 @@ pub(crate) fn write_word(page: &mut Page, kind: &str, shown: Word<'_>) {
             show(page, &shown, parsed);
         }
         "grammar" | "firsts" | "follows" | "sentences" | "warnings" => {
-            write_run(page, ("cfgtool", &[kind, word, "-"]), text, None)
+            write_run(page, &[kind, word, "-"], text, None)
         }
         "beginning" => write_beginning(page, kind, text),
         "cuts" => write_cuts(page, kind, text),

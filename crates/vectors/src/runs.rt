@@ -1,8 +1,7 @@
-//! Runs and reports of the two programs, also on outputs that take little.
+//! Runs and reports of `cfgtool`, also on outputs that take little.
 
 use crate::narrow::Narrow;
 use crate::page::Page;
-use cfglint::{ReadError, SourceWithReasons, lint};
 use cfgrammar::yacc::YaccKind;
 use cfgtool::arguments::command_of;
 use cfgtool::{Counted, Input, KindArg, Sink, Source, report, report_lex, run};
@@ -33,16 +32,10 @@ impl Source for Files<'_> {
     }
 }
 
-impl SourceWithReasons for Files<'_> {
-    fn reason(&self) -> ReadError {
-        ReadError::Other
-    }
-}
-
-/// Writes what a run of a program over two files and two outputs writes, and its status.
+/// Writes what a run over two files and two outputs writes, and its status.
 fn write_ended(
     page: &mut Page,
-    (program, args): (&str, &[&str]),
+    args: &[&str],
     texts: [Option<&str>; 2],
     output: &mut Narrow,
     errors: &mut Narrow,
@@ -56,28 +49,20 @@ fn write_ended(
     );
     let mut to_output = Counted::new(&mut *output);
     let mut to_errors = Counted::new(&mut *errors);
-    let status = match program {
-        "cfglint" => lint(alloc, args, &mut files, &mut to_output, &mut to_errors),
-        _ => run(alloc, args, &mut files, &mut to_output, &mut to_errors),
-    };
+    let status = run(alloc, args, &mut files, &mut to_output, &mut to_errors);
     let (faults, more) = (to_output.faults(), to_errors.faults());
     writeln!(
         page,
-        "{program} {args:?}: status {status}, {faults} and {more} faults"
+        "cfgtool {args:?}: status {status}, {faults} and {more} faults"
     );
     write_taken(page, "output", output);
     write_taken(page, "errors", errors);
 }
 
 /// Writes what a run whose outputs take all bytes writes, and its status.
-pub(crate) fn write_run(
-    page: &mut Page,
-    program: (&str, &[&str]),
-    text: &str,
-    names: Option<&str>,
-) {
+pub(crate) fn write_run(page: &mut Page, args: &[&str], text: &str, names: Option<&str>) {
     let (mut output, mut errors) = (Narrow::wide(page.alloc), Narrow::wide(page.alloc));
-    write_ended(page, program, [Some(text), names], &mut output, &mut errors);
+    write_ended(page, args, [Some(text), names], &mut output, &mut errors);
 }
 
 /// Writes the bytes that a writer took.
@@ -92,14 +77,11 @@ fn write_taken(page: &mut Page, name: &str, taken: &Narrow) {
 
 /// Row `lexer-lines`: what is written of the names in a second file.
 pub(crate) fn write_lexer_lines(page: &mut Page) {
-    let program = (
-        "cfgtool",
-        ["original-genericparsetree", "lex", "-", "names"].as_slice(),
-    );
+    let args = ["original-genericparsetree", "lex", "-", "names"];
     let tail = "%start S %% S: B C 'd'; B: 'b'; C: 'c' | ;";
     writeln!(page, "\n== lexer-lines");
-    write_run(page, program, tail, Some("b\nq\nd"));
-    write_run(page, program, RULE, Some("T\r\n\r\n T\nU\nU"));
+    write_run(page, &args, tail, Some("b\nq\nd"));
+    write_run(page, &args, RULE, Some("T\r\n\r\n T\nU\nU"));
 }
 
 /// Writes reports and runs on outputs that take few bytes, or few at a time, and then fail or take nothing.
@@ -148,30 +130,23 @@ fn write_report(page: &mut Page, command: &str, text: &str, output: &mut Narrow)
 pub(crate) fn write_beginning(page: &mut Page, kind: &str, text: &str) {
     let args = [kind, "sentences", "-"];
     let end = (62, 1000, Some(ErrorKind::BrokenPipe));
-    write_narrow_run(page, ("cfgtool", &args), Some(text), end);
+    write_narrow_run(page, &args, Some(text), end);
 }
 
-/// Writes how runs of both programs end if one of their outputs is such a one.
+/// Writes how runs end if both of their outputs are such ones: of a file, and of one that can't be read.
 fn write_failing_runs(page: &mut Page, end: (usize, usize, Option<ErrorKind>)) {
-    let tool = ("cfgtool", ["eco", "grammar", "a.y"].as_slice());
-    let linter = ("cfglint", ["a.y"].as_slice());
-    for (program, text) in [
-        (tool, Some(RULE)),
-        (tool, None),
-        (linter, Some("%% A: A;")),
-        (linter, None),
-    ] {
-        write_narrow_run(page, program, text, end);
-    }
+    let args = ["eco", "grammar", "a.y"];
+    write_narrow_run(page, &args, Some(RULE), end);
+    write_narrow_run(page, &args, None, end);
 }
 
 /// Writes how a run ends if both of its outputs are such ones.
 fn write_narrow_run(
     page: &mut Page,
-    program: (&str, &[&str]),
+    args: &[&str],
     text: Option<&str>,
     end: (usize, usize, Option<ErrorKind>),
 ) {
     let (mut output, mut errors) = (Narrow::new(page.alloc, end), Narrow::new(page.alloc, end));
-    write_ended(page, program, [text, None], &mut output, &mut errors);
+    write_ended(page, args, [text, None], &mut output, &mut errors);
 }

@@ -1,6 +1,6 @@
 //! The findings about a grammar.
 
-use cfglint::findings;
+use cfgfindings::findings;
 use cfgrammar::render_all;
 use cfgrammar::yacc::YaccGrammar;
 use cfgrammar::yacc::ast::GrammarAST;
