@@ -30,7 +30,7 @@ pub fn keys_of(
 
 /// What a key's entry with a value is, once it has both marks and another value.
 pub fn occupied(
-    mut entry: OccupiedEntry<'_, u32, String>,
+    entry: &mut OccupiedEntry<'_, u32, String>,
     value: String,
     behavior: MergeBehavior,
 ) -> (String, u16, bool, bool) {
