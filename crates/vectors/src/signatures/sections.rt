@@ -1,7 +1,5 @@
 //! Sections and their values.
 
-ghost use Rattle.std.specs.Str.{IsCharBoundary};
-
 use cfgrammar::header::{
     GrmtoolsSectionParser, HeaderError, HeaderErrorKind, HeaderFault, HeaderValue, KindFault,
     Namespaced, Setting, Value,
@@ -10,15 +8,16 @@ use cfgrammar::yacc::{YaccGrammarError, YaccKind};
 use cfgrammar::{Location, Span, Spanned, SpansKind};
 use std::alloc::{AllocError, Global};
 
-/// The entry at an offset of a text.
+/// The entry at an offset of a text, if a character begins there, or the text ends.
 pub fn entry_at(
     alloc: Global,
     text: &str,
     offset: usize,
-) -> Result<(String, Span, Value<Span>, usize), HeaderFault>
-    requires { IsCharBoundary text.now offset }
-{
-    GrmtoolsSectionParser::new(text, true).parse_key_value(alloc, offset)
+) -> Option<Result<(String, Span, Value<Span>, usize), HeaderFault>> {
+    if !text.is_char_boundary(offset) {
+        return None;
+    }
+    Some(GrmtoolsSectionParser::new(text, true).parse_key_value(alloc, offset))
 }
 
 /// Values with locations in place of spans, and the value that names a kind.
